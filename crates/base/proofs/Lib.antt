@@ -1,0 +1,6 @@
+-- Each kind of step has one law here; a mode's law is a composition of them.
+pub mod Test
+pub mod Xor
+pub mod Perm
+pub mod Skip
+pub mod Table

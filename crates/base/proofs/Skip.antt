@@ -1,0 +1,62 @@
+-- Leaving one place out loses nothing: `skip p` goes onto the places other than p, and `unskip p` comes back. Assumes nothing.
+use mathlib.Core.Path.{_≡_, refl, sym, ap, _∙_}
+use mathlib.Core.Bool.{true, false}
+use Prim.Native.Nat.{ℕ, _+_, _-_, _<_, _≤_}
+use native.Mathlib.Omega.{arith}
+use lib.Dec.{leb, ltb, eqb}
+use borrow.Author.Tests.{leb-true, leb-false, le-ltb, lt-ltb, le-leb, lt-leb, ltb-true, ltb-false}
+use Rattle.base.specs.Choice.{pick}
+use Rattle.base.specs.Steps.{skip, unskip}
+use Rattle.base.proofs.Test.{cases}
+
+-- the two values of each, by the test
+pub skip-below : (p r : ℕ) → r < p → skip p r ≡ r
+unfolding skip
+skip-below p r h = rw (lt-leb p r h) (omega arith)
+
+pub skip-above : (p r : ℕ) → p ≤ r → skip p r ≡ r + 1
+unfolding skip
+skip-above p r h = rw (le-leb p r h)
+
+pub unskip-below : (p w : ℕ) → w ≤ p → unskip p w ≡ w
+unfolding unskip
+unskip-below p w h = rw (le-ltb p w h) (omega arith)
+
+pub unskip-above : (p w : ℕ) → p < w → unskip p w ≡ w - 1
+unfolding unskip
+unskip-above p w h = rw (lt-ltb p w h)
+
+-- two cases of r against p
+split : {A : Type 0} (p r : ℕ) → (r < p → A) → (p ≤ r → A) → A
+split p r f g = cases (leb p r) (λ e. g (leb-true p r e)) (λ e. f (leb-false p r e))
+
+pub unskip-skip : (p r : ℕ) → unskip p (skip p r) ≡ r
+unskip-skip p r =
+    split p r
+    (λ h. ap (unskip p) (skip-below p r h) ∙ unskip-below p r (omega arith))
+    (λ h. ap (unskip p) (skip-above p r h) ∙ unskip-above p (r + 1) (omega arith) ∙ omega arith)
+
+pub skip-unskip : (p w : ℕ) → (w ≡ p → ⊥) → skip p (unskip p w) ≡ w
+skip-unskip p w ne =
+    split p w
+    (λ h. ap (skip p) (unskip-below p w (omega arith)) ∙ skip-below p w h)
+    (λ h. ap (skip p) (unskip-above p w (omega arith)) ∙ skip-above p (w - 1) (omega arith) ∙ omega arith)
+
+pub skip-ne : (p r : ℕ) → skip p r ≡ p → ⊥
+skip-ne p r e =
+    split p r
+    (λ h. let v = skip-below p r h in omega arith)
+    (λ h. let v = skip-above p r h in omega arith)
+
+-- r of n counted places is below n + 1, and not below r
+pub skip-lt : (p r : ℕ) {n : ℕ} → r < n → skip p r < n + 1
+skip-lt p r h =
+    split p r
+    (λ l. let v = skip-below p r l in omega arith)
+    (λ l. let v = skip-above p r l in omega arith)
+
+pub unskip-lt : (p w : ℕ) {n : ℕ} → p ≤ n → (w ≡ p → ⊥) → w < n + 1 → unskip p w < n
+unskip-lt p w le ne h =
+    split p w
+    (λ l. let v = unskip-below p w (omega arith) in omega arith)
+    (λ l. let v = unskip-above p w (omega arith) in omega arith)
