@@ -1,0 +1,33 @@
+-- The one law that every mode meets: the points of a slot, 48 for each subchannel, and the data carriers of the slot are the same, one for one.
+use mathlib.Core.Path.{_≡_}
+use mathlib.Core.Bool.{Bool, false}
+use Prim.Native.Nat.{ℕ, _*_, _<_}
+use Rattle.carriers.specs.declared.Spot.{Spot}
+use Rattle.carriers.specs.declared.Address.{Address}
+
+-- a spot in a slot of so many symbols, with so many used numbers, that is no pilot
+pub record DataSpot (symbols used : ℕ) (isPilot : ℕ → ℕ → Bool) (x : Spot) : Type 0 where
+  pub offset-lt : x .offset < symbols
+  pub used-lt : x .used < used
+  pub no-pilot : isPilot (x .offset) (x .used) ≡ false
+
+-- an address in a slot of so many subchannels
+pub record PointOf (subchannels : ℕ) (a : Address) : Type 0 where
+  pub subchannel-lt : a .subchannel < subchannels
+  pub index-lt : a .index < 48
+
+-- `spot` puts each point on a data carrier of the slot and `address` finds it there; `address` knows each data carrier's point and `spot` puts it there.
+pub record SlotLaw (symbols subchannels used : ℕ) (isPilot : ℕ → ℕ → Bool) (spot : ℕ → ℕ → Spot) (address : ℕ → ℕ → Address) : Type 0 where
+  pub lies : (s m : ℕ) → s < subchannels → m < 48 → DataSpot symbols used isPilot (spot s m)
+  pub found : (s m : ℕ) → s < subchannels → m < 48
+      → address (spot s m .offset) (spot s m .used) ≡ record { subchannel = s; index = m }
+  pub names : (o u : ℕ) → o < symbols → u < used → isPilot o u ≡ false → PointOf subchannels (address o u)
+  pub placed : (o u : ℕ) → o < symbols → u < used → isPilot o u ≡ false
+      → spot (address o u .subchannel) (address o u .index) ≡ record { offset = o; used = u }
+
+-- The same for a mode that numbers the data carriers of a symbol, 48 for each subchannel.
+pub record NumberLaw (subchannels : ℕ) (number : ℕ → ℕ → ℕ) (address : ℕ → Address) : Type 0 where
+  pub number-lt : (s m : ℕ) → s < subchannels → m < 48 → number s m < 48 * subchannels
+  pub found : (s m : ℕ) → s < subchannels → m < 48 → address (number s m) ≡ record { subchannel = s; index = m }
+  pub names : (d : ℕ) → d < 48 * subchannels → PointOf subchannels (address d)
+  pub placed : (d : ℕ) → d < 48 * subchannels → number (address d .subchannel) (address d .index) ≡ d

@@ -1,0 +1,3 @@
+pub mod Band
+pub mod Bin
+pub mod Law

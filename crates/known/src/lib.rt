@@ -1,0 +1,1 @@
+// The known points of document 01, as one theorem (proofs/Table.antt). No code.

@@ -1,0 +1,3 @@
+pub mod Mode
+pub mod Question
+pub mod Place

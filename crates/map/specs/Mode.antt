@@ -1,0 +1,59 @@
+-- Document 01, "Modes and their ranges": one row of the table a definition, modes 0 to 3 in order.
+use mathlib.Core.Bool.{Bool}
+use Prim.Native.Nat.{ℕ, _+_, _*_, _/_, _%_}
+use lib.Dec.{eqb}
+use Rattle.base.specs.Choice.{pick}
+use Rattle.carriers.specs.declared.Band.{Band}
+use Rattle.carriers.specs.declared.Spot.{Spot}
+use Rattle.carriers.specs.declared.Address.{Address}
+use Rattle.carriers.specs.Band.{binBand, puscBand}
+use Rattle.carriers.specs.Bin.{isBinPilot, dataOfUsed, binSpot}
+use Rattle.pusc_dl.specs.Cluster.{isClusterPilot}
+use Rattle.pusc_dl.specs.Map as pusc-dl
+use Rattle.pusc_ul.specs.Tile.{isTilePilot}
+use Rattle.pusc_ul.specs.Map as pusc-ul
+use Rattle.ofusc.specs.Map as ofusc
+use Rattle.amc.specs.Map as amc
+use Rattle.map.specs.declared.Setup.{Setup}
+
+-- PUSC downlink (mode 0, partial down), PUSC uplink (1, partial up), optional FUSC (2, spread), AMC (3, adjacent)
+abbrev pub byMode : {A : Type 0} → Setup → A → A → A → A → A
+byMode c a₀ a₁ a₂ a₃ = pick (eqb (c .mode) 0) a₀ (pick (eqb (c .mode) 1) a₁ (pick (eqb (c .mode) 2) a₂ a₃))
+
+-- N: the size is 64N
+unfoldable pub width : Setup → ℕ
+width c = c .size / 64
+
+unfoldable pub cells : Setup → ℕ
+cells c = byMode c 32 70 (width c * width c) 2352
+
+unfoldable pub subchannels : Setup → ℕ
+subchannels c = byMode c 60 70 (width c) (width c)
+
+-- symbols a slot
+unfoldable pub symbols : Setup → ℕ
+symbols c = byMode c 2 3 1 1
+
+unfoldable pub band : Setup → Band
+band c = byMode c puscBand puscBand (binBand (width c)) (binBand (width c))
+
+-- Is used number u a pilot in symbol y of the zone? (Tiles go by the symbol in the slot.)
+unfoldable pub isPilot : Setup → ℕ → ℕ → Bool
+isPilot c y u = byMode c (isClusterPilot y u) (isTilePilot (y % 3) u) (isBinPilot y u) (isBinPilot y u)
+
+-- where index m of a subchannel lies in a slot, and whose point a used number that is no pilot holds in symbol y of the zone
+unfoldable pub spotOf : Setup → ℕ → ℕ → ℕ → Spot
+spotOf c slot s m =
+    byMode c
+    (pusc-dl.spotOf (c .cell) s m)
+    (pusc-ul.spotOf (c .cell) s m)
+    (binSpot slot (ofusc.dataNumber (width c) (c .cell) s m))
+    (binSpot slot (amc.dataNumber (c .cell) s m))
+
+unfoldable pub addressOf : Setup → ℕ → ℕ → Address
+addressOf c y u =
+    byMode c
+    (pusc-dl.addressOf (c .cell) (y % 2) u)
+    (pusc-ul.addressOf (c .cell) (y % 3) u)
+    (ofusc.addressOf (width c) (c .cell) (dataOfUsed y u))
+    (amc.addressOf (c .cell) (dataOfUsed y u))

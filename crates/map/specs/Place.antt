@@ -1,0 +1,53 @@
+-- Placing and its reverse.
+use Prim.Native.Nat.{ℕ, _+_, _*_, _/_}
+use Rattle.base.specs.Choice.{pick}
+use Rattle.base.specs.Answer.{Answer, accepted, ask}
+use Rattle.carriers.specs.declared.Spot.{Spot}
+use Rattle.carriers.specs.declared.Address.{Address}
+use Rattle.carriers.specs.Band.{carrierOf, usedOf, isGuard, isDc}
+use Rattle.map.specs.declared.Setup.{Setup}
+use Rattle.map.specs.Mode.{symbols, band, isPilot, spotOf, addressOf}
+use Rattle.map.specs.Question.{askSetup, isSlot, isSymbol, isSubchannel, isIndex, isCarrier}
+
+-- a symbol of the zone and a carrier
+pub record Place : Type 0 where
+  pub symbol : ℕ
+  pub carrier : ℕ
+
+-- Document 01, "Modes and their ranges": a symbol's number in its zone is slot times slot length plus the offset in the slot.
+unfoldable pub placeAt : Setup → ℕ → Spot → Place
+placeAt c slot spot = record { symbol = slot * symbols c + spot .offset; carrier = carrierOf (band c) (spot .used) }
+
+-- Document 01, "Grids": placing takes mode, size, cell, slot, subchannel and index and gives the zone's symbol and the carrier. Questions 1, 2, 3, 4, 5, 6.
+unfoldable pub placeOf : Setup → ℕ → ℕ → ℕ → Answer Place
+placeOf c slot subchannel index =
+    askSetup c
+    (ask (isSlot slot) 4
+    (ask (isSubchannel c subchannel) 5
+    (ask (isIndex index) 6
+    (accepted (placeAt c slot (spotOf c slot subchannel index))))))
+
+-- what a carrier holds
+pub data Content : Type 0 where
+  guard dc pilot : Content
+  point : (slot subchannel index : ℕ) → Content
+
+-- the point whose address in its slot is a, in symbol y of the zone
+unfoldable pub pointAt : Setup → ℕ → Address → Content
+pointAt c y a = point (y / symbols c) (a .subchannel) (a .index)
+
+unfoldable pub contentOf : Setup → ℕ → ℕ → Content
+contentOf c y carrier =
+    let u = usedOf (band c) carrier in
+    pick (isGuard (band c) (c .size) carrier) guard
+    (pick (isDc (band c) carrier) dc
+    (pick (isPilot c y u) pilot
+    (pointAt c y (addressOf c y u))))
+
+-- Document 01, "Grids": its reverse takes mode, size, cell, the zone's symbol and a carrier and gives guard, DC, pilot or the data address (slot, subchannel, index). Questions 1, 2, 3, 4, 7.
+unfoldable pub locateOf : Setup → ℕ → ℕ → Answer Content
+locateOf c symbol carrier =
+    askSetup c
+    (ask (isSymbol c symbol) 4
+    (ask (isCarrier c carrier) 7
+    (accepted (contentOf c symbol carrier))))

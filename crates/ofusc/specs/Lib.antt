@@ -1,0 +1,3 @@
+pub mod Width
+pub mod Field
+pub mod Map

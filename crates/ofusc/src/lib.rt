@@ -1,0 +1,1 @@
+// Optional FUSC: the field, its sequences, and the group permutation.

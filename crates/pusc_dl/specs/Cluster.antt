@@ -1,0 +1,33 @@
+-- Clusters. Document 01, "Partial usage": 120 physical clusters; cluster p is used numbers 14p to 14p+13.
+use mathlib.Core.Bool.{Bool, true}
+use Prim.Native.Nat.{ℕ, _+_, _-_, _*_, _/_, _%_}
+use lib.Dec.{eqb}
+use Rattle.base.specs.Choice.{pick}
+use Rattle.base.specs.Steps.{skip, unskip, entry}
+use Rattle.pusc_dl.specs.Table.{renumbering, renumberingInverse}
+use Rattle.pusc_dl.specs.declared.Physical.{Physical}
+use Rattle.pusc_dl.specs.declared.Logical.{Logical}
+
+-- Logical = R[(physical + 13·cell) mod 120]. This and its inverse are the only passage between the two numbers.
+unfoldable pub renumber : ℕ → Physical → Logical
+renumber cell p = record { 0 = entry renumbering ((p .0 + 13 * cell) % 120) }
+
+unfoldable pub unrenumber : ℕ → Logical → Physical
+unrenumber cell l = record { 0 = (entry renumberingInverse (l .0) + (120 - 13 * cell % 120)) % 120 }
+
+-- In even symbols cluster places 4 and 8 are pilots, in odd ones 0 and 12.
+unfoldable pub firstPilot : ℕ → ℕ
+firstPilot y = pick (eqb (y % 2) 0) 4 0
+
+unfoldable pub secondPilot : ℕ → ℕ
+secondPilot y = pick (eqb (y % 2) 0) 8 12
+
+unfoldable pub isClusterPilot : ℕ → ℕ → Bool
+isClusterPilot y u = pick (eqb (u % 14) (firstPilot y)) true (eqb (u % 14) (secondPilot y))
+
+-- Twelve data numbers a cluster, its data places ascending: the place of data number r, and the data number of a place that is no pilot.
+unfoldable pub clusterPlace : ℕ → ℕ → ℕ
+clusterPlace y r = skip (secondPilot y) (skip (firstPilot y) r)
+
+unfoldable pub clusterData : ℕ → ℕ → ℕ
+clusterData y place = unskip (firstPilot y) (unskip (secondPilot y) place)

@@ -1,0 +1,4 @@
+pub mod Table
+pub mod Cluster
+pub mod Group
+pub mod Map

@@ -1,0 +1,45 @@
+-- The whole of PUSC downlink: from subchannel and index to symbol and used number, and back.
+use Prim.Native.Nat.{ℕ, _+_, _-_, _*_, _/_, _%_}
+use Rattle.base.specs.Steps.{entry}
+use Rattle.carriers.specs.declared.Spot.{Spot}
+use Rattle.carriers.specs.declared.Address.{Address}
+use Rattle.pusc_dl.specs.Cluster.{renumber, unrenumber, clusterPlace, clusterData}
+use Rattle.pusc_dl.specs.Group.{clusterStarts, subchannelStarts, groupIn, groupSize, groupData, groupSubchannel, groupIndex}
+use Rattle.pusc_dl.specs.declared.Physical.{Physical}
+use Rattle.pusc_dl.specs.declared.Logical.{Logical}
+
+-- the used number of group data number d of group g, in symbol y: twelve data numbers a cluster, from the group's lowest logical cluster
+unfoldable pub groupUsed : ℕ → ℕ → ℕ → ℕ → ℕ
+groupUsed cell y g d =
+    let logical : Logical = record { 0 = entry clusterStarts g + d / 12 } in
+    unrenumber cell logical .0 * 14 + clusterPlace y (d % 12)
+
+-- Indices 0..23 are on the first symbol, 24..47 on the second.
+unfoldable pub spotOf : ℕ → ℕ → ℕ → Spot
+spotOf cell subchannel index =
+    let g = groupIn subchannelStarts subchannel in
+    record {
+      offset = index / 24;
+      used = groupUsed cell (index / 24) g (groupData (groupSize g) cell (subchannel - entry subchannelStarts g) (index % 24));
+    }
+
+-- The reverse: the group of a used number, its group data number in symbol y, and the address of the point there.
+unfoldable pub logicalOf : ℕ → ℕ → Logical
+logicalOf cell used =
+    let physical : Physical = record { 0 = used / 14 } in
+    renumber cell physical
+
+unfoldable pub usedGroup : ℕ → ℕ → ℕ
+usedGroup cell used = groupIn clusterStarts (logicalOf cell used .0)
+
+unfoldable pub usedData : ℕ → ℕ → ℕ → ℕ
+usedData cell y used = (logicalOf cell used .0 - entry clusterStarts (usedGroup cell used)) * 12 + clusterData y (used % 14)
+
+unfoldable pub addressOf : ℕ → ℕ → ℕ → Address
+addressOf cell offset used =
+    let g = usedGroup cell used in
+    let d = usedData cell offset used in
+    record {
+      subchannel = entry subchannelStarts g + groupSubchannel (groupSize g) cell d;
+      index = offset * 24 + groupIndex (groupSize g) cell d;
+    }

@@ -1,0 +1,34 @@
+-- Tiles and data places. Document 01, "Partial usage": 420 tiles of 4 carriers by 3 symbols, corners pilots; tile p is used numbers 4p to 4p+3.
+use mathlib.Core.Bool.{Bool, true, false}
+use Prim.Native.Nat.{ℕ, _+_, _-_, _*_, _/_, _%_}
+use lib.Dec.{eqb, ltb}
+use Rattle.base.specs.Choice.{pick}
+use Rattle.base.specs.Steps.{entry, unrotate}
+use Rattle.pusc_ul.specs.Table.{tilePermutation, tilePermutationInverse}
+
+-- Tile t (0..5) of subchannel s is 70t + (Q[(s+t) mod 70] + cell) mod 70.
+unfoldable pub tileOf : ℕ → ℕ → ℕ → ℕ
+tileOf cell s t = t * 70 + (entry tilePermutation ((s + t) % 70) + cell) % 70
+
+-- the subchannel of a tile
+unfoldable pub tileSubchannel : ℕ → ℕ → ℕ
+tileSubchannel cell tile = unrotate 70 (tile / 70) (entry tilePermutationInverse (unrotate 70 cell (tile % 70)))
+
+-- corners pilots: the first and the last carrier of a tile in the first and the last symbol of a slot
+unfoldable pub isTilePilot : ℕ → ℕ → Bool
+isTilePilot offset u = pick (eqb offset 1) false (pick (eqb (u % 4) 0) true (eqb (u % 4) 3))
+
+-- Data place q (0..47) is numbered by symbol, then tile t, then carrier: 12, 24, 12 a symbol. Its symbol in the slot, its t, and its carrier in the tile.
+unfoldable pub placeSymbol : ℕ → ℕ
+placeSymbol q = pick (ltb q 12) 0 (pick (ltb q 36) 1 2)
+
+unfoldable pub placeTile : ℕ → ℕ
+placeTile q = pick (ltb q 12) (q / 2) (pick (ltb q 36) ((q - 12) / 4) ((q - 36) / 2))
+
+unfoldable pub placeCarrier : ℕ → ℕ
+placeCarrier q = pick (ltb q 12) (q % 2 + 1) (pick (ltb q 36) ((q - 12) % 4) ((q - 36) % 2 + 1))
+
+-- the data place of a carrier of tile t in a symbol of the slot, no pilot
+unfoldable pub dataPlace : ℕ → ℕ → ℕ → ℕ
+dataPlace offset t carrier =
+    pick (eqb offset 0) (t * 2 + (carrier - 1)) (pick (eqb offset 1) (12 + (t * 4 + carrier)) (36 + (t * 2 + (carrier - 1))))

@@ -1,0 +1,1 @@
+// PUSC uplink: tiles, their permutation, and the data places of a slot.
