@@ -60,3 +60,14 @@ unskip-lt p w le ne h =
     split p w
     (λ l. let v = unskip-below p w (omega arith) in omega arith)
     (λ l. let v = unskip-above p w (omega arith) in omega arith)
+
+-- whatever is left out, a number moves by one at most
+pub skip-le : (p r : ℕ) → skip p r ≤ r + 1
+skip-le p r =
+    split p r
+    (λ l. let v = skip-below p r l in omega arith)
+    (λ l. let v = skip-above p r l in omega arith)
+
+pub unskip-le : (p w : ℕ) → unskip p w ≤ w
+unfolding unskip
+unskip-le p w = omega arith

@@ -1,4 +1,10 @@
 // The carriers of a symbol: guards, DC, used numbers; bins with their pilots.
+ghost use mathlib.Core.Path.{_≡_};
+ghost use mathlib.Core.Bool.{false};
+ghost use Prim.Native.Nat.{_+_, _≤_, _<_};
+ghost use Rattle.base.specs.Steps.{skip as Skip, unskip as Unskip};
+ghost use Rattle.carriers.specs.Band.{binBand, puscBand, carrierOf, usedOf, isGuard, isDc};
+ghost use Rattle.carriers.specs.Bin.{binPilotPlace, isBinPilot, usedOfData, dataOfUsed};
 
 // A symbol's carriers, rising: left guards, the used carriers with DC among them, right guards.
 pub struct Band {
@@ -21,4 +27,100 @@ pub struct Spot {
 pub struct Address {
     pub subchannel: usize,
     pub index: usize,
+}
+
+pub fn bin_band(n: usize) -> Band
+    requires { ⌜ (0 < n) × (n ≤ 32) ⌝ }
+    ensures { λ r. ⌜ r ≡ binBand n ⌝ }
+{
+    Band {
+        left: 5 * n,
+        right: 5 * n - 1,
+        dc: 32 * n,
+        used: 54 * n,
+        turn: 27 * n,
+    }
+}
+
+pub fn pusc_band() -> Band
+    ensures { λ r. ⌜ r ≡ puscBand ⌝ }
+{
+    Band {
+        left: 184,
+        right: 183,
+        dc: 1024,
+        used: 1680,
+        turn: 840,
+    }
+}
+
+// The place of the number r when the place p is left out.
+pub fn skip(p: usize, r: usize) -> usize
+    requires { ⌜ r < 65536 ⌝ }
+    ensures { λ x. ⌜ x ≡ Skip p r ⌝ }
+{
+    if r < p { r } else { r + 1 }
+}
+
+pub fn unskip(p: usize, place: usize) -> usize
+    ensures { λ x. ⌜ x ≡ Unskip p place ⌝ }
+{
+    if place <= p { place } else { place - 1 }
+}
+
+pub fn carrier(b: Band, u: usize) -> usize
+    requires { ⌜ (b .left < 65536) × (u < 65536) ⌝ }
+    ensures { λ r. ⌜ r ≡ carrierOf b u ⌝ }
+{
+    b.left + skip(b.turn, u)
+}
+
+pub fn used(b: Band, carrier: usize) -> usize
+    requires { ⌜ b .left ≤ carrier ⌝ }
+    ensures { λ r. ⌜ r ≡ usedOf b carrier ⌝ }
+{
+    unskip(b.turn, carrier - b.left)
+}
+
+pub fn is_guard(b: Band, size: usize, carrier: usize) -> bool
+    requires { ⌜ b .right ≤ size ⌝ }
+    ensures { λ r. ⌜ r ≡ isGuard b size carrier ⌝ }
+{
+    if carrier < b.left {
+        return true;
+    }
+    size - b.right <= carrier
+}
+
+pub fn is_dc(b: Band, carrier: usize) -> bool
+    ensures { λ r. ⌜ r ≡ isDc b carrier ⌝ }
+{
+    carrier == b.dc
+}
+
+// The pilot's place in each bin of symbol y.
+fn bin_pilot_place(y: usize) -> usize
+    ensures { λ r. ⌜ r ≡ binPilotPlace y ⌝ }
+{
+    3 * (y % 3) + 1
+}
+
+pub fn is_bin_pilot(y: usize, u: usize) -> bool
+    ensures { λ r. ⌜ r ≡ isBinPilot y u ⌝ }
+{
+    u % 9 == bin_pilot_place(y)
+}
+
+pub fn used_of_data(y: usize, d: usize) -> usize
+    requires { ⌜ d < 65536 ⌝ }
+    ensures { λ r. ⌜ r ≡ usedOfData y d ⌝ }
+{
+    d / 8 * 9 + skip(bin_pilot_place(y), d % 8)
+}
+
+pub fn data_of_used(y: usize, u: usize) -> usize
+    requires { ⌜ u < 65536 ⌝ }
+    ensures { λ r. ⌜ r ≡ dataOfUsed y u ⌝ }
+{
+    u / 9 * 8 + unskip(bin_pilot_place(y), u % 9)
 }

@@ -1,0 +1,93 @@
+-- The data places of bins: a mode that numbers the data carriers of a symbol meets the law of a slot. Assumes nothing.
+use mathlib.Core.Path.{_≡_, refl, sym, ap, ap₂, _∙_}
+use mathlib.Core.Bool.{Bool, false}
+use Prim.Native.Nat.{ℕ, _+_, _-_, _*_, _/_, _%_, _<_, _≤_}
+use native.Mathlib.Omega.{arith}
+use lib.Dec.{lit<}
+use borrow.Author.Tests.{ne-eqb, eqb-false}
+use Rattle.base.specs.Steps.{skip, unskip}
+use Rattle.base.proofs.Skip.{unskip-skip, skip-unskip, skip-ne, skip-lt, unskip-lt}
+use Rattle.carriers.specs.declared.Spot.{Spot}
+use Rattle.carriers.specs.declared.Address.{Address}
+use Rattle.carriers.specs.Bin.{binPilotPlace, isBinPilot, usedOfData, dataOfUsed, binSpot}
+use Rattle.carriers.specs.Law.{SlotLaw, NumberLaw, DataSpot, PointOf}
+
+module _ (y : ℕ) where
+  abbrev p : ℕ
+  p = binPilotPlace y
+
+  pilot-le : p ≤ 8
+  unfolding binPilotPlace
+  pilot-le = omega arith
+
+  module _ (d : ℕ) where
+    place-lt : skip p (d % 8) < 9
+    place-lt = skip-lt p (d % 8) {n = 8} (omega arith)
+
+    used-bin : usedOfData y d / 9 ≡ d / 8
+    unfolding usedOfData
+    used-bin = let l = place-lt in omega arith
+
+    used-place : usedOfData y d % 9 ≡ skip p (d % 8)
+    unfolding usedOfData
+    used-place = let l = place-lt in omega arith
+
+    data-used : dataOfUsed y (usedOfData y d) ≡ d
+    unfolding dataOfUsed
+    data-used =
+        ap₂ (λ (b w : ℕ). b * 8 + unskip p w) used-bin used-place
+        ∙ ap (λ (r : ℕ). d / 8 * 8 + r) (unskip-skip p (d % 8))
+        ∙ omega arith
+
+    used-no-pilot : isBinPilot y (usedOfData y d) ≡ false
+    unfolding isBinPilot
+    used-no-pilot = ne-eqb (usedOfData y d % 9) p (λ e. skip-ne p (d % 8) (sym used-place ∙ e))
+
+    used-lt : (n : ℕ) → d < 48 * n → usedOfData y d < 54 * n
+    unfolding usedOfData
+    used-lt n h = let l = place-lt in omega arith
+
+  module _ (u : ℕ) (np : isBinPilot y u ≡ false) where
+    not-p : u % 9 ≡ p → ⊥
+    unfolding isBinPilot
+    not-p = eqb-false (u % 9) p np
+
+    data-place-lt : unskip p (u % 9) < 8
+    data-place-lt = unskip-lt p (u % 9) pilot-le not-p (omega arith)
+
+    data-bin : dataOfUsed y u / 8 ≡ u / 9
+    unfolding dataOfUsed
+    data-bin = let l = data-place-lt in omega arith
+
+    data-place : dataOfUsed y u % 8 ≡ unskip p (u % 9)
+    unfolding dataOfUsed
+    data-place = let l = data-place-lt in omega arith
+
+    used-data : usedOfData y (dataOfUsed y u) ≡ u
+    unfolding usedOfData
+    used-data =
+        ap₂ (λ (b w : ℕ). b * 9 + skip p w) data-bin data-place
+        ∙ ap (λ (w : ℕ). u / 9 * 9 + w) (skip-unskip p (u % 9) not-p)
+        ∙ omega arith
+
+    data-lt : (n : ℕ) → u < 54 * n → dataOfUsed y u < 48 * n
+    unfolding dataOfUsed
+    data-lt n h = let l = data-place-lt in omega arith
+
+pub bin-law : (y n : ℕ) {number : ℕ → ℕ → ℕ} {address : ℕ → Address} → NumberLaw n number address
+    → SlotLaw 1 n (54 * n) (λ o u. isBinPilot y u) (λ s m. binSpot y (number s m)) (λ o u. address (dataOfUsed y u))
+bin-law y n {number} {address} law =
+    record {
+      lies = λ s m hs hm.
+          record { offset-lt = lit< tt; used-lt = used-lt y (number s m) n (law .number-lt s m hs hm); no-pilot = used-no-pilot y (number s m) };
+      found = λ s m hs hm. ap address (data-used y (number s m)) ∙ law .found s m hs hm;
+      names = λ o u ho hu np. law .names (dataOfUsed y u) (data-lt y u np n hu);
+      placed = λ o u ho hu np.
+          λ i. record {
+            offset = zero-is o ho i;
+            used = (ap (usedOfData y) (law .placed (dataOfUsed y u) (data-lt y u np n hu)) ∙ used-data y u np) i;
+          };
+    }
+  where
+    zero-is : (o : ℕ) → o < 1 → 0 ≡ o
+    zero-is o h = omega arith

@@ -1,0 +1,79 @@
+-- Used numbers and the carriers that are neither guard nor DC are the same, one for one. Assumes nothing.
+use mathlib.Core.Path.{_≡_, refl, sym, ap, _∙_}
+use mathlib.Core.Bool.{true, false}
+use Prim.Native.Nat.{ℕ, _+_, _-_, _*_, _<_, _≤_}
+use native.Mathlib.Omega.{arith}
+use lib.Dec.{ltb, leb, eqb}
+use borrow.Author.Tests.{le-ltb, lt-ltb, lt-leb, le-leb, ne-eqb, ltb-false, leb-false, eqb-false}
+use Rattle.base.specs.Choice.{pick}
+use Rattle.base.specs.Steps.{skip, unskip}
+use Rattle.base.proofs.Test.{cases}
+use Rattle.base.proofs.Skip.{unskip-skip, skip-unskip, skip-ne, skip-lt, skip-le, unskip-lt}
+use Rattle.carriers.specs.declared.Band.{Band}
+use Rattle.carriers.specs.Band.{binBand, puscBand, carrierOf, usedOf, isGuard, isDc}
+
+-- left guards, the used carriers with DC before the used number `turn`, right guards: together the symbol
+pub record BandLaw (b : Band) (size : ℕ) : Type 0 where
+  pub dc-is : b .dc ≡ b .left + b .turn
+  pub turn-le : b .turn ≤ b .used
+  pub size-is : size ≡ b .left + (b .used + 1) + b .right
+
+pub pusc-band : BandLaw puscBand 2048
+pusc-band = record { dc-is = refl; turn-le = omega arith; size-is = refl }
+
+pub bin-band : (n : ℕ) → 0 < n → BandLaw (binBand n) (64 * n)
+bin-band n h = record { dc-is = omega arith; turn-le = omega arith; size-is = omega arith }
+
+cancel : (a x : ℕ) → a + x - a ≡ x
+cancel a x = omega arith
+
+-- a carrier that is no guard lies between them
+guard-cases : (b : Band) (size carrier : ℕ) → isGuard b size carrier ≡ false → (b .left ≤ carrier) × (carrier < size - b .right)
+unfolding isGuard
+guard-cases b size carrier g =
+    cases (ltb carrier (b .left))
+    (λ e. absurd (true-false (sym (ap (λ t. pick t true (leb (size - b .right) carrier)) e) ∙ g)))
+    (λ e. (ltb-false carrier (b .left) e, leb-false (size - b .right) carrier (sym (ap (λ t. pick t true (leb (size - b .right) carrier)) e) ∙ g)))
+  where
+    true-false : true ≡ false → ⊥
+    true-false e = let z : _≡_ {A = ℕ} 0 1 = cc in omega arith
+
+module _ (b : Band) (size : ℕ) (law : BandLaw b size) where
+  -- a used number's carrier
+  module _ (u : ℕ) (h : u < b .used) where
+    pub carrier-lt : carrierOf b u < size
+    unfolding carrierOf
+    carrier-lt = let l = skip-lt (b .turn) u h in let e = law .size-is in omega arith
+
+    pub carrier-no-guard : isGuard b size (carrierOf b u) ≡ false
+    unfolding isGuard carrierOf
+    carrier-no-guard =
+        let l = skip-lt (b .turn) u h in
+        let e = law .size-is in
+        rw (le-ltb (carrierOf b u) (b .left) (omega arith), lt-leb (size - b .right) (carrierOf b u) (omega arith))
+
+    pub carrier-no-dc : isDc b (carrierOf b u) ≡ false
+    unfolding isDc carrierOf
+    carrier-no-dc = ne-eqb (carrierOf b u) (b .dc) (λ e. skip-ne (b .turn) u (let d = law .dc-is in omega arith))
+
+    pub used-carrier : usedOf b (carrierOf b u) ≡ u
+    unfolding usedOf carrierOf
+    used-carrier = ap (unskip (b .turn)) (cancel (b .left) (skip (b .turn) u)) ∙ unskip-skip (b .turn) u
+
+  -- the used number of a carrier that is no guard and not DC
+  module _ (carrier : ℕ) (g : isGuard b size carrier ≡ false) (d : isDc b carrier ≡ false) where
+    pub used-left : b .left ≤ carrier
+    used-left = guard-cases b size carrier g .0
+
+    not-turn : carrier - b .left ≡ b .turn → ⊥
+    unfolding isDc
+    not-turn e = eqb-false carrier (b .dc) d (let l = used-left in let k = law .dc-is in omega arith)
+
+    pub used-lt : usedOf b carrier < b .used
+    unfolding usedOf
+    used-lt = unskip-lt (b .turn) (carrier - b .left) (law .turn-le) not-turn
+        (let p = guard-cases b size carrier g in let e = law .size-is in omega arith)
+
+    pub carrier-used : carrierOf b (usedOf b carrier) ≡ carrier
+    unfolding usedOf carrierOf
+    carrier-used = ap (λ w. b .left + w) (skip-unskip (b .turn) (carrier - b .left) not-turn) ∙ (let l = used-left in omega arith)

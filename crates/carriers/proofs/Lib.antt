@@ -1,0 +1,3 @@
+-- Laws of used numbers and bins.
+pub mod Guards
+pub mod Bin

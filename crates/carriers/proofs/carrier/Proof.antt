@@ -1,0 +1,21 @@
+-- `carriers::carrier` meets its contract. Assumes nothing.
+use Rattle.base.proofs.Skip.{skip-le}
+use Rattle.base.proofs.Skip.{skip-lt}
+use native.Mathlib.Omega.{arith}
+use Rattle.carriers.specs.Band.{carrierOf}
+use borrow.Author.Needs.{needs}
+use Rattle.carriers.proofs.carrier.Statement.{statement}
+use Rattle.carriers.proofs.carrier.Tie as tie
+
+skip-requires : tie.Need-skip-requires
+skip-requires c κs = search needs
+
+add-result : tie.Need-add-result
+add-result c = omega (arith, skip-le (c .before .before .args .b .turn) (c .before .before .args .u))
+
+returns : tie.Need-returns
+unfolding carrierOf
+returns c = search needs
+
+pub carrier-spec : {M : Type 1} → statement M
+carrier-spec = tie.close (tie.spec skip-requires add-result returns)

@@ -1,0 +1,28 @@
+-- `carriers::data_of_used` meets its contract. Assumes nothing.
+use Rattle.base.proofs.Skip.{unskip-le}
+use native.Mathlib.Omega.{arith}
+use Prim.Native.Nat.{_%_}
+use Rattle.carriers.specs.Bin.{dataOfUsed}
+use borrow.Author.Needs.{needs}
+use Rattle.carriers.proofs.data_of_used.Statement.{statement}
+use Rattle.carriers.proofs.data_of_used.Tie as tie
+
+mul-result : tie.Need-mul-result
+mul-result c = search needs
+
+bin-pilot-place-requires : tie.Need-bin-pilot-place-requires
+bin-pilot-place-requires c κs = search needs
+
+unskip-requires : tie.Need-unskip-requires
+unskip-requires c κs = search needs
+
+add-result : tie.Need-add-result
+add-result c = omega (arith, unskip-le (c .before .bin-pilot-place .result) (c .before .before .args .u % 9))
+
+returns : tie.Need-returns
+unfolding dataOfUsed
+returns c = rw (c .unskip .ensures, c .before .bin-pilot-place .ensures)
+
+pub data-of-used-spec : {M : Type 1} → statement M
+data-of-used-spec =
+    tie.close (tie.spec mul-result bin-pilot-place-requires unskip-requires add-result returns)

@@ -1,0 +1,20 @@
+-- `carriers::is_guard` meets its contract. Assumes nothing.
+use borrow.Author.Tests.{lt-ltb, le-ltb}
+use Rattle.carriers.specs.Band.{isGuard}
+use borrow.Author.Needs.{needs}
+use Rattle.carriers.proofs.is_guard.Statement.{statement}
+use Rattle.carriers.proofs.is_guard.Tie as tie
+
+returns : tie.Need-returns
+unfolding isGuard
+returns c = simp (lt-ltb _ _ (c .if1 .taken))
+
+sub-result : tie.Need-sub-result
+sub-result c = search needs
+
+returns-2 : tie.Need-returns-2
+unfolding isGuard
+returns-2 c = simp (le-ltb _ _ (c .before .if1 .left))
+
+pub is-guard-spec : {M : Type 1} → statement M
+is-guard-spec = tie.close (tie.spec returns sub-result returns-2)

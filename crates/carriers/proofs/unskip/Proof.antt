@@ -1,0 +1,18 @@
+-- `carriers::unskip` meets its contract. Assumes nothing.
+use mathlib.Core.Path.{sym}
+use Rattle.base.proofs.Skip.{unskip-below, unskip-above}
+use borrow.Author.Needs.{needs}
+use Rattle.carriers.proofs.unskip.Statement.{statement}
+use Rattle.carriers.proofs.unskip.Tie as tie
+
+sub-result : tie.Need-sub-result
+sub-result c = search needs
+
+returns : tie.Need-returns
+returns c = sym (unskip-below _ _ (c .if1 .taken))
+
+returns-2 : tie.Need-returns-2
+returns-2 c = sym (unskip-above _ _ (c .if1 .left))
+
+pub unskip-spec : {M : Type 1} → statement M
+unskip-spec = tie.close (tie.spec sub-result returns returns-2)

@@ -1,0 +1,28 @@
+-- `carriers::used_of_data` meets its contract. Assumes nothing.
+use Rattle.base.proofs.Skip.{skip-le}
+use native.Mathlib.Omega.{arith}
+use Prim.Native.Nat.{_%_}
+use Rattle.carriers.specs.Bin.{usedOfData}
+use borrow.Author.Needs.{needs}
+use Rattle.carriers.proofs.used_of_data.Statement.{statement}
+use Rattle.carriers.proofs.used_of_data.Tie as tie
+
+mul-result : tie.Need-mul-result
+mul-result c = search needs
+
+bin-pilot-place-requires : tie.Need-bin-pilot-place-requires
+bin-pilot-place-requires c κs = search needs
+
+skip-requires : tie.Need-skip-requires
+skip-requires c κs = search needs
+
+add-result : tie.Need-add-result
+add-result c = omega (arith, skip-le (c .before .bin-pilot-place .result) (c .before .before .args .d % 8))
+
+returns : tie.Need-returns
+unfolding usedOfData
+returns c = rw (c .skip .ensures, c .before .bin-pilot-place .ensures)
+
+pub used-of-data-spec : {M : Type 1} → statement M
+used-of-data-spec =
+    tie.close (tie.spec mul-result bin-pilot-place-requires skip-requires add-result returns)
