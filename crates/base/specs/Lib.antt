@@ -2,3 +2,4 @@
 pub mod Choice
 pub mod Answer
 pub mod Steps
+pub mod Tabulate

@@ -1,3 +1,4 @@
 pub mod Width
 pub mod Field
+pub mod Table
 pub mod Map

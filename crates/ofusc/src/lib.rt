@@ -1,1 +1,202 @@
-// Optional FUSC: the field, its sequences, and the group permutation.
+// Optional FUSC: the field's sequences and the group permutation.
+use carriers::Address;
+ghost use mathlib.Core.Path.{_≡_};
+ghost use Prim.Native.Nat.{_+_, _*_, _-_, _<_};
+ghost use Rattle.base.specs.Choice.{pick};
+ghost use Rattle.ofusc.specs.Width.{Width};
+ghost use Rattle.ofusc.specs.Field.{p1, p2};
+ghost use Rattle.ofusc.specs.Map.{groupOf, term as Term, mask as Mask, dataNumber, addressOf};
+
+// The basic permutation sequences of document 002, table 6. The row of N, which has N-1 entries, starts at place N.
+const SEQUENCE_1: [u8; 63] = [
+    0,
+    0,
+    0,
+    0,
+    1,
+    2,
+    3,
+    0,
+    1,
+    2,
+    4,
+    3,
+    6,
+    7,
+    5,
+    0,
+    1,
+    2,
+    4,
+    8,
+    3,
+    6,
+    12,
+    11,
+    5,
+    10,
+    7,
+    14,
+    15,
+    13,
+    9,
+    0,
+    1,
+    2,
+    4,
+    8,
+    16,
+    5,
+    10,
+    20,
+    13,
+    26,
+    17,
+    7,
+    14,
+    28,
+    29,
+    31,
+    27,
+    19,
+    3,
+    6,
+    12,
+    24,
+    21,
+    15,
+    30,
+    25,
+    23,
+    11,
+    22,
+    9,
+    18,
+];
+
+const SEQUENCE_2: [u8; 63] = [
+    0,
+    0,
+    0,
+    0,
+    1,
+    3,
+    2,
+    0,
+    1,
+    4,
+    6,
+    5,
+    2,
+    3,
+    7,
+    0,
+    1,
+    4,
+    3,
+    12,
+    5,
+    7,
+    15,
+    9,
+    2,
+    8,
+    6,
+    11,
+    10,
+    14,
+    13,
+    0,
+    1,
+    4,
+    16,
+    10,
+    13,
+    17,
+    14,
+    29,
+    27,
+    3,
+    12,
+    21,
+    30,
+    23,
+    22,
+    18,
+    2,
+    8,
+    5,
+    20,
+    26,
+    7,
+    28,
+    31,
+    19,
+    6,
+    24,
+    15,
+    25,
+    11,
+    9,
+];
+
+fn wide(x: u8) -> usize
+    ensures { λ r. ⌜ r ≡ x ⌝ }
+{
+    x as usize
+}
+
+// What the cell adds by one sequence in group k: its entry at (k'+c) mod (N-1), or nothing where c is 0.
+fn term(second: bool, n: usize, c: usize, k: usize) -> usize
+    requires { ⌜ Width n ⌝ }
+    requires { ⌜ (c < n) × (k < 48) ⌝ }
+    ensures { λ r. ⌜ r ≡ Term (pick second (p2 n) (p1 n)) n c k ⌝ }
+{
+    if c == 0 {
+        return 0;
+    }
+    let i = n + (k % (n - 1) + c) % (n - 1);
+    if second {
+        wide(SEQUENCE_2[i])
+    } else {
+        wide(SEQUENCE_1[i])
+    }
+}
+
+// What the cell adds to the subchannel in group k.
+pub fn mask(n: usize, cell: usize, k: usize) -> usize
+    requires { ⌜ Width n ⌝ }
+    requires { ⌜ (cell < n * n) × (k < 48) ⌝ }
+    ensures { λ r. ⌜ r ≡ Mask n cell k ⌝ }
+{
+    term(false, n, cell % n, k) ^ term(true, n, cell / n, k)
+}
+
+fn group(s: usize, m: usize) -> usize
+    requires { ⌜ (s < 32) × (m < 48) ⌝ }
+    ensures { λ r. ⌜ r ≡ groupOf s m ⌝ }
+{
+    (m + 23 * s) % 48
+}
+
+pub fn data_number(n: usize, cell: usize, subchannel: usize, index: usize) -> usize
+    requires { ⌜ Width n ⌝ }
+    requires { ⌜ (cell < n * n) × (subchannel < n) × (index < 48) ⌝ }
+    ensures { λ r. ⌜ r ≡ dataNumber n cell subchannel index ⌝ }
+{
+    let k = group(subchannel, index);
+    k * n + (subchannel ^ mask(n, cell, k))
+}
+
+pub fn address(n: usize, cell: usize, d: usize) -> Address
+    requires { ⌜ Width n ⌝ }
+    requires { ⌜ (cell < n * n) × (d < 48 * n) ⌝ }
+    ensures { λ r. ⌜ r ≡ addressOf n cell d ⌝ }
+{
+    let k = d / n;
+    let s = (d % n) ^ mask(n, cell, k);
+    Address {
+        subchannel: s,
+        index: (k + (48 - 23 * s % 48)) % 48,
+    }
+}

@@ -1,0 +1,4 @@
+-- Laws of optional FUSC.
+pub mod Sequence
+pub mod Tables
+pub mod Law

@@ -1,0 +1,84 @@
+-- What the sequences are made of: each entry is an element of the field. Assumes nothing.
+use mathlib.Core.Path.{_≡_, refl, subst, subst⁻¹}
+use mathlib.Core.Bool.{Bool}
+use Prim.Native.Nat.{ℕ, _+_, _-_, _*_, _/_, _%_, _^_, _<_, _≤_}
+use native.Mathlib.Nat.{mod-lt}
+use native.Mathlib.Omega.{arith}
+use lib.Dec.{T, eqb, ltb, ltb→lt}
+use borrow.Author.Tests.{eq-eqb, ne-eqb}
+use lib.Bits.{bitXor, xor-lt}
+use Rattle.base.specs.Choice.{pick}
+use Rattle.base.proofs.Test.{both, both-left, both-right, cases}
+use Rattle.base.proofs.Table.{all, all-at}
+use Rattle.ofusc.specs.Width.{Width, n4, n8, n16, n32}
+use Rattle.ofusc.specs.Field.{modulus, coefficient, product, remainder, times, power, p1, p2}
+use Rattle.ofusc.specs.Map.{term, mask}
+
+-- a test computed at each of the four N
+abbrev pub four : (ℕ → Bool) → Bool
+four f = both (f 4) (both (f 8) (both (f 16) (f 32)))
+
+pub at-width : (f : ℕ → Bool) → T (four f) → {n : ℕ} → Width n → T (f n)
+at-width f t n4 = both-left (f 4) (both (f 8) (both (f 16) (f 32))) t
+at-width f t n8 = both-left (f 8) (both (f 16) (f 32)) (both-right (f 4) (both (f 8) (both (f 16) (f 32))) t)
+at-width f t n16 = both-left (f 16) (f 32) (both-right (f 8) (both (f 16) (f 32)) (both-right (f 4) (both (f 8) (both (f 16) (f 32))) t))
+at-width f t n32 = both-right (f 16) (f 32) (both-right (f 8) (both (f 16) (f 32)) (both-right (f 4) (both (f 8) (both (f 16) (f 32))) t))
+
+-- N is a power of two above 3, and at most 32
+pub record Size (n : ℕ) : Type 0 where
+  pub bits : ℕ
+  pub is : n ≡ 2 ^ bits
+  pub above : 3 < n
+  pub most : n ≤ 32
+
+pub size : {n : ℕ} → Width n → Size n
+size n4 = record { bits = 2; is = refl; above = omega arith; most = omega arith }
+size n8 = record { bits = 3; is = refl; above = omega arith; most = omega arith }
+size n16 = record { bits = 4; is = refl; above = omega arith; most = omega arith }
+size n32 = record { bits = 5; is = refl; above = omega arith; most = omega arith }
+
+pub turn-pos : {n : ℕ} → Width n → 0 < n - 1
+turn-pos w = let z = size w .above in omega arith
+
+pub pos : {n : ℕ} → Width n → 0 < n
+pos w = let z = size w .above in omega arith
+
+-- the sum of two elements is one
+pub sum-lt : {n : ℕ} → Width n → (a b : ℕ) → a < n → b < n → bitXor a b < n
+sum-lt {n} w a b ha hb =
+    let e = size w .is in
+    subst⁻¹ (λ (k : ℕ). bitXor a b < k) e (xor-lt (size w .bits) a b (subst (λ (k : ℕ). a < k) e ha) (subst (λ (k : ℕ). b < k) e hb))
+
+-- each entry of P1 is an element, by a test computed at the four N; so each of P2 is
+pub p1-lt : {n : ℕ} → Width n → (i : ℕ) → i < n - 1 → p1 n i < n
+unfolding modulus coefficient product remainder times power p1
+p1-lt {n} w i h = ltb→lt (p1 n i) n (all-at (λ k. ltb (p1 n k) n) (n - 1) (at-width (λ m. all (λ k. ltb (p1 m k) m) (m - 1)) tt w) i h)
+
+pub p2-lt : {n : ℕ} → Width n → (i : ℕ) → p2 n i < n
+unfolding p2
+p2-lt {n} w i = p1-lt w (2 * i % (n - 1)) (mod-lt (2 * i) (turn-pos w))
+
+-- the row of N starts at place N of a table of rows, and ends before place 63
+pub place-lt : {n : ℕ} → Width n → (x : ℕ) → n + x % (n - 1) < 63
+place-lt w x = let l = mod-lt x (turn-pos w) in let z = size w .most in omega arith
+
+pub term-zero : (sequence : ℕ → ℕ) (n c k : ℕ) → c ≡ 0 → term sequence n c k ≡ 0
+unfolding term
+term-zero sequence n c k e = rw (eq-eqb c 0 e)
+
+pub term-entry : (sequence : ℕ → ℕ) (n c k : ℕ) → (c ≡ 0 → ⊥) → term sequence n c k ≡ sequence ((k % (n - 1) + c) % (n - 1))
+unfolding term
+term-entry sequence n c k ne = rw (ne-eqb c 0 ne)
+
+term-lt : {n : ℕ} → Width n → (sequence : ℕ → ℕ) → ((i : ℕ) → i < n - 1 → sequence i < n) → (c k : ℕ) → term sequence n c k < n
+unfolding term
+term-lt {n} w sequence lt c k =
+    cases (eqb c 0)
+    (λ e. rw e (let z = size w .above in omega arith))
+    (λ e. rw e (lt ((k % (n - 1) + c) % (n - 1)) (mod-lt (k % (n - 1) + c) (turn-pos w))))
+
+pub mask-lt : {n : ℕ} → Width n → (cell k : ℕ) → mask n cell k < n
+unfolding mask
+mask-lt {n} w cell k =
+    sum-lt w (term (p1 n) n (cell % n) k) (term (p2 n) n (cell / n) k)
+    (term-lt w (p1 n) (p1-lt w) (cell % n) k) (term-lt w (p2 n) (λ i h. p2-lt w i) (cell / n) k)
