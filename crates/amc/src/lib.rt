@@ -1,7 +1,229 @@
 // AMC, six bins by one symbol: pairs of base-seven digits, the sequence P, the zero rule.
+use base::unrotate;
+use base::wide;
+use carriers::Address;
+ghost use mathlib.Core.Path.{_≡_};
+ghost use Prim.Native.Nat.{_<_};
+ghost use Rattle.amc.specs.Element.{Proper, number as Number, digits as Digits, add as Add, subtract as Subtract, sequence as Sequence};
+ghost use Rattle.amc.specs.Map.{off as Off, zeroRule, sumOf, elementOf, traffic as Traffic, indexOf, dataNumber, addressOf};
+
+// The sequence P as document 004 prints it: the digits of 22 are 2 and 2.
+const SEQUENCE: [u8; 48] = [
+    1,
+    22,
+    46,
+    52,
+    42,
+    41,
+    26,
+    50,
+    5,
+    33,
+    62,
+    43,
+    63,
+    65,
+    32,
+    40,
+    4,
+    11,
+    23,
+    61,
+    21,
+    24,
+    13,
+    60,
+    6,
+    55,
+    31,
+    25,
+    35,
+    36,
+    51,
+    20,
+    2,
+    44,
+    15,
+    34,
+    14,
+    12,
+    45,
+    30,
+    3,
+    66,
+    54,
+    16,
+    56,
+    53,
+    64,
+    10,
+];
+
+// Where in P an element stands, by its number in base seven.
+const POSITIONS: [u8; 49] = [
+    0,
+    0,
+    32,
+    40,
+    16,
+    8,
+    24,
+    47,
+    17,
+    37,
+    22,
+    36,
+    34,
+    43,
+    31,
+    20,
+    1,
+    18,
+    21,
+    27,
+    6,
+    39,
+    26,
+    14,
+    9,
+    35,
+    28,
+    29,
+    15,
+    5,
+    4,
+    11,
+    33,
+    38,
+    2,
+    7,
+    30,
+    3,
+    45,
+    42,
+    25,
+    44,
+    23,
+    19,
+    10,
+    12,
+    46,
+    13,
+    41,
+];
 
 // A pair of digits 0..6, the high one first.
 pub struct Element {
     pub high: usize,
     pub low: usize,
+}
+
+fn number(e: Element) -> usize
+    requires { ⌜ Proper e ⌝ }
+    ensures { λ r. ⌜ r ≡ Number e ⌝ }
+{
+    e.high * 7 + e.low
+}
+
+fn digits(x: usize) -> Element
+    ensures { λ r. ⌜ r ≡ Digits x ⌝ }
+{
+    Element {
+        high: x / 7,
+        low: x % 7,
+    }
+}
+
+fn add(x: Element, y: Element) -> Element
+    requires { ⌜ Proper x ⌝ }
+    requires { ⌜ Proper y ⌝ }
+    ensures { λ r. ⌜ r ≡ Add x y ⌝ }
+{
+    Element {
+        high: (x.high + y.high) % 7,
+        low: (x.low + y.low) % 7,
+    }
+}
+
+fn subtract(x: Element, y: Element) -> Element
+    requires { ⌜ Proper x ⌝ }
+    ensures { λ r. ⌜ r ≡ Subtract x y ⌝ }
+{
+    Element {
+        high: unrotate(7, y.high, x.high),
+        low: unrotate(7, y.low, x.low),
+    }
+}
+
+// Entry i of P, a power of 22.
+fn sequence(i: usize) -> Element
+    requires { ⌜ i < 48 ⌝ }
+    ensures { λ r. ⌜ r ≡ Sequence i ⌝ }
+{
+    let x = wide(SEQUENCE[i]);
+    Element {
+        high: x / 10,
+        low: x % 10,
+    }
+}
+
+fn off(cell: usize) -> Element
+    ensures { λ r. ⌜ r ≡ Off cell ⌝ }
+{
+    digits(cell / 48)
+}
+
+// The sum of an entry of P and off, or off itself where that sum is zero.
+fn zero_rule(o: Element, sum: Element) -> Element
+    requires { ⌜ Proper sum ⌝ }
+    ensures { λ r. ⌜ r ≡ zeroRule o sum ⌝ }
+{
+    if number(sum) == 0 { o } else { sum }
+}
+
+// The sum that the zero rule made e of.
+fn sum_of(o: Element, e: Element) -> Element
+    requires { ⌜ Proper o ⌝ }
+    requires { ⌜ Proper e ⌝ }
+    ensures { λ r. ⌜ r ≡ sumOf o e ⌝ }
+{
+    if number(e) == number(o) { digits(0) } else { e }
+}
+
+// The place v of index j among the 48 traffic places of a subchannel.
+pub fn traffic(cell: usize, j: usize) -> usize
+    requires { ⌜ (cell < 2352) × (j < 48) ⌝ }
+    ensures { λ r. ⌜ r ≡ Traffic cell j ⌝ }
+{
+    let o = off(cell);
+    let sum = add(sequence((j + cell % 48) % 48), o);
+    number(zero_rule(o, sum)) - 1
+}
+
+fn index(cell: usize, v: usize) -> usize
+    requires { ⌜ (cell < 2352) × (v < 48) ⌝ }
+    ensures { λ r. ⌜ r ≡ indexOf cell v ⌝ }
+{
+    let o = off(cell);
+    let sum = sum_of(o, digits(v + 1));
+    let x = number(subtract(sum, o));
+    unrotate(48, cell % 48, wide(POSITIONS[x]))
+}
+
+pub fn data_number(cell: usize, subchannel: usize, index: usize) -> usize
+    requires { ⌜ (cell < 2352) × (subchannel < 65536) × (index < 48) ⌝ }
+    ensures { λ r. ⌜ r ≡ dataNumber cell subchannel index ⌝ }
+{
+    let v = traffic(cell, index);
+    (6 * subchannel + v / 8) * 8 + v % 8
+}
+
+pub fn address(cell: usize, d: usize) -> Address
+    requires { ⌜ cell < 2352 ⌝ }
+    ensures { λ r. ⌜ r ≡ addressOf cell d ⌝ }
+{
+    Address {
+        subchannel: d / 8 / 6,
+        index: index(cell, d / 8 % 6 * 8 + d % 8),
+    }
 }

@@ -2,5 +2,5 @@
 pub mod Test
 pub mod Xor
 pub mod Perm
-pub mod Skip
+pub mod LeaveOut
 pub mod Table

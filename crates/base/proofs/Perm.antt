@@ -1,6 +1,6 @@
 -- A permutation of 0..n-1 with its inverse; the rotation, the exclusive or, and the composition of two. Assumes nothing.
-use mathlib.Core.Path.{_≡_, refl, sym, ap, _∙_}
-use Prim.Native.Nat.{ℕ, _+_, _-_, _*_, _/_, _%_, _^_, _<_, _≤_}
+use mathlib.Core.Path.{_≡_, ap, _∙_}
+use Prim.Native.Nat.{ℕ, _+_, _-_, _*_, _/_, _%_, _^_, _<_}
 use native.Mathlib.Nat.{mod-lt, mod-eq-of-lt, mod-add-mod, add-mul-mod-self-right, div-add-mod', add-assoc, add-mul, one-mul}
 use native.Mathlib.Omega.{arith}
 use lib.Bits.{bitXor, xor-lt}

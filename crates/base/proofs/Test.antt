@@ -1,7 +1,6 @@
 -- Tests that are computed, and facts from them. Assumes nothing.
 use mathlib.Core.Path.{_≡_, refl}
 use mathlib.Core.Bool.{Bool, true, false}
-use mathlib.Core.Logic.{⊎-elim}
 use lib.Dec.{T}
 
 abbrev pub both : Bool → Bool → Bool

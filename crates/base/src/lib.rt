@@ -1,1 +1,34 @@
-// Definitions and laws with no code.
+// The steps that the permutations are made of.
+ghost use mathlib.Core.Path.{_≡_};
+ghost use Prim.Native.Nat.{_<_};
+ghost use Rattle.base.specs.Steps.{skip as Skip, unskip as Unskip, unrotate as Unrotate};
+
+// An entry of a table, as a number to count with.
+pub fn wide(x: u8) -> usize
+    ensures { λ r. ⌜ r ≡ x ⌝ }
+{
+    x as usize
+}
+
+// y moved back by c, modulo n.
+pub fn unrotate(n: usize, c: usize, y: usize) -> usize
+    requires { ⌜ (0 < n) × (n < 65536) × (y < 65536) ⌝ }
+    ensures { λ r. ⌜ r ≡ Unrotate n c y ⌝ }
+{
+    (y + (n - c % n)) % n
+}
+
+// The place of the number r when the place p is left out.
+pub fn skip(p: usize, r: usize) -> usize
+    requires { ⌜ r < 65536 ⌝ }
+    ensures { λ x. ⌜ x ≡ Skip p r ⌝ }
+{
+    if r < p { r } else { r + 1 }
+}
+
+// The number of a place other than p.
+pub fn unskip(p: usize, place: usize) -> usize
+    ensures { λ x. ⌜ x ≡ Unskip p place ⌝ }
+{
+    if place <= p { place } else { place - 1 }
+}

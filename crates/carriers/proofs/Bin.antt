@@ -1,16 +1,15 @@
 -- The data places of bins: a mode that numbers the data carriers of a symbol meets the law of a slot. Assumes nothing.
-use mathlib.Core.Path.{_≡_, refl, sym, ap, ap₂, _∙_}
-use mathlib.Core.Bool.{Bool, false}
-use Prim.Native.Nat.{ℕ, _+_, _-_, _*_, _/_, _%_, _<_, _≤_}
+use mathlib.Core.Path.{_≡_, sym, ap, ap₂, _∙_}
+use mathlib.Core.Bool.{false}
+use Prim.Native.Nat.{ℕ, _+_, _*_, _/_, _%_, _<_, _≤_}
 use native.Mathlib.Omega.{arith}
 use lib.Dec.{lit<}
 use borrow.Author.Tests.{ne-eqb, eqb-false}
 use Rattle.base.specs.Steps.{skip, unskip}
-use Rattle.base.proofs.Skip.{unskip-skip, skip-unskip, skip-ne, skip-lt, unskip-lt}
-use Rattle.carriers.specs.declared.Spot.{Spot}
+use Rattle.base.proofs.LeaveOut.{unskip-skip, skip-unskip, skip-ne, skip-lt, unskip-lt}
 use Rattle.carriers.specs.declared.Address.{Address}
 use Rattle.carriers.specs.Bin.{binPilotPlace, isBinPilot, usedOfData, dataOfUsed, binSpot}
-use Rattle.carriers.specs.Law.{SlotLaw, NumberLaw, DataSpot, PointOf}
+use Rattle.carriers.specs.Law.{SlotLaw, NumberLaw}
 
 module _ (y : ℕ) where
   abbrev p : ℕ

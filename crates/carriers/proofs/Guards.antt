@@ -3,12 +3,12 @@ use mathlib.Core.Path.{_≡_, refl, sym, ap, _∙_}
 use mathlib.Core.Bool.{true, false}
 use Prim.Native.Nat.{ℕ, _+_, _-_, _*_, _<_, _≤_}
 use native.Mathlib.Omega.{arith}
-use lib.Dec.{ltb, leb, eqb}
-use borrow.Author.Tests.{le-ltb, lt-ltb, lt-leb, le-leb, ne-eqb, ltb-false, leb-false, eqb-false}
+use lib.Dec.{ltb, leb}
+use borrow.Author.Tests.{le-ltb, lt-leb, ne-eqb, ltb-false, leb-false, eqb-false}
 use Rattle.base.specs.Choice.{pick}
 use Rattle.base.specs.Steps.{skip, unskip}
 use Rattle.base.proofs.Test.{cases}
-use Rattle.base.proofs.Skip.{unskip-skip, skip-unskip, skip-ne, skip-lt, skip-le, unskip-lt}
+use Rattle.base.proofs.LeaveOut.{unskip-skip, skip-unskip, skip-ne, skip-lt, unskip-lt}
 use Rattle.carriers.specs.declared.Band.{Band}
 use Rattle.carriers.specs.Band.{binBand, puscBand, carrierOf, usedOf, isGuard, isDc}
 

@@ -1,8 +1,9 @@
 // The carriers of a symbol: guards, DC, used numbers; bins with their pilots.
+use base::skip;
+use base::unskip;
 ghost use mathlib.Core.Path.{_≡_};
 ghost use mathlib.Core.Bool.{false};
 ghost use Prim.Native.Nat.{_+_, _≤_, _<_};
-ghost use Rattle.base.specs.Steps.{skip as Skip, unskip as Unskip};
 ghost use Rattle.carriers.specs.Band.{binBand, puscBand, carrierOf, usedOf, isGuard, isDc};
 ghost use Rattle.carriers.specs.Bin.{binPilotPlace, isBinPilot, usedOfData, dataOfUsed};
 
@@ -52,20 +53,6 @@ pub fn pusc_band() -> Band
         used: 1680,
         turn: 840,
     }
-}
-
-// The place of the number r when the place p is left out.
-pub fn skip(p: usize, r: usize) -> usize
-    requires { ⌜ r < 65536 ⌝ }
-    ensures { λ x. ⌜ x ≡ Skip p r ⌝ }
-{
-    if r < p { r } else { r + 1 }
-}
-
-pub fn unskip(p: usize, place: usize) -> usize
-    ensures { λ x. ⌜ x ≡ Unskip p place ⌝ }
-{
-    if place <= p { place } else { place - 1 }
 }
 
 pub fn carrier(b: Band, u: usize) -> usize

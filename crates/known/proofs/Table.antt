@@ -1,7 +1,7 @@
-use mathlib.Core.Path.{_≡_, refl}
-use Rattle.base.specs.Answer.{ask}
+use mathlib.Core.Path.{refl}
 use Rattle.base.specs.Steps.{skip, unskip}
 use Rattle.map.specs.Place.{placeOf, locateOf, placeAt, contentOf, pointAt}
+use Rattle.known.specs.Table.{Known}
 use Rattle.map.specs.Mode as m
 use Rattle.map.specs.Question as q
 use Rattle.carriers.specs.Band as b
@@ -14,7 +14,6 @@ use Rattle.pusc_ul.specs.Tile as ut
 use Rattle.ofusc.specs.Map as of
 use Rattle.ofusc.specs.Field as ff
 use Rattle.amc.specs.Map as am
-use Rattle.known.specs.Table.{Known}
 
 pub known : Known
 unfolding placeOf locateOf placeAt contentOf pointAt skip unskip m.width m.cells m.subchannels m.symbols m.band m.isPilot m.spotOf m.addressOf q.isMode q.isFourSizes q.isSize q.isCell q.isSlot q.isSymbol q.isSubchannel q.isIndex q.isCarrier b.carrierOf b.usedOf b.isGuard b.isDc n.binPilotPlace n.isBinPilot n.usedOfData n.dataOfUsed dl.groupUsed dl.spotOf dl.logicalOf dl.usedGroup dl.usedData dl.addressOf dg.groupIn dg.groupSize dg.baseOf dg.baseInverse dg.groupData dg.groupSubchannel dg.groupIndex dc.renumber dc.unrenumber dc.firstPilot dc.secondPilot dc.isClusterPilot dc.clusterPlace dc.clusterData ul.spotOf ul.addressOf ut.tileOf ut.tileSubchannel ut.isTilePilot ut.placeSymbol ut.placeTile ut.placeCarrier ut.dataPlace of.groupOf of.term of.mask of.dataNumber of.addressOf ff.modulus ff.coefficient ff.product ff.remainder ff.times ff.power ff.p1 ff.p2

@@ -1,9 +1,9 @@
 use mathlib.Core.Path.{_≡_}
-use mathlib.Core.List.{List, [], _∷_}
-use Prim.Native.Nat.{ℕ, _<_}
+use mathlib.Core.List.{[], _∷_}
+use Prim.Native.Nat.{ℕ}
 use Rattle.base.specs.Answer.{Answer, accepted}
 use Rattle.map.specs.declared.Setup.{Setup}
-use Rattle.map.specs.Place.{Place, Content, guard, dc, pilot, point, placeOf, locateOf}
+use Rattle.map.specs.Place.{Place, guard, dc, pilot, placeOf, locateOf}
 use Rattle.pusc_ul.specs.Tile.{tileOf}
 
 abbrev setup : ℕ → ℕ → ℕ → Setup

@@ -1,6 +1,6 @@
 -- Document 01, "Modes and their ranges": one row of the table a definition, modes 0 to 3 in order.
 use mathlib.Core.Bool.{Bool}
-use Prim.Native.Nat.{ℕ, _+_, _*_, _/_, _%_}
+use Prim.Native.Nat.{ℕ, _*_, _/_, _%_}
 use lib.Dec.{eqb}
 use Rattle.base.specs.Choice.{pick}
 use Rattle.carriers.specs.declared.Band.{Band}
@@ -9,12 +9,12 @@ use Rattle.carriers.specs.declared.Address.{Address}
 use Rattle.carriers.specs.Band.{binBand, puscBand}
 use Rattle.carriers.specs.Bin.{isBinPilot, dataOfUsed, binSpot}
 use Rattle.pusc_dl.specs.Cluster.{isClusterPilot}
-use Rattle.pusc_dl.specs.Map as pusc-dl
 use Rattle.pusc_ul.specs.Tile.{isTilePilot}
+use Rattle.map.specs.declared.Setup.{Setup}
+use Rattle.pusc_dl.specs.Map as pusc-dl
 use Rattle.pusc_ul.specs.Map as pusc-ul
 use Rattle.ofusc.specs.Map as ofusc
 use Rattle.amc.specs.Map as amc
-use Rattle.map.specs.declared.Setup.{Setup}
 
 -- PUSC downlink (mode 0, partial down), PUSC uplink (1, partial up), optional FUSC (2, spread), AMC (3, adjacent)
 abbrev pub byMode : {A : Type 0} → Setup → A → A → A → A → A

@@ -1,5 +1,5 @@
 -- Document 01, "The questions put to a request, in order": 1 to 7, each a test.
-use mathlib.Core.Bool.{Bool, true, false}
+use mathlib.Core.Bool.{Bool, true}
 use Prim.Native.Nat.{ℕ, _*_}
 use lib.Dec.{eqb, ltb}
 use Rattle.base.specs.Choice.{pick}

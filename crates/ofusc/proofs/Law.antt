@@ -1,6 +1,6 @@
 -- Optional FUSC numbers the data carriers of a symbol one for one: the group is a rotation of the index, the place in the group an exclusive or, and both are digits of the data number. Assumes nothing.
-use mathlib.Core.Path.{_≡_, refl, sym, ap, ap₂, _∙_}
-use Prim.Native.Nat.{ℕ, _+_, _-_, _*_, _/_, _%_, _<_}
+use mathlib.Core.Path.{_≡_, ap, ap₂, _∙_}
+use Prim.Native.Nat.{ℕ, _+_, _*_, _/_, _%_, _<_}
 use native.Mathlib.Nat.{mod-lt, div-add-mod', div-lt-iff-lt-mul}
 use native.Mathlib.Omega.{arith}
 use lib.Arith.{digits-div, digits-mod, digits-lt}
@@ -10,7 +10,7 @@ use Rattle.base.specs.Steps.{unrotate}
 use Rattle.base.proofs.Perm.{rotation}
 use Rattle.base.proofs.Xor.{xor-twice}
 use Rattle.carriers.specs.declared.Address.{Address}
-use Rattle.carriers.specs.Law.{NumberLaw, PointOf}
+use Rattle.carriers.specs.Law.{NumberLaw}
 use Rattle.ofusc.specs.Width.{Width}
 use Rattle.ofusc.specs.Map.{groupOf, mask, dataNumber, addressOf}
 use Rattle.ofusc.proofs.Sequence.{pos, size, sum-lt, mask-lt}

@@ -10,7 +10,7 @@ use Rattle.base.proofs.Table.{all, all-at}
 use Rattle.ofusc.specs.Width.{Width, n4, n8, n16, n32}
 use Rattle.ofusc.specs.Field.{modulus, coefficient, product, remainder, times, power, p1, p2}
 use Rattle.ofusc.specs.Table.{printed1, printed2}
-use Rattle.ofusc.proofs.Sequence.{four, at-width}
+use Rattle.ofusc.proofs.Sequence.{at-width}
 
 -- document 002's rows are the sequences, at all four N
 pub printed1-is : {n : ℕ} → Width n → printed1 n ≡ tabulate (n - 1) (p1 n)

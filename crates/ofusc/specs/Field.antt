@@ -1,5 +1,5 @@
 -- The field. Document 01, "Spread mode": field elements are 0..N-1, addition is exclusive or, multiplication is of polynomials modulo 7, 11, 19, 37 (bits as coefficients) for N = 4, 8, 16, 32.
-use Prim.Native.Nat.{ℕ, zero, suc, _+_, _-_, _*_, _/_, _%_, _^_}
+use Prim.Native.Nat.{ℕ, zero, suc, _-_, _*_, _/_, _%_, _^_}
 use lib.Dec.{eqb}
 use lib.Bits.{bitXor}
 use Rattle.base.specs.Choice.{pick}

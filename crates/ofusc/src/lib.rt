@@ -1,4 +1,6 @@
 // Optional FUSC: the field's sequences and the group permutation.
+use base::unrotate;
+use base::wide;
 use carriers::Address;
 ghost use mathlib.Core.Path.{_≡_};
 ghost use Prim.Native.Nat.{_+_, _*_, _-_, _<_};
@@ -140,12 +142,6 @@ const SEQUENCE_2: [u8; 63] = [
     9,
 ];
 
-fn wide(x: u8) -> usize
-    ensures { λ r. ⌜ r ≡ x ⌝ }
-{
-    x as usize
-}
-
 // What the cell adds by one sequence in group k: its entry at (k'+c) mod (N-1), or nothing where c is 0.
 fn term(second: bool, n: usize, c: usize, k: usize) -> usize
     requires { ⌜ Width n ⌝ }
@@ -197,6 +193,6 @@ pub fn address(n: usize, cell: usize, d: usize) -> Address
     let s = (d % n) ^ mask(n, cell, k);
     Address {
         subchannel: s,
-        index: (k + (48 - 23 * s % 48)) % 48,
+        index: unrotate(48, 23 * s, k),
     }
 }

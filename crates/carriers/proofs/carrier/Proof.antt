@@ -1,6 +1,5 @@
 -- `carriers::carrier` meets its contract. Assumes nothing.
-use Rattle.base.proofs.Skip.{skip-le}
-use Rattle.base.proofs.Skip.{skip-lt}
+use Rattle.base.proofs.LeaveOut.{skip-le}
 use native.Mathlib.Omega.{arith}
 use Rattle.carriers.specs.Band.{carrierOf}
 use borrow.Author.Needs.{needs}

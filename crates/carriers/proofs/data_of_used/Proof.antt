@@ -1,5 +1,5 @@
 -- `carriers::data_of_used` meets its contract. Assumes nothing.
-use Rattle.base.proofs.Skip.{unskip-le}
+use Rattle.base.proofs.LeaveOut.{unskip-le}
 use native.Mathlib.Omega.{arith}
 use Prim.Native.Nat.{_%_}
 use Rattle.carriers.specs.Bin.{dataOfUsed}

@@ -1,5 +1,5 @@
 -- `carriers::used_of_data` meets its contract. Assumes nothing.
-use Rattle.base.proofs.Skip.{skip-le}
+use Rattle.base.proofs.LeaveOut.{skip-le}
 use native.Mathlib.Omega.{arith}
 use Prim.Native.Nat.{_%_}
 use Rattle.carriers.specs.Bin.{usedOfData}

@@ -1,11 +1,11 @@
 -- `ofusc::address` meets its contract. Assumes nothing.
+use lib.Bits.{bitXor}
+use Prim.Native.Nat.{_<_, _%_}
 use native.Mathlib.Nat.{div-lt-iff-lt-mul}
 use Rattle.ofusc.proofs.Law.{subchannel-lt}
 use Rattle.ofusc.proofs.Sequence.{size, pos}
 use Rattle.ofusc.specs.Map.{addressOf}
 use native.Mathlib.Omega.{arith}
-use Prim.Native.Nat.{_<_, _%_}
-use lib.Bits.{bitXor}
 use borrow.Author.Needs.{needs}
 use Rattle.ofusc.proofs.address.Statement.{statement}
 use Rattle.ofusc.proofs.address.Tie as tie
@@ -22,18 +22,16 @@ rem-s c = search needs
 mask-requires : tie.Need-mask-requires
 mask-requires c κs = (c .pre .0, (c .pre .1 .0, div-lt-iff-lt-mul (pos (c .pre .0)) .1 (c .pre .1 .1)))
 
-mul-t6 : tie.Need-mul-t6
-mul-t6 c = omega (arith, value-lt c, size (c .before .pre .0))
+mul-unrotate : tie.Need-mul-unrotate
+mul-unrotate c = omega (arith, value-lt c, size (c .before .pre .0))
 
-sub-t8 : tie.Need-sub-t8
-sub-t8 c = search needs
-
-add-t9 : tie.Need-add-t9
-add-t9 c = omega (arith, div-lt-iff-lt-mul (pos (c .before .pre .0)) .1 (c .before .pre .1 .1))
+unrotate-requires : tie.Need-unrotate-requires
+unrotate-requires c κs = omega (arith, div-lt-iff-lt-mul (pos (c .before .pre .0)) .1 (c .before .pre .1 .1))
 
 returns : tie.Need-returns
 unfolding addressOf
-returns c = rw (c .mask .ensures)
+returns c = rw (c .unrotate .ensures, c .before .mask .ensures)
 
 pub address-spec : {M : Type 1} → statement M
-address-spec = tie.close (tie.spec div-k rem-s mask-requires mul-t6 sub-t8 add-t9 returns)
+address-spec =
+    tie.close (tie.spec div-k rem-s mask-requires mul-unrotate unrotate-requires returns)

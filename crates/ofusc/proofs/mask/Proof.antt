@@ -1,9 +1,7 @@
 -- `ofusc::mask` meets its contract. Assumes nothing.
 use Rattle.ofusc.proofs.Sequence.{pos}
 use native.Mathlib.Nat.{mod-lt, div-lt-iff-lt-mul}
-use Rattle.ofusc.proofs.Sequence.{size}
 use Rattle.ofusc.specs.Map.{mask}
-use native.Mathlib.Omega.{arith}
 use Rattle.ofusc.proofs.mask.Statement.{statement}
 use Rattle.ofusc.proofs.mask.Tie as tie
 

@@ -3,7 +3,6 @@ use Prim.Native.Nat.{_-_, _%_, _+_}
 use Rattle.ofusc.proofs.Sequence.{turn-pos, place-lt, size, term-zero, term-entry}
 use Rattle.ofusc.proofs.Tables.{rows1-are, rows2-are}
 use native.Mathlib.Nat.{mod-lt}
-use Rattle.ofusc.proofs.Sequence.{turn-pos, place-lt, term-zero, term-entry}
 use mathlib.Core.Path.{sym, _∙_}
 use native.Mathlib.Omega.{arith}
 use borrow.Author.Needs.{needs}

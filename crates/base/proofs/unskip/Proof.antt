@@ -1,9 +1,9 @@
--- `carriers::unskip` meets its contract. Assumes nothing.
+-- `base::unskip` meets its contract. Assumes nothing.
 use mathlib.Core.Path.{sym}
-use Rattle.base.proofs.Skip.{unskip-below, unskip-above}
+use Rattle.base.proofs.LeaveOut.{unskip-below, unskip-above}
 use borrow.Author.Needs.{needs}
-use Rattle.carriers.proofs.unskip.Statement.{statement}
-use Rattle.carriers.proofs.unskip.Tie as tie
+use Rattle.base.proofs.unskip.Statement.{statement}
+use Rattle.base.proofs.unskip.Tie as tie
 
 sub-result : tie.Need-sub-result
 sub-result c = search needs

@@ -1,9 +1,9 @@
--- `carriers::skip` meets its contract. Assumes nothing.
+-- `base::skip` meets its contract. Assumes nothing.
 use mathlib.Core.Path.{sym}
-use Rattle.base.proofs.Skip.{skip-below, skip-above}
+use Rattle.base.proofs.LeaveOut.{skip-below, skip-above}
 use borrow.Author.Needs.{needs}
-use Rattle.carriers.proofs.skip.Statement.{statement}
-use Rattle.carriers.proofs.skip.Tie as tie
+use Rattle.base.proofs.skip.Statement.{statement}
+use Rattle.base.proofs.skip.Tie as tie
 
 add-result : tie.Need-add-result
 add-result c = search needs

@@ -1,11 +1,9 @@
 -- Leaving one place out loses nothing: `skip p` goes onto the places other than p, and `unskip p` comes back. Assumes nothing.
-use mathlib.Core.Path.{_≡_, refl, sym, ap, _∙_}
-use mathlib.Core.Bool.{true, false}
+use mathlib.Core.Path.{_≡_, ap, _∙_}
 use Prim.Native.Nat.{ℕ, _+_, _-_, _<_, _≤_}
 use native.Mathlib.Omega.{arith}
-use lib.Dec.{leb, ltb, eqb}
-use borrow.Author.Tests.{leb-true, leb-false, le-ltb, lt-ltb, le-leb, lt-leb, ltb-true, ltb-false}
-use Rattle.base.specs.Choice.{pick}
+use lib.Dec.{leb}
+use borrow.Author.Tests.{leb-true, leb-false, le-ltb, lt-ltb, le-leb, lt-leb}
 use Rattle.base.specs.Steps.{skip, unskip}
 use Rattle.base.proofs.Test.{cases}
 

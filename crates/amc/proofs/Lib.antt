@@ -1,0 +1,5 @@
+-- Laws of AMC.
+pub mod Digit
+pub mod Tables
+pub mod ZeroRule
+pub mod Law

@@ -1,0 +1,30 @@
+-- `amc::data_number` meets its contract. Assumes nothing.
+use Rattle.amc.proofs.Law.{traffic-lt}
+use native.Mathlib.Omega.{arith}
+use Rattle.amc.specs.Map.{dataNumber}
+use borrow.Author.Needs.{needs}
+use Rattle.amc.proofs.data_number.Statement.{statement}
+use Rattle.amc.proofs.data_number.Tie as tie
+
+traffic-requires : tie.Need-traffic-requires
+traffic-requires c κs = search needs
+
+mul-result : tie.Need-mul-result
+mul-result c = search needs
+
+add-result : tie.Need-add-result
+add-result c = search needs
+
+mul-result-2 : tie.Need-mul-result-2
+mul-result-2 c = omega (arith, traffic-lt (c .before .args .cell) (c .before .pre .0) (c .before .args .index))
+
+add-result-2 : tie.Need-add-result-2
+add-result-2 c = omega (arith, traffic-lt (c .before .args .cell) (c .before .pre .0) (c .before .args .index))
+
+returns : tie.Need-returns
+unfolding dataNumber
+returns c = rw (c .traffic .ensures)
+
+pub data-number-spec : {M : Type 1} → statement M
+data-number-spec =
+    tie.close (tie.spec traffic-requires mul-result add-result mul-result-2 add-result-2 returns)
