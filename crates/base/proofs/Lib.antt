@@ -4,3 +4,4 @@ pub mod Xor
 pub mod Perm
 pub mod LeaveOut
 pub mod Table
+pub mod Chain

@@ -10,3 +10,8 @@ pub data Answer (A : Type 0) : Type 0 where
 abbrev pub ask : {A : Type 0} → Bool → ℕ → Answer A → Answer A
 ask true number rest = rest
 ask false number rest = refused number
+
+-- Document 01's number of an answer, 0 where the request is accepted.
+abbrev pub number : {A : Type 0} → Answer A → ℕ
+number (accepted a) = 0
+number (refused k) = k

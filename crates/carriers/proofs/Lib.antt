@@ -1,3 +1,4 @@
 -- Laws of used numbers and bins.
 pub mod Guards
 pub mod Bin
+pub mod Relabel

@@ -1,3 +1,4 @@
 pub mod Mode
 pub mod Question
 pub mod Place
+pub mod Valid

@@ -1,11 +1,15 @@
 -- Placing and its reverse.
 use Prim.Native.Nat.{ℕ, _+_, _*_, _/_}
 use Rattle.base.specs.Choice.{pick}
-use Rattle.base.specs.Answer.{Answer, accepted, ask}
+use Rattle.base.specs.Answer.{Answer, accepted, refused, ask}
 use Rattle.carriers.specs.declared.Spot.{Spot}
 use Rattle.carriers.specs.declared.Address.{Address}
 use Rattle.carriers.specs.Band.{carrierOf, usedOf, isGuard, isDc}
 use Rattle.map.specs.declared.Setup.{Setup}
+use Rattle.map.specs.declared.Placed.{Placed}
+use Rattle.map.specs.declared.Placed.the-variants.{At, Refused}
+use Rattle.map.specs.declared.Located.{Located}
+use Rattle.map.specs.declared.Located.the-variants.{Guard, Dc, Pilot, Data, Refused as Turned}
 use Rattle.map.specs.Mode.{symbols, band, isPilot, spotOf, addressOf}
 use Rattle.map.specs.Question.{askSetup, isSlot, isSymbol, isSubchannel, isIndex, isCarrier}
 
@@ -26,6 +30,11 @@ placeOf c slot subchannel index =
     (ask (isSubchannel c subchannel) 5
     (ask (isIndex index) 6
     (accepted (placeAt c slot (spotOf c slot subchannel index))))))
+
+-- What an answer of `place` says: document 01's values, or its number.
+abbrev pub placed : Placed → Answer Place
+placed (At y k) = accepted (record { symbol = y; carrier = k })
+placed (Refused number) = refused number
 
 -- what a carrier holds
 pub data Content : Type 0 where
@@ -51,3 +60,11 @@ locateOf c symbol carrier =
     (ask (isSymbol c symbol) 4
     (ask (isCarrier c carrier) 7
     (accepted (contentOf c symbol carrier))))
+
+-- What an answer of `locate` says.
+abbrev pub located : Located → Answer Content
+located Guard = accepted guard
+located Dc = accepted dc
+located Pilot = accepted pilot
+located (Data slot subchannel index) = accepted (point slot subchannel index)
+located (Turned number) = refused number

@@ -1,0 +1,78 @@
+-- Questions 1, 2 and 3 let pass just the valid setups. Assumes nothing.
+use mathlib.Core.Path.{_≡_, refl, sym, ap, _∙_, subst, subst⁻¹}
+use mathlib.Core.Bool.{Bool, true, false}
+use Prim.Native.Nat.{ℕ, zero, suc, _+_, _*_, _/_, _<_}
+use native.Mathlib.Omega.{arith}
+use lib.Dec.{eqb, ltb}
+use borrow.Author.Tests.{ltb-true, eqb-true, eqb-false, lt-ltb}
+use Rattle.base.specs.Choice.{pick}
+use Rattle.base.specs.Answer.{Answer, accepted, refused, ask, number}
+use Rattle.base.proofs.Test.{cases}
+use Rattle.ofusc.specs.Width.{Width, n4, n8, n16, n32}
+use Rattle.map.specs.declared.Setup.{Setup}
+use Rattle.map.specs.Mode.{width, cells, subchannels, symbols, band}
+use Rattle.map.specs.Question.{isMode, isFourSizes, isSize, isCell, askSetup}
+use Rattle.map.specs.Valid.{Valid, setup, pusc-dl, pusc-ul, ofusc, amc}
+
+-- N of a size
+pub width-is : (n : ℕ) → 64 * n / 64 ≡ n
+width-is n = omega arith
+
+data Listed : ℕ → Type 0 where
+  m0 : Listed 0
+  m1 : Listed 1
+  m2 : Listed 2
+  m3 : Listed 3
+
+listed : (m : ℕ) → m < 4 → Listed m
+listed zero h = m0
+listed (suc zero) h = m1
+listed (suc (suc zero)) h = m2
+listed (suc (suc (suc zero))) h = m3
+listed (suc (suc (suc (suc m)))) h = absurd (omega arith)
+
+data Sized : ℕ → Type 0 where
+  sized : {n : ℕ} → Width n → Sized (64 * n)
+
+four-sizes : (z : ℕ) → isFourSizes z ≡ true → Sized z
+unfolding isFourSizes
+four-sizes z h =
+    cases (eqb z 256)
+      (λ e. subst⁻¹ Sized (eqb-true z 256 e) (sized n4))
+      (λ e. cases (eqb z 512)
+        (λ e′. subst⁻¹ Sized (eqb-true z 512 e′) (sized n8))
+        (λ e′. cases (eqb z 1024)
+          (λ e″. subst⁻¹ Sized (eqb-true z 1024 e″) (sized n16))
+          (λ e″. subst⁻¹ Sized (eqb-true z 2048 (rw (e, e′, e″) at h)) (sized n32))))
+
+valid-at : {m : ℕ} (z k : ℕ) → Listed m → isSize (setup m z k) ≡ true → isCell (setup m z k) ≡ true → Valid (setup m z k)
+unfolding isSize isCell cells width
+valid-at z k m0 s e = subst⁻¹ (λ (t : ℕ). Valid (setup 0 t k)) (eqb-true z 2048 s) (pusc-dl (ltb-true k 32 e))
+valid-at z k m1 s e = subst⁻¹ (λ (t : ℕ). Valid (setup 1 t k)) (eqb-true z 2048 s) (pusc-ul (ltb-true k 70 e))
+valid-at z k m2 s e = spread (four-sizes z s) (ltb-true k (z / 64 * (z / 64)) e)
+  where
+    spread : {z : ℕ} → Sized z → k < z / 64 * (z / 64) → Valid (setup 2 z k)
+    spread (sized {n = n} w) h = ofusc w (rw (width-is n) at h)
+valid-at z k m3 s e = adjacent (four-sizes z s)
+  where
+    adjacent : {z : ℕ} → Sized z → Valid (setup 3 z k)
+    adjacent (sized w) = amc w (ltb-true k 2352 e)
+
+pub valid : (c : Setup) → isMode c ≡ true → isSize c ≡ true → isCell c ≡ true → Valid c
+unfolding isMode
+valid c e₁ e₂ e₃ = valid-at (c .size) (c .cell) (listed (c .mode) (ltb-true (c .mode) 4 e₁)) e₂ e₃
+
+-- and a valid setup passes
+size-passes : {n : ℕ} → Width n → isFourSizes (64 * n) ≡ true
+unfolding isFourSizes
+size-passes n4 = refl
+size-passes n8 = refl
+size-passes n16 = refl
+size-passes n32 = refl
+
+pub passes : {A : Type 0} {c : Setup} {rest : Answer A} → Valid c → askSetup c rest ≡ rest
+unfolding isMode isSize isCell cells width
+passes (pusc-dl h) = rw (lt-ltb _ _ h)
+passes (pusc-ul h) = rw (lt-ltb _ _ h)
+passes (ofusc {n = n} w h) = rw (size-passes w, width-is n, lt-ltb _ _ h)
+passes (amc w h) = rw (size-passes w, lt-ltb _ _ h)
