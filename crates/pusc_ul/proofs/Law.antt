@@ -1,5 +1,5 @@
 -- The law of PUSC uplink. A tile's turn is a rotation, Q and a rotation; an index goes to its data place by a rotation; the rest is digits. Assumes nothing.
-use mathlib.Core.Path.{_≡_, refl, ap, ap₂, _∙_}
+use mathlib.Core.Path.{_≡_, ap₂, _∙_}
 use mathlib.Core.Bool.{false}
 use Prim.Native.Nat.{ℕ, _+_, _*_, _/_, _%_, _<_}
 use native.Mathlib.Nat.{div-add-mod'}
@@ -9,10 +9,8 @@ use lib.Dec.{lit<}
 use Rattle.base.specs.Steps.{rotate, unrotate, entry}
 use Rattle.base.proofs.Perm.{Perm, rotation, compose}
 use Rattle.carriers.specs.Law.{SlotLaw, DataSpot, PointOf}
-use Rattle.carriers.specs.declared.Address.{Address}
-use Rattle.carriers.specs.declared.Spot.{Spot}
 use Rattle.pusc_ul.specs.Table.{tilePermutation, tilePermutationInverse}
-use Rattle.pusc_ul.specs.Tile.{tileOf, tileSubchannel, isTilePilot, placeSymbol, placeTile, placeCarrier, dataPlace}
+use Rattle.pusc_ul.specs.Tile.{tileOf, tileSubchannel, isTilePilot, placeTile, placeCarrier}
 use Rattle.pusc_ul.specs.Map.{spotOf, addressOf}
 use Rattle.pusc_ul.proofs.Tables.{q-perm}
 use Rattle.pusc_ul.proofs.Place.{OnCarrier, on-carrier, OnPlace, on-place}

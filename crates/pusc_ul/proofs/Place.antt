@@ -4,7 +4,6 @@ use mathlib.Core.Bool.{Bool, true, false, not}
 use Prim.Native.Nat.{ℕ, _<_}
 use lib.Dec.{T, eqb, ltb, eqb→eq, ltb→lt}
 use Rattle.base.specs.Choice.{pick}
-use Rattle.base.proofs.Test.{cases}
 use Rattle.base.proofs.Table.{all, all-at}
 use Rattle.pusc_ul.specs.Tile.{isTilePilot, placeSymbol, placeTile, placeCarrier, dataPlace}
 
