@@ -1,0 +1,158 @@
+-- The law of PUSC downlink: from the points of a group to its data numbers, and from these to the used numbers of a symbol. Assumes nothing.
+use mathlib.Core.Path.{_≡_, refl, sym, ap, ap₂, _∙_}
+use mathlib.Core.Bool.{false}
+use Prim.Native.Nat.{ℕ, _+_, _-_, _*_, _/_, _%_, _<_, _≤_}
+use native.Mathlib.Nat.{div-add-mod', add-sub-cancel-left}
+use native.Mathlib.Omega.{arith}
+use lib.Arith.{digits-div, digits-mod, digits-lt}
+use Rattle.base.specs.Steps.{rotate, unrotate, entry}
+use Rattle.base.proofs.Perm.{Perm}
+use Rattle.carriers.specs.Law.{SlotLaw, DataSpot, PointOf}
+use Rattle.pusc_dl.specs.Table.{renumbering, renumberingInverse}
+use Rattle.pusc_dl.specs.Cluster.{renumber, unrenumber, isClusterPilot, clusterPlace, clusterData}
+use Rattle.pusc_dl.specs.Group.{clusterStarts, subchannelStarts, groupIn, groupSize, groupData, groupSubchannel, groupIndex}
+use Rattle.pusc_dl.specs.Map.{spotOf, addressOf, groupUsed, logicalOf, usedGroup, usedData}
+use Rattle.pusc_dl.proofs.Cluster.{renumber-perm, OnPlace, on-place, OnData, on-data, pilot-place}
+use Rattle.pusc_dl.proofs.Group as group
+
+module _ (cell : ℕ) where
+  -- data number d of group g, on its used number in symbol y of the slot
+  module _ (y g d : ℕ) (hy : y < 2) (hg : g < 6) (hd : d < 24 * groupSize g) where
+    abbrev logical : ℕ
+    logical = entry clusterStarts g + d / 12
+
+    run-lt : d / 12 < 2 * groupSize g
+    run-lt = omega arith
+
+    physical-lt : unrotate 120 (13 * cell) (entry renumberingInverse logical) < 120
+    physical-lt = renumber-perm cell .from-lt logical (group.cluster-runs .number-lt g (d / 12) hg run-lt)
+
+    at-place : OnPlace y (d % 12)
+    at-place = on-place y (d % 12) hy (omega arith)
+
+    used-lt : groupUsed cell y g d < 1680
+    unfolding groupUsed unrenumber
+    used-lt = digits-lt physical-lt (at-place .place-lt)
+
+    used-place : groupUsed cell y g d % 14 ≡ clusterPlace y (d % 12)
+    unfolding groupUsed unrenumber
+    used-place = digits-mod (unrotate 120 (13 * cell) (entry renumberingInverse logical)) (at-place .place-lt)
+
+    used-logical : logicalOf cell (groupUsed cell y g d) .0 ≡ logical
+    unfolding groupUsed logicalOf renumber unrenumber
+    used-logical = rw (digits-div (unrotate 120 (13 * cell) (entry renumberingInverse logical)) (at-place .place-lt)) (renumber-perm cell .forth logical (group.cluster-runs .number-lt g (d / 12) hg run-lt))
+
+    used-group : usedGroup cell (groupUsed cell y g d) ≡ g
+    unfolding usedGroup
+    used-group = rw used-logical (group.cluster-runs .group-of g (d / 12) hg run-lt)
+
+    used-data : usedData cell y (groupUsed cell y g d) ≡ d
+    unfolding usedData
+    used-data = rw (used-logical, used-group, used-place, at-place .back) (omega arith)
+
+  -- a used number that is no pilot, and its data number
+  module _ (y u : ℕ) (hy : y < 2) (hu : u < 1680) (e : isClusterPilot y u ≡ false) where
+    logical-lt : logicalOf cell u .0 < 120
+    unfolding logicalOf renumber
+    logical-lt = renumber-perm cell .to-lt (u / 14) (omega arith)
+
+    at-data : OnData y (u % 14)
+    at-data = on-data y (u % 14) hy (omega arith) (rw (pilot-place y u) at e)
+
+    group-lt : usedGroup cell u < 6
+    unfolding usedGroup
+    group-lt = group.cluster-runs .group-lt (logicalOf cell u .0) logical-lt
+
+    data-lt : usedData cell y u < 24 * groupSize (usedGroup cell u)
+    unfolding usedData usedGroup
+    data-lt = omega (arith, group.cluster-runs .run-lt (logicalOf cell u .0) logical-lt, at-data .data-lt)
+
+    in-run : entry clusterStarts (usedGroup cell u) + (logicalOf cell u .0 - entry clusterStarts (usedGroup cell u)) ≡ logicalOf cell u .0
+    unfolding usedGroup
+    in-run = omega (arith, group.cluster-runs .start-le (logicalOf cell u .0) logical-lt)
+
+    physical : unrenumber cell (logicalOf cell u) .0 ≡ u / 14
+    unfolding logicalOf renumber unrenumber
+    physical = renumber-perm cell .back (u / 14) (omega arith)
+
+    used-forth : groupUsed cell y (usedGroup cell u) (usedData cell y u) ≡ u
+    unfolding groupUsed usedData
+    used-forth =
+        rw (digits-div _ (at-data .data-lt), digits-mod _ (at-data .data-lt), at-data .forth, in-run, physical)
+        (div-add-mod' u 14)
+
+    abbrev its-group : ℕ
+    its-group = usedGroup cell u
+
+    abbrev its-data : ℕ
+    its-data = usedData cell y u
+
+    abbrev its-subchannel : ℕ
+    its-subchannel = groupSubchannel (groupSize its-group) cell its-data
+
+    subchannel-lt : its-subchannel < 1 * groupSize its-group
+    subchannel-lt = omega (arith, group.subchannel-lt its-group cell its-data)
+
+    names : PointOf 60 (addressOf cell y u)
+    unfolding addressOf
+    names =
+        record {
+          subchannel-lt = group.subchannel-runs .number-lt its-group its-subchannel group-lt subchannel-lt;
+          index-lt = omega (arith, group.index-lt its-group cell its-data);
+        }
+
+    placed : spotOf cell (addressOf cell y u .subchannel) (addressOf cell y u .index) ≡ record { offset = y; used = u }
+    unfolding spotOf addressOf
+    placed =
+        rw (group.subchannel-runs .group-of its-group its-subchannel group-lt subchannel-lt,
+          add-sub-cancel-left (entry subchannelStarts its-group) its-subchannel,
+          digits-div y (group.index-lt its-group cell its-data), digits-mod y (group.index-lt its-group cell its-data),
+          group.data-forth its-group cell its-data data-lt, used-forth)
+
+  -- point i of subchannel s
+  module _ (s i : ℕ) (hs : s < 60) (hi : i < 48) where
+    abbrev g : ℕ
+    g = groupIn subchannelStarts s
+
+    abbrev r : ℕ
+    r = s - entry subchannelStarts g
+
+    abbrev d : ℕ
+    d = groupData (groupSize g) cell r (i % 24)
+
+    y-lt : i / 24 < 2
+    y-lt = omega arith
+
+    k-lt : i % 24 < 24
+    k-lt = omega arith
+
+    g-lt : g < 6
+    g-lt = group.subchannel-runs .group-lt s hs
+
+    r-lt : r < groupSize g
+    r-lt = omega (arith, group.subchannel-runs .run-lt s hs)
+
+    d-lt : d < 24 * groupSize g
+    d-lt = group.data-lt g cell r (i % 24) r-lt k-lt
+
+    s-back : entry subchannelStarts g + r ≡ s
+    s-back = omega (arith, group.subchannel-runs .start-le s hs)
+
+    lies : DataSpot 2 1680 isClusterPilot (spotOf cell s i)
+    unfolding spotOf
+    lies =
+        record {
+          offset-lt = y-lt;
+          used-lt = used-lt (i / 24) g d y-lt g-lt d-lt;
+          no-pilot =
+            rw (pilot-place, used-place (i / 24) g d y-lt g-lt d-lt) (at-place (i / 24) g d y-lt g-lt d-lt .no-pilot);
+        }
+
+    found : addressOf cell (spotOf cell s i .offset) (spotOf cell s i .used) ≡ record { subchannel = s; index = i }
+    unfolding spotOf addressOf
+    found =
+        rw (used-group (i / 24) g d y-lt g-lt d-lt, used-data (i / 24) g d y-lt g-lt d-lt,
+          group.subchannel-back g cell r (i % 24) r-lt k-lt, group.index-back g cell r (i % 24) r-lt k-lt, s-back, div-add-mod' i 24)
+
+  pub law : SlotLaw 2 60 1680 isClusterPilot (spotOf cell) (addressOf cell)
+  law = record { lies = lies; found = found; names = names; placed = placed }

@@ -1,0 +1,9 @@
+-- Q is a permutation of 0..69: one computed test for each direction. Assumes nothing.
+use mathlib.Core.Path.{refl}
+use Rattle.base.specs.Steps.{entry}
+use Rattle.base.proofs.Perm.{Perm}
+use Rattle.base.proofs.Table.{table-perm}
+use Rattle.pusc_ul.specs.Table.{tilePermutation, tilePermutationInverse}
+
+pub q-perm : Perm 70 (entry tilePermutation) (entry tilePermutationInverse)
+q-perm = table-perm 70 tilePermutation tilePermutationInverse refl refl tt tt

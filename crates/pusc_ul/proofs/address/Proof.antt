@@ -1,0 +1,18 @@
+-- `pusc_ul::address` meets its contract. Assumes nothing.
+use borrow.Author.Needs.{needs}
+use Rattle.pusc_ul.specs.Map.{addressOf}
+use Rattle.pusc_ul.proofs.Law.{pilot-carrier}
+use Rattle.pusc_ul.proofs.address.Statement.{statement}
+use Rattle.pusc_ul.proofs.address.Tie as tie
+
+data-place-requires : tie.Need-data-place-requires
+data-place-requires c κs = (search needs, search needs, search needs, rw pilot-carrier at (c .before .pre .3))
+
+returns : tie.Need-returns
+unfolding addressOf
+returns c = cc
+
+pub address-spec : {M : Type 1} → statement M
+address-spec =
+    tie.close
+    (tie.spec (λ c κs. search needs) data-place-requires (λ c. search needs) (λ c. search needs) (λ c. search needs) returns)

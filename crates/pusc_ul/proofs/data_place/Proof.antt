@@ -1,0 +1,58 @@
+-- `pusc_ul::data_place` meets its contract: outside the middle symbol carriers 0 and 3 are pilots, so a data carrier is 1 or 2. Assumes nothing.
+use mathlib.Core.Path.{_≡_}
+use mathlib.Core.Bool.{false}
+use Prim.Native.Nat.{ℕ, _≤_, _<_, _%_}
+use native.Mathlib.Omega.{arith}
+use lib.Dec.{eqb}
+use borrow.Author.Needs.{needs}
+use borrow.Author.Tests.{eq-eqb, ne-eqb, eqb-false}
+use Rattle.base.proofs.Test.{cases}
+use Rattle.pusc_ul.specs.Tile.{isTilePilot, dataPlace}
+use Rattle.pusc_ul.proofs.data_place.Statement.{statement}
+use Rattle.pusc_ul.proofs.data_place.Tie as tie
+
+inner : (o c : ℕ) → (o ≡ 1 → ⊥) → c < 4 → isTilePilot o c ≡ false → (1 ≤ c) × (c ≤ 2)
+unfolding isTilePilot
+inner o c ne h e =
+    let f = simp (ne-eqb o 1 ne) at e in
+    cases (eqb (c % 4) 0)
+    (λ t. let z : _≡_ {A = ℕ} 0 1 = cc (rw t at f) in absurd (omega arith))
+    (λ t. let n = eqb-false (c % 4) 0 t in let l = eqb-false (c % 4) 3 (rw t at f) in (omega arith, omega arith))
+
+sub-result : tie.Need-sub-result
+sub-result c = inner _ _ (λ e. omega arith) (search needs) (c .before .pre .3) .0
+
+sub-result-2 : tie.Need-sub-result-2
+sub-result-2 c = inner _ _ (c .if2 .left) (search needs) (c .before .before .pre .3) .0
+
+returns : tie.Need-returns
+unfolding dataPlace
+returns c = simp (eq-eqb _ _ (c .if1 .taken)) (search needs)
+
+returns-2 : tie.Need-returns-2
+unfolding dataPlace
+returns-2 c = simp (ne-eqb _ _ (c .before .if1 .left), eq-eqb _ _ (c .if2 .taken)) (search needs)
+
+returns-3 : tie.Need-returns-3
+unfolding dataPlace
+returns-3 c =
+    let h = inner _ _ (c .if2 .left) (search needs) (c .before .before .pre .3) in
+    simp (ne-eqb _ _ (c .before .if1 .left), ne-eqb _ _ (c .if2 .left)) (search needs)
+
+pub data-place-spec : {M : Type 1} → statement M
+data-place-spec =
+    tie.close
+    (tie.spec
+    (λ c. search needs)
+    sub-result
+    (λ c. search needs)
+    (λ c. search needs)
+    (λ c. search needs)
+    (λ c. search needs)
+    (λ c. search needs)
+    sub-result-2
+    (λ c. search needs)
+    (λ c. search needs)
+    returns
+    returns-2
+    returns-3)

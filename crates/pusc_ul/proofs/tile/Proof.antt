@@ -1,0 +1,14 @@
+-- `pusc_ul::tile` meets its contract. Assumes nothing.
+use borrow.Author.Needs.{needs}
+use Rattle.pusc_ul.specs.Tile.{tileOf}
+use Rattle.pusc_ul.proofs.tile.Statement.{statement}
+use Rattle.pusc_ul.proofs.tile.Tie as tie
+
+returns : tie.Need-returns
+unfolding tileOf
+returns c = search needs
+
+pub tile-spec : {M : Type 1} → statement M
+tile-spec =
+    tie.close
+    (tie.spec (λ c. search needs) (λ c. search needs) (λ c. search needs) (λ c. search needs) (λ c. search needs) returns)

@@ -1,0 +1,14 @@
+-- `pusc_ul::tile_subchannel` meets its contract. Assumes nothing.
+use borrow.Author.Needs.{needs}
+use Rattle.pusc_ul.specs.Tile.{tileSubchannel}
+use Rattle.pusc_ul.proofs.tile_subchannel.Statement.{statement}
+use Rattle.pusc_ul.proofs.tile_subchannel.Tie as tie
+
+returns : tie.Need-returns
+unfolding tileSubchannel
+returns c = search needs
+
+pub tile-subchannel-spec : {M : Type 1} → statement M
+tile-subchannel-spec =
+    tie.close
+    (tie.spec (λ c. search needs) (λ c. search needs) (λ c. search needs) (λ c. search needs) (λ c. search needs) returns)
