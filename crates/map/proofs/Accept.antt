@@ -11,7 +11,7 @@ use Rattle.base.proofs.Test.{cases}
 use Rattle.ofusc.specs.Width.{Width, n4, n8, n16, n32}
 use Rattle.map.specs.declared.Setup.{Setup}
 use Rattle.map.specs.Mode.{width, cells, subchannels, symbols, band}
-use Rattle.map.specs.Question.{isMode, isFourSizes, isSize, isCell, askSetup}
+use Rattle.map.specs.Question.{isMode, isFourSizes, isSize, isCell, askSetup, setupNumber}
 use Rattle.map.specs.Valid.{Valid, setup, pusc-dl, pusc-ul, ofusc, amc}
 
 -- N of a size
@@ -76,3 +76,25 @@ passes (pusc-dl h) = rw (lt-ltb _ _ h)
 passes (pusc-ul h) = rw (lt-ltb _ _ h)
 passes (ofusc {n = n} w h) = rw (size-passes w, width-is n, lt-ltb _ _ h)
 passes (amc w h) = rw (size-passes w, lt-ltb _ _ h)
+
+-- what the first three questions come to: a number, or a valid setup
+pub refused-number : {A : Type 0} (c : Setup) (rest : Answer A) → (setupNumber c ≡ 0 → ⊥) → askSetup c rest ≡ refused (setupNumber c)
+unfolding setupNumber
+refused-number c rest ne = link (isMode c) (isSize c) (isCell c) ne
+  where
+    link : (a b d : Bool) → (number (ask {A = Unit {0}} a 1 (ask b 2 (ask d 3 (accepted tt)))) ≡ 0 → ⊥)
+      → ask a 1 (ask b 2 (ask d 3 rest)) ≡ refused (number (ask {A = Unit {0}} a 1 (ask b 2 (ask d 3 (accepted tt)))))
+    link false b d ne = refl
+    link true false d ne = refl
+    link true true false ne = refl
+    link true true true ne = absurd (ne refl)
+
+pub number-valid : (c : Setup) → setupNumber c ≡ 0 → Valid c
+unfolding setupNumber
+number-valid c e = link (isMode c) (isSize c) (isCell c) e (valid c)
+  where
+    link : (a b d : Bool) → number (ask {A = Unit {0}} a 1 (ask b 2 (ask d 3 (accepted tt)))) ≡ 0 → (a ≡ true → b ≡ true → d ≡ true → Valid c) → Valid c
+    link false b d e f = absurd (omega arith)
+    link true false d e f = absurd (omega arith)
+    link true true false e f = absurd (omega arith)
+    link true true true e f = f refl refl refl
