@@ -1,6 +1,6 @@
 -- Clusters. Document 01, "Partial usage": 120 physical clusters; cluster p is used numbers 14p to 14p+13.
 use mathlib.Core.Bool.{Bool, true}
-use Prim.Native.Nat.{ℕ, _+_, _-_, _*_, _/_, _%_}
+use Prim.Native.Nat.{ℕ, _+_, _-_, _*_, _%_}
 use lib.Dec.{eqb}
 use Rattle.base.specs.Choice.{pick}
 use Rattle.base.specs.Steps.{skip, unskip, entry}

@@ -1,6 +1,6 @@
 -- Major groups. Document 01, "Partial usage": six groups start at logical 0, 24, 40, 64, 80, 104; even groups have 12 subchannels, odd ones 8, numbered through.
 use mathlib.Core.List.{List, [], _∷_}
-use Prim.Native.Nat.{ℕ, _+_, _-_, _*_, _/_, _%_}
+use Prim.Native.Nat.{ℕ, _+_, _*_, _/_, _%_}
 use lib.Dec.{eqb, ltb}
 use Rattle.base.specs.Choice.{pick}
 use Rattle.base.specs.Steps.{entry, unrotate}
