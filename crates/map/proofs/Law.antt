@@ -1,14 +1,12 @@
 -- THE LAW OF THE MAP, for every mode, size and cell that the questions let pass. It rests on the law of a slot, and on no mode's text. Assumes nothing.
-use mathlib.Core.Path.{_≡_, refl, sym, ap, _∙_, subst}
-use mathlib.Core.Bool.{Bool, true, false}
+use mathlib.Core.Path.{_≡_, sym, ap, _∙_, subst}
+use mathlib.Core.Bool.{false}
 use Prim.Native.Nat.{ℕ, _+_, _*_, _/_, _%_, _<_}
 use native.Mathlib.Nat.{mod-lt, div-add-mod', div-lt-iff-lt-mul}
 use native.Mathlib.Omega.{arith}
 use lib.Arith.{digits-div, digits-lt}
-use lib.Dec.{ltb, lit<}
 use borrow.Author.Tests.{lt-ltb, ltb-true}
-use Rattle.base.specs.Choice.{pick}
-use Rattle.base.specs.Answer.{Answer, accepted, refused, ask}
+use Rattle.base.specs.Answer.{Answer, accepted}
 use Rattle.base.proofs.Test.{cases}
 use Rattle.base.proofs.Chain.{ask-yes, same-accepted}
 use Rattle.carriers.specs.declared.Spot.{Spot}
@@ -19,9 +17,10 @@ use Rattle.carriers.proofs.Guards.{carrier-lt, carrier-no-guard, carrier-no-dc,
 use Rattle.map.specs.declared.Setup.{Setup}
 use Rattle.map.specs.Mode.{subchannels, symbols, band, isPilot, spotOf, addressOf}
 use Rattle.map.specs.Question.{askSetup, isMode, isSize, isCell, isSlot, isSymbol, isSubchannel, isIndex, isCarrier}
-use Rattle.map.specs.Place.{Place, Content, guard, dc, pilot, point, placeAt, placeOf, pointAt, contentOf, locateOf}
-use Rattle.map.specs.Valid.{Valid, pusc-dl, pusc-ul, ofusc, amc}
+use Rattle.map.specs.Place.{Place, Content, point, placeAt, placeOf, pointAt, contentOf, locateOf}
+use Rattle.map.specs.Valid.{Valid}
 use Rattle.map.proofs.Accept.{valid, passes}
+use Rattle.map.proofs.ByMode.{symbols-range}
 use Rattle.map.proofs.Slot.{LawOf, slot-law, band-law}
 
 -- what an accepted setup is
@@ -58,7 +57,8 @@ placing c slot s m e =
       slot-lt = ltb-true slot 512 (q₄ .0);
       subchannel-lt = ltb-true s (subchannels c) (q₅ .0);
       index-lt = ltb-true m 48 (q₆ .0);
-      place-is = same-accepted (q₆ .1) }
+      place-is = same-accepted (q₆ .1);
+    }
 
 pub locating : (c : Setup) (y k : ℕ) {w : Content} → locateOf c y k ≡ accepted w → Locating c y k w
 unfolding locateOf isSymbol isCarrier
@@ -70,7 +70,8 @@ locating c y k e =
       is-valid = q .0;
       symbol-lt = ltb-true y (512 * symbols c) (q₄ .0);
       carrier-below = ltb-true k (c .size) (q₇ .0);
-      content-is = same-accepted (q₇ .1) }
+      content-is = same-accepted (q₇ .1);
+    }
 
 -- and back: fields in range are accepted
 pub place-accepts : (c : Setup) (slot s m : ℕ) → Valid c → slot < 512 → s < subchannels c → m < 48
@@ -83,11 +84,7 @@ unfolding locateOf isSymbol isCarrier
 locate-accepts c y k v h₄ h₇ = passes v ∙ rw (lt-ltb _ _ h₄, lt-ltb _ _ h₇)
 
 symbols-pos : {c : Setup} → Valid c → 0 < symbols c
-unfolding symbols
-symbols-pos (pusc-dl h) = lit< tt
-symbols-pos (pusc-ul h) = lit< tt
-symbols-pos (ofusc w h) = lit< tt
-symbols-pos (amc w h) = lit< tt
+symbols-pos v = symbols-range v .0
 
 -- the place of a point holds that point
 module _ (c : Setup) (v : Valid c) (slot s m : ℕ) (hs : s < subchannels c) (hm : m < 48) where
@@ -102,8 +99,14 @@ module _ (c : Setup) (v : Valid c) (slot s m : ℕ) (hs : s < subchannels c) (hm
   content-placed =
       let h = l .lies s m hs hm in
       let b = band-law v in
-      rw (carrier-no-guard (band c) (c .size) b (x .used) (h .used-lt), carrier-no-dc (band c) (c .size) b (x .used) (h .used-lt),
-        used-carrier (band c) (c .size) b (x .used) (h .used-lt), h .no-pilot, l .found s m hs hm, digits-div slot (h .offset-lt))
+      rw (
+        carrier-no-guard (band c) (c .size) b (x .used) (h .used-lt),
+        carrier-no-dc (band c) (c .size) b (x .used) (h .used-lt),
+        used-carrier (band c) (c .size) b (x .used) (h .used-lt),
+        h .no-pilot,
+        l .found s m hs hm,
+        digits-div slot (h .offset-lt),
+      )
 
 -- a data carrier's point is placed there
 module _ (c : Setup) (v : Valid c) (y k : ℕ)
@@ -124,7 +127,7 @@ module _ (c : Setup) (v : Valid c) (y k : ℕ)
       let o = y % symbols c in
       let h = mod-lt y (symbols-pos v) in
       subst (λ (t : ℕ). isPilot c t u ≡ false → PointOf (subchannels c) (addressOf c t u) × (spotOf c slot (addressOf c t u .subchannel) (addressOf c t u .index) ≡ record { offset = o; used = u }))
-        (div-add-mod' y (symbols c)) (λ q. (slot-law v slot .names o u h u-lt q, slot-law v slot .placed o u h u-lt q)) np
+      (div-add-mod' y (symbols c)) (λ q. (slot-law v slot .names o u h u-lt q, slot-law v slot .placed o u h u-lt q)) np
 
   pub data-content : contentOf c y k ≡ point (y / symbols c) (a .subchannel) (a .index)
   unfolding contentOf pointAt
@@ -146,7 +149,7 @@ located-where-placed c slot s m {p} e =
     let h = slot-law (q .is-valid) slot .lies s m (q .subchannel-lt) (q .index-lt) in
     ap (λ (t : Place). locateOf c (t .symbol) (t .carrier)) (sym (q .place-is))
     ∙ locate-accepts c _ _ (q .is-valid) (digits-lt (q .slot-lt) (h .offset-lt))
-        (carrier-lt (band c) (c .size) (band-law (q .is-valid)) (spotOf c slot s m .used) (h .used-lt))
+    (carrier-lt (band c) (c .size) (band-law (q .is-valid)) (spotOf c slot s m .used) (h .used-lt))
     ∙ ap accepted (content-placed c (q .is-valid) slot s m (q .subchannel-lt) (q .index-lt))
 
 -- a carrier that holds a point is no guard, not DC and no pilot
@@ -155,12 +158,12 @@ point-carrier : (c : Setup) (y k : ℕ) {slot s m : ℕ} → contentOf c y k ≡
 unfolding contentOf
 point-carrier c y k e =
     cases (isGuard (band c) (c .size) k)
-      (λ g. absurd (let h = rw g at e in let z : _≡_ {A = ℕ} 0 1 = cc in omega arith))
-      (λ g. cases (isDc (band c) k)
-        (λ d. absurd (let h = rw (g, d) at e in let z : _≡_ {A = ℕ} 0 1 = cc in omega arith))
-        (λ d. cases (isPilot c y (usedOf (band c) k))
-          (λ p. absurd (let h = rw (g, d, p) at e in let z : _≡_ {A = ℕ} 0 1 = cc in omega arith))
-          (λ p. (g, d, p))))
+    (λ g. absurd (let h = rw g at e in let z : _≡_ {A = ℕ} 0 1 = cc in omega arith))
+    (λ g. cases (isDc (band c) k)
+    (λ d. absurd (let h = rw (g, d) at e in let z : _≡_ {A = ℕ} 0 1 = cc in omega arith))
+    (λ d. cases (isPilot c y (usedOf (band c) k))
+    (λ p. absurd (let h = rw (g, d, p) at e in let z : _≡_ {A = ℕ} 0 1 = cc in omega arith))
+    (λ p. (g, d, p))))
 
 -- PLACE PUTS A POINT WHERE LOCATE FOUND IT. Where a carrier holds data, it is the place of the address that `locate` gives.
 pub placed-where-located : (c : Setup) (y k slot s m : ℕ) → locateOf c y k ≡ accepted (point slot s m)

@@ -3,3 +3,4 @@ pub mod Accept
 pub mod ByMode
 pub mod Slot
 pub mod Law
+pub mod Outcome

@@ -30,7 +30,11 @@ pub enum Located {
     Guard,
     Dc,
     Pilot,
-    Data { slot: usize, subchannel: usize, index: usize },
+    Data {
+        slot: usize,
+        subchannel: usize,
+        index: usize,
+    },
     Refused(u8),
 }
 
@@ -114,7 +118,11 @@ pub fn is_four_sizes(size: usize) -> bool
 fn is_size(c: Setup) -> bool
     ensures { λ r. ⌜ r ≡ isSize c ⌝ }
 {
-    if c.mode < 2 { c.size == 2048 } else { is_four_sizes(c.size) }
+    if c.mode < 2 {
+        c.size == 2048
+    } else {
+        is_four_sizes(c.size)
+    }
 }
 
 // The number of the first of questions 1, 2 and 3 that is answered no, or 0.
@@ -144,3 +152,129 @@ fn bin_spot(slot: usize, d: usize) -> Spot
     }
 }
 
+// Where a point lies in its slot.
+pub fn spot(c: Setup, slot: usize, subchannel: usize, index: usize) -> Spot
+    requires { ⌜ Valid c ⌝ }
+    requires { ⌜ (subchannel < Subchannels c) × (index < 48) ⌝ }
+    ensures { λ r. ⌜ r ≡ spotOf c slot subchannel index ⌝ }
+{
+    if c.mode == 0 {
+        return pusc_dl::spot(c.cell, subchannel, index);
+    }
+    if c.mode == 1 {
+        return pusc_ul::spot(c.cell, subchannel, index);
+    }
+    if c.mode == 2 {
+        return bin_spot(
+            slot,
+            ofusc::data_number(width(c), c.cell, subchannel, index),
+        );
+    }
+    bin_spot(slot, amc::data_number(c.cell, subchannel, index))
+}
+
+pub fn is_pilot(c: Setup, symbol: usize, used: usize) -> bool
+    ensures { λ r. ⌜ r ≡ isPilot c symbol used ⌝ }
+{
+    if c.mode == 0 {
+        return pusc_dl::is_pilot(symbol, used);
+    }
+    if c.mode == 1 {
+        return pusc_ul::is_pilot(symbol % 3, used);
+    }
+    carriers::is_bin_pilot(symbol, used)
+}
+
+// Whose point a used number holds that is no pilot.
+fn address(c: Setup, symbol: usize, used: usize) -> Address
+    requires { ⌜ Valid c ⌝ }
+    requires { ⌜ used < BandOf c .used ⌝ }
+    requires { ⌜ isPilot c symbol used ≡ false ⌝ }
+    ensures { λ r. ⌜ r ≡ addressOf c symbol used ⌝ }
+{
+    if c.mode == 0 {
+        return pusc_dl::address(c.cell, symbol % 2, used);
+    }
+    if c.mode == 1 {
+        return pusc_ul::address(c.cell, symbol % 3, used);
+    }
+    let d = carriers::data_of_used(symbol, used);
+    if c.mode == 2 {
+        return ofusc::address(width(c), c.cell, d);
+    }
+    amc::address(c.cell, d)
+}
+
+// The place of a spot of a slot.
+fn at(c: Setup, slot: usize, x: Spot) -> Placed
+    requires { ⌜ Valid c ⌝ }
+    requires { ⌜ (slot < 512) × (x .offset < Symbols c) × (x .used < BandOf c .used) ⌝ }
+    ensures { λ r. ⌜ placed r ≡ accepted (placeAt c slot x) ⌝ }
+{
+    Placed::At {
+        symbol: slot * symbols(c) + x.offset,
+        carrier: carriers::carrier(band(c), x.used),
+    }
+}
+
+// The zone's symbol and the carrier of a point, or the first refusal of 1, 2, 3, 4, 5, 6.
+pub fn place(setup: Setup, slot: usize, subchannel: usize, index: usize) -> Placed
+    ensures { λ r. ⌜ placed r ≡ placeOf setup slot subchannel index ⌝ }
+{
+    let k = refusal(setup);
+    if k != 0 {
+        return Placed::Refused(k);
+    }
+    if 512 <= slot {
+        return Placed::Refused(4);
+    }
+    if subchannels(setup) <= subchannel {
+        return Placed::Refused(5);
+    }
+    if 48 <= index {
+        return Placed::Refused(6);
+    }
+    at(setup, slot, spot(setup, slot, subchannel, index))
+}
+
+// What a carrier of an accepted symbol holds.
+fn content(c: Setup, symbol: usize, carrier: usize) -> Located
+    requires { ⌜ Valid c ⌝ }
+    requires { ⌜ carrier < c .size ⌝ }
+    ensures { λ r. ⌜ located r ≡ accepted (contentOf c symbol carrier) ⌝ }
+{
+    let b = band(c);
+    if carriers::is_guard(b, c.size, carrier) {
+        return Located::Guard;
+    }
+    if carriers::is_dc(b, carrier) {
+        return Located::Dc;
+    }
+    let used = carriers::used(b, carrier);
+    if is_pilot(c, symbol, used) {
+        return Located::Pilot;
+    }
+    let a = address(c, symbol, used);
+    Located::Data {
+        slot: symbol / symbols(c),
+        subchannel: a.subchannel,
+        index: a.index,
+    }
+}
+
+// What a carrier holds in a symbol of the zone, or the first refusal of 1, 2, 3, 4, 7.
+pub fn locate(setup: Setup, symbol: usize, carrier: usize) -> Located
+    ensures { λ r. ⌜ located r ≡ locateOf setup symbol carrier ⌝ }
+{
+    let k = refusal(setup);
+    if k != 0 {
+        return Located::Refused(k);
+    }
+    if 512 * symbols(setup) <= symbol {
+        return Located::Refused(4);
+    }
+    if setup.size <= carrier {
+        return Located::Refused(7);
+    }
+    content(setup, symbol, carrier)
+}

@@ -1,9 +1,7 @@
 -- `map::band` meets its contract. Assumes nothing.
 use native.Mathlib.Omega.{arith}
-use Rattle.map.proofs.ByMode.{bin-width}
+use Rattle.map.proofs.ByMode.{bin-width, mode-0, mode-1, mode-bins}
 use Rattle.ofusc.proofs.Sequence.{size}
-use mathlib.Core.Path.{sym}
-use Rattle.map.proofs.ByMode.{mode-0, mode-1, mode-bins}
 use Rattle.map.specs.Mode.{band}
 use borrow.Author.Needs.{needs}
 use Rattle.map.proofs.band.Statement.{statement}
@@ -27,7 +25,7 @@ width-requires : tie.Need-width-requires
 width-requires c κs = search needs
 
 bin-band-requires : tie.Need-bin-band-requires
-bin-band-requires c κs = ?
+bin-band-requires c κs = omega (arith, size (bin-width (c .before .before .before .before .before .pre) (c .before .before .before .if1 .left) (c .before .if2 .left)))
 
 returns-3 : tie.Need-returns-3
 unfolding band

@@ -1,8 +1,8 @@
 -- `map::cells` meets its contract. Assumes nothing.
+use Rattle.map.specs.Mode.{width, cells}
+use native.Mathlib.Nat.{mul-le-mul}
 use native.Mathlib.Omega.{arith}
-use mathlib.Core.Path.{sym}
 use Rattle.map.proofs.ByMode.{mode-0, mode-1, mode-2, mode-3}
-use Rattle.map.specs.Mode.{cells}
 use borrow.Author.Needs.{needs}
 use Rattle.map.proofs.cells.Statement.{statement}
 use Rattle.map.proofs.cells.Tie as tie
@@ -22,7 +22,8 @@ width-requires-2 : tie.Need-width-requires-2
 width-requires-2 c κs = search needs
 
 mul-result : tie.Need-mul-result
-mul-result c = ?
+unfolding width
+mul-result c = omega (arith, mul-le-mul {n₁ = c .before .width .result} {m₁ = c .width2 .result} {n₂ = 32} {m₂ = 32} (omega arith) (omega arith))
 
 returns-3 : tie.Need-returns-3
 unfolding cells

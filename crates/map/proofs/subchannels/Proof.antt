@@ -1,5 +1,4 @@
 -- `map::subchannels` meets its contract. Assumes nothing.
-use mathlib.Core.Path.{sym}
 use Rattle.map.proofs.ByMode.{mode-0, mode-1, mode-bins}
 use Rattle.map.specs.Mode.{subchannels}
 use borrow.Author.Needs.{needs}

@@ -1,6 +1,5 @@
 -- `map::symbols` meets its contract. Assumes nothing.
 use borrow.Author.Needs.{needs}
-use mathlib.Core.Path.{sym}
 use Rattle.map.proofs.ByMode.{mode-0, mode-1, mode-bins}
 use Rattle.map.specs.Mode.{symbols}
 use Rattle.map.proofs.symbols.Statement.{statement}
