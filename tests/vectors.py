@@ -21,6 +21,7 @@ from reference import AMC, OFUSC, PUSC_DL, PUSC_UL
 
 ROOT = os.path.dirname(os.path.dirname(os.path.abspath(__file__)))
 LARGEST = 2**64 - 1
+INPUT_ROOM = 262144  # what a vector program reads
 SETUPS = [(mode, size) for mode in range(4) for size in ref.sizes(mode)]
 
 
@@ -196,7 +197,9 @@ def files(name):
     crate, requests, answer = SETS[name]
     lines = [(" ".join(map(str, request)), answer(request)) for request in requests()]
     folder = os.path.join(ROOT, "crates", crate)
-    yield os.path.join(folder, "stdin"), "".join("%s\n" % request for request, _ in lines)
+    asked = "".join("%s\n" % request for request, _ in lines)
+    assert len(asked) <= INPUT_ROOM
+    yield os.path.join(folder, "stdin"), asked
     yield os.path.join(folder, "stdout"), "".join("%s: %s\n" % line for line in lines)
 
 
