@@ -15,12 +15,12 @@ use Rattle.text.specs.Text.{digits, decimal, Written, written, put, wrot
 
 -- ---- digits
 
-ten : (x : ℕ) → (x < 10) ⊎ (10 ≤ x)
-ten x = by (ltb x 10) refl
+pub below : (x n : ℕ) → (x < n) ⊎ (n ≤ x)
+below x n = by (ltb x n) refl
   where
-    by : (b : Bool) → ltb x 10 ≡ b → (x < 10) ⊎ (10 ≤ x)
-    by true e = inl (ltb-true x 10 e)
-    by false e = inr (ltb-false x 10 e)
+    by : (b : Bool) → ltb x n ≡ b → (x < n) ⊎ (n ≤ x)
+    by true e = inl (ltb-true x n e)
+    by false e = inr (ltb-false x n e)
 
 below-ten : (k x : ℕ) → x < 10 → digits k x ≡ (48 + x) ∷ []
 unfolding digits
@@ -39,7 +39,7 @@ enough (suc k) (suc j) x h g =
     ⊎-elim
     (λ small. below-ten (suc k) x small ∙ sym (below-ten (suc j) x small))
     (λ large. from-ten k x large ∙ ap (λ (l : List ℕ). l ++ ((48 + x % 10) ∷ [])) (enough k j (x / 10) (omega arith) (omega arith)) ∙ sym (from-ten j x large))
-    (ten x)
+    (below x 10)
 
 pub decimal-one : (x : ℕ) → x < 10 → decimal x ≡ (48 + x) ∷ []
 unfolding decimal
@@ -59,7 +59,7 @@ decimal-short (suc k) x h =
     ⊎-elim
     (λ small. rw (decimal-one x small) (omega arith))
     (λ large. rw (decimal-more x large, length-append) (omega (arith, decimal-short k (x / 10) (omega arith))))
-    (ten x)
+    (below x 10)
 
 pub decimal-fits : (x : ℕ) → x < 2 ^ 64 → length (decimal x) ≤ 20
 decimal-fits x h = decimal-short 19 x (omega arith)

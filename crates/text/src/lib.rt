@@ -5,8 +5,9 @@
 ghost use mathlib.Core.Path.{_≡_};
 ghost use mathlib.Core.List.{[], _∷_};
 ghost use Prim.Native.Nat.{_+_, _≤_, _<_};
-ghost use lib.ListN.{length};
+ghost use lib.ListN.{length, getD, drop};
 ghost use Rattle.text.specs.Text.{decimal, written, wrote};
+ghost use Rattle.text.specs.Text.{found, digitOf, withDigit, pastSpaces, numberAt};
 
 // Puts one byte.
 pub fn put_byte(dest: &mut [u8], at: usize, byte: u8) -> usize
@@ -58,7 +59,9 @@ pub struct Number {
 
 // Reads the number in base ten that stands at a place of `src`, past spaces. It is 0 where no digit
 // stands there, and usize::MAX where it is larger than that.
-pub fn read_number(src: &[u8], at: usize) -> Number {
+pub fn read_number(src: &[u8], at: usize) -> Number
+    ensures { λ r. ⌜ found (r .value) (r .next) ≡ numberAt (now (src .entry)) at ⌝ }
+{
     let mut next = past_spaces(src, at);
     let mut value = 0;
     let mut digit = digit_at(src, next);
@@ -74,7 +77,9 @@ pub fn read_number(src: &[u8], at: usize) -> Number {
 }
 
 // The first place from this one on that has no space.
-fn past_spaces(src: &[u8], at: usize) -> usize {
+fn past_spaces(src: &[u8], at: usize) -> usize
+    ensures { λ r. ⌜ r ≡ pastSpaces at (drop at (now (src .entry))) ⌝ }
+{
     let mut next = at;
     while next < src.len() && src[next] == b' ' {
         next += 1;
@@ -84,7 +89,7 @@ fn past_spaces(src: &[u8], at: usize) -> usize {
 
 // The digit at a place of `src`, or 10 where there is none.
 fn digit_at(src: &[u8], at: usize) -> usize
-    ensures { λ r. ⌜ (r < 10 → at < length (now (src .entry))) ⌝ }
+    ensures { λ r. ⌜ r ≡ digitOf (getD (now (src .entry)) at 0) ⌝ }
 {
     if at >= src.len() {
         return 10;
@@ -102,6 +107,7 @@ fn digit_at(src: &[u8], at: usize) -> usize
 // A number with one more digit, or usize::MAX.
 fn with_digit(value: usize, digit: usize) -> usize
     requires { ⌜ digit < 10 ⌝ }
+    ensures { λ r. ⌜ r ≡ withDigit value digit ⌝ }
 {
     if value > (usize::MAX - digit) / 10 {
         return usize::MAX;

@@ -1,19 +1,13 @@
 -- `text::put_bytes` meets its contract. The loop's invariant: the first i bytes are put, and `dest` is as long as it was.
 -- Assumes nothing.
 use borrow.Author.Needs.{needs}
-use mathlib.Core.Path.{_≡_, refl, sym, ap, _∙_}
-use mathlib.Core.List.{List}
-use native.Mathlib.Omega.{arith}
-use native.Mathlib.Nat.{le-antisymm}
-use Prim.Native.Nat.{ℕ, _≤_, _-_, _+_}
-use lib.ListN.{length, take, set, getD, length-set}
-use lib.Seq.{take-length}
-use Rattle.text.specs.Text.{put, wrote, written}
+use mathlib.Core.Path.{_≡_, refl, sym}
+use Prim.Native.Nat.{_≤_, _-_}
+use lib.ListN.{length, take, length-set}
+use Rattle.text.specs.Text.{put}
 use Rattle.text.specs.Laws.{put-none, put-next, all-bytes}
 use Rattle.text.proofs.put_bytes.Statement.{statement}
 use Rattle.text.proofs.put_bytes.Tie as tie
-use Rattle.text.proofs.put_bytes.Reads as reads
-use Rattle.text.proofs.put_bytes.Lts as lts
 
 abbrev Inv-loop : tie.InvT-loop
 Inv-loop dest₀ at bytes i₀ dest i = (i ≤ length bytes) × (dest ≡ put dest₀ at (take i bytes)) × (length dest ≡ length dest₀)
