@@ -182,6 +182,8 @@ def test_planners_figures():
                 assert all(sum(hits[k : k + n - 1]) <= 2 for k in range(48 - (n - 1) + 1))
                 total += count
             assert total == 48
+    assert ref.ofusc_collisions(256, 10, 0, 4, 2)[2] == 32
+    assert ref.ofusc_collisions(512, 32, 0, 45, 7)[2] == 14
     for _ in range(200):
         a, b = dice.sample(range(2352), 2)
         assert ref.amc_collisions(a, b)[2] <= 3
