@@ -7,7 +7,6 @@ ghost use Prim.Native.Nat.{_+_, _*_, _<_, _≤_};
 ghost use lib.Dec.{eqb};
 ghost use Rattle.base.specs.Choice.{pick};
 ghost use Rattle.base.specs.Steps.{entry, rotate, unrotate, skip, unskip};
-ghost use Rattle.pusc_dl.specs.Table.{renumbering, renumberingInverse};
 ghost use Rattle.pusc_dl.specs.Cluster as cluster;
 ghost use Rattle.pusc_dl.specs.Cluster.{firstPilot, secondPilot, isClusterPilot, clusterPlace, clusterData};
 ghost use Rattle.pusc_dl.specs.Group.{groupIn, groupSize, groupData, groupSubchannel, groupIndex};
@@ -301,34 +300,21 @@ fn turn_back(n: usize, c: usize, y: usize) -> usize
     (y + (n - c % n)) % n
 }
 
-// R[i], and the i with R[i] = l.
-fn renumbered(i: usize) -> usize
-    requires { ⌜ i < 120 ⌝ }
-    ensures { λ r. ⌜ (r ≡ entry renumbering i) × (r < 256) ⌝ }
-{
-    wide(RENUMBERING[i])
-}
-
-fn unrenumbered(l: usize) -> usize
-    requires { ⌜ l < 120 ⌝ }
-    ensures { λ r. ⌜ (r ≡ entry renumberingInverse l) × (r < 256) ⌝ }
-{
-    wide(RENUMBERING_INVERSE[l])
-}
-
 // The only passage between the two numbers of a cluster.
 fn renumber(cell: usize, p: Physical) -> Logical
     requires { ⌜ (cell < 32) × (p .0 < 120) ⌝ }
     ensures { λ r. ⌜ (r ≡ cluster.renumber cell p) × (r .0 < 120) ⌝ }
 {
-    Logical(renumbered(turn(120, 13 * cell, p.0)))
+    let i = turn(120, 13 * cell, p.0);
+    Logical(wide(RENUMBERING[i]))
 }
 
 fn unrenumber(cell: usize, l: Logical) -> Physical
     requires { ⌜ (cell < 32) × (l .0 < 120) ⌝ }
     ensures { λ r. ⌜ (r ≡ cluster.unrenumber cell l) × (r .0 < 120) ⌝ }
 {
-    Physical(turn_back(120, 13 * cell, unrenumbered(l.0)))
+    let i = l.0;
+    Physical(turn_back(120, 13 * cell, wide(RENUMBERING_INVERSE[i])))
 }
 
 // The two pilots of a cluster.

@@ -19,7 +19,12 @@ turn-back-requires-3 c κs = search (quotient, needs)
 
 returns : tie.Need-returns
 unfolding groupSubchannel groupIndex baseInverse
-returns c = ((cc, cc), (search needs, search needs))
+returns c =
+    let m = c .before .before .before .before .group-size .ensures .0 in
+    let x = c .before .before .before .turn-back .ensures .0 in
+    let i = c .before .before .of-size .ensures .0 in
+    let s = c .before .turn-back2 .ensures .0 in
+    ((rw (s, i, x, m), rw (c .turn-back3 .ensures .0, s, i, x, m)), (search needs, search needs))
 
 pub group-address-spec : {M : Type 1} → statement M
 group-address-spec =

@@ -14,7 +14,12 @@ add-result c = omega (arith, digits-lt (c .before .before .before .turn .ensures
 
 returns : tie.Need-returns
 unfolding groupData baseOf
-returns c = (cc, rw (← c .before .before .before .before .group-size .ensures .0) (digits-lt (c .before .before .before .turn .ensures .1) (c .turn3 .ensures .1)))
+returns c =
+    let n = c .before .before .before .turn .ensures in
+    let m = c .before .before .before .before .group-size .ensures in (
+      rw (c .turn3 .ensures .0, c .before .of-size .ensures .0, c .before .before .turn2 .ensures .0, n .0, m .0),
+      rw (← m .0) (digits-lt (n .1) (c .turn3 .ensures .1)),
+    )
 
 pub group-data-spec : {M : Type 1} → statement M
 group-data-spec =
