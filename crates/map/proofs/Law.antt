@@ -20,7 +20,7 @@ use Rattle.map.specs.Question.{askSetup, isMode, isSize, isCell, isSlot,
 use Rattle.map.specs.Place.{Place, Content, point, placeAt, placeOf, pointAt, contentOf, locateOf}
 use Rattle.map.specs.Valid.{Valid}
 use Rattle.map.proofs.Accept.{valid, passes}
-use Rattle.map.proofs.ByMode.{symbols-range}
+use Rattle.map.proofs.ByMode.{symbols-range, size-few, subchannels-few}
 use Rattle.map.proofs.Slot.{LawOf, slot-law, band-law}
 
 -- what an accepted setup is
@@ -188,3 +188,14 @@ pub data-elsewhere : (c : Setup) (y k : ℕ) {w : Content} → locateOf c y k �
 data-elsewhere c y k e g d np =
     let q = locating c y k e in
     (y / symbols c, a c (q .is-valid) y k g d np .subchannel, a c (q .is-valid) y k g d np .index, data-placed c (q .is-valid) y k g d np (q .symbol-lt))
+
+-- the numbers of an accepted answer are small
+pub place-small : (c : Setup) (slot s m : ℕ) {p : Place} → placeOf c slot s m ≡ accepted p → (p .symbol < 1536) × (p .carrier < 2048)
+place-small c slot s m e =
+    let q = locating c _ _ (located-where-placed c slot s m e) in
+    omega (arith, q .symbol-lt, q .carrier-below, symbols-range (q .is-valid), size-few (q .is-valid))
+
+pub point-small : (c : Setup) (y k slot s m : ℕ) → locateOf c y k ≡ accepted (point slot s m) → (slot < 512) × (s < 70) × (m < 48)
+point-small c y k slot s m e =
+    let q = placing c slot s m (placed-where-located c y k slot s m e) in
+    omega (arith, q .slot-lt, q .subchannel-lt, q .index-lt, subchannels-few (q .is-valid))
