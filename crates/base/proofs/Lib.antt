@@ -5,3 +5,4 @@ pub mod Perm
 pub mod LeaveOut
 pub mod Table
 pub mod Chain
+pub mod Tabulate

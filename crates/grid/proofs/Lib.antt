@@ -1,0 +1,2 @@
+-- Laws of grids.
+pub mod Points

@@ -1,0 +1,52 @@
+-- How fill and empty go about it, put by put: what the inner functions' contracts cite. No reader needs these to know what the calls do.
+use mathlib.Core.List.{List}
+use Prim.Native.Nat.{ℕ, zero, suc, _+_, _*_}
+use lib.ListN.{set}
+use lib.Ieee.{Float}
+use Rattle.base.specs.Choice.{pick}
+use Rattle.carriers.specs.Band.{carrierOf}
+use Rattle.map.specs.declared.Setup.{Setup}
+use Rattle.map.specs.Mode.{symbols, band, isPilot}
+use Rattle.grid.specs.declared.Point.{Point}
+use Rattle.grid.specs.Points.{pointAt}
+use Rattle.grid.specs.Row.{position}
+use Rattle.grid.specs.Grid.{standsAt, pointNumber}
+
+-- a buffer with point n put
+unfoldable pub putPoint : List Float → ℕ → Point → List Float
+putPoint floats n p = set (set floats (n * 2) (p .i)) (n * 2 + 1) (p .q)
+
+-- the first m points of a source put at their places
+unfoldable pub puts : (ℕ → ℕ) → (ℕ → Point) → ℕ → List Float → List Float
+puts place source zero floats = floats
+puts place source (suc m) floats = putPoint (puts place source m floats) (place m) (source m)
+
+-- the pilot point put on the pilots of a row among its first u used numbers
+unfoldable pub pilotsBelow : Setup → ℕ → Point → ℕ → ℕ → List Float → List Float
+pilotsBelow c slot p row zero floats = floats
+pilotsBelow c slot p row (suc u) floats =
+    let before = pilotsBelow c slot p row u floats in
+    pick (isPilot c (slot * symbols c + row) u) (putPoint before (position c row (carrierOf (band c) u)) p) before
+
+-- the same in the first rows of a slot
+unfoldable pub pilotRows : Setup → ℕ → Point → ℕ → List Float → List Float
+pilotRows c slot p zero floats = floats
+pilotRows c slot p (suc row) floats = pilotsBelow c slot p row (band c .used) (pilotRows c slot p row floats)
+
+-- the points of one subchannel, and of the first s subchannels, laid on the grid
+unfoldable pub laidOne : Setup → ℕ → List Float → ℕ → List Float → List Float
+laidOne c slot points s floats =
+    puts (λ m. standsAt c slot (pointNumber s m)) (λ m. pointAt points (pointNumber s m)) 48 floats
+
+unfoldable pub laid : Setup → ℕ → List Float → ℕ → List Float → List Float
+laid c slot points zero floats = floats
+laid c slot points (suc s) floats = laidOne c slot points s (laid c slot points s floats)
+
+-- the points of one subchannel, and of the first s subchannels, taken off the grid
+unfoldable pub takenOne : Setup → ℕ → List Float → ℕ → List Float → List Float
+takenOne c slot grid s floats =
+    puts (λ m. pointNumber s m) (λ m. pointAt grid (standsAt c slot (pointNumber s m))) 48 floats
+
+unfoldable pub taken : Setup → ℕ → List Float → ℕ → List Float → List Float
+taken c slot grid zero floats = floats
+taken c slot grid (suc s) floats = takenOne c slot grid s (taken c slot grid s floats)
