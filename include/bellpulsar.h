@@ -1,7 +1,7 @@
 /* Bellpulsar: the subcarrier map of IEEE 802.16e OFDMA, proved.
  *
- * Every call returns 0, or the number of the first question of document 01 that is answered no,
- * and then nothing is written. Pointers are not null and do not overlap. Any number may stand in any field.
+ * Every call returns 0, or the number of the first question of document 01 that is answered no;
+ * on a refusal nothing is written. Pointers are not null and do not overlap. Any number may stand in any field.
  *
  * mode: 0 PUSC downlink, 1 PUSC uplink, 2 optional FUSC, 3 AMC (six bins by one symbol).
  * size: the FFT size. cell: the permutation base.

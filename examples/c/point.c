@@ -4,6 +4,13 @@
 
 #include "bellpulsar.h"
 
+/* A field's number; one that 32 bits do not hold is as far out of range as they can say. */
+static uint32_t field(const char *word)
+{
+    unsigned long long n = strtoull(word, NULL, 10);
+    return n > UINT32_MAX ? UINT32_MAX : (uint32_t)n;
+}
+
 int main(int argc, char **argv)
 {
     if (argc != 7) {
@@ -12,7 +19,7 @@ int main(int argc, char **argv)
     }
     uint32_t f[6];
     for (int i = 0; i < 6; i++)
-        f[i] = (uint32_t)strtoul(argv[i + 1], NULL, 10);
+        f[i] = field(argv[i + 1]);
 
     uint32_t symbol, carrier, kind, slot, subchannel, index;
     uint32_t refused = bp_place(f[0], f[1], f[2], f[3], f[4], f[5], &symbol, &carrier);

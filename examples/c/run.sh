@@ -7,5 +7,5 @@ if ! rt staticlib capi >target/example.log 2>&1; then
     cat target/example.log >&2
     exit 1
 fi
-cc -std=c11 -O2 -Wall -Wextra -I include examples/c/point.c target/staticlib/libcapi.a -o target/point
+"${CC:-cc}" -std=c11 -O2 -Wall -Wextra -I include examples/c/point.c target/staticlib/libcapi.a -o target/point
 exec target/point "$@"

@@ -1,4 +1,4 @@
-// The C interface: thin functions over the engine. Each returns 0, or document 01's refusal number, and then nothing is written.
+// The C interface: thin functions over the engine. Each returns 0, or document 01's refusal number; on a refusal nothing is written.
 use map::Located;
 use map::Placed;
 use map::Setup;

@@ -1,4 +1,4 @@
--- Document 01, "Known points": the starred lines, in its order, as one statement. A line's number is its place among the eleven.
+-- Document 01, "Known points": the starred lines, in its order, as one statement. A line's number is its place among the eleven; those on collisions (3 to 6) and on plans (11) come with their calls.
 use mathlib.Core.Path.{_≡_}
 use mathlib.Core.Bool.{Bool, true, false}
 use mathlib.Core.List.{List, [], _∷_}
@@ -27,8 +27,8 @@ tiles = 1 ∷ 83 ∷ 166 ∷ 256 ∷ 324 ∷ 380 ∷ []
 pub record AnyCell (cell : ℕ) : Type 0 where
   pub data-in-symbol-0 : isPoint (locateOf (setup 0 2048 cell) 0 184) ≡ true
   pub pilot-in-symbol-1 : locateOf (setup 0 2048 cell) 1 184 ≡ accepted pilot
-  pub guard-below : locateOf (setup 0 2048 cell) 0 183 ≡ accepted guard
-  pub dc-in-the-middle : locateOf (setup 0 2048 cell) 0 1024 ≡ accepted dc
+  pub guard-below : (symbol : ℕ) → symbol < 1024 → locateOf (setup 0 2048 cell) symbol 183 ≡ accepted guard
+  pub dc-in-the-middle : (symbol : ℕ) → symbol < 1024 → locateOf (setup 0 2048 cell) symbol 1024 ≡ accepted dc
 
 pub record Known : Type 0 where
   -- Spread 1024, cell 0, subchannel 3, index 5: carrier 553 in slot 0, 552 in slot 1.
