@@ -7,7 +7,7 @@ use native.Mathlib.Omega.{arith}
 use mathlib.Core.Bool.{not}
 use lib.Dec.{T, T-not, eqb, eqb-refl}
 use lib.ListN.{length, getD, replicate, length-replicate, getD-replicate}
-use lib.Ieee.{Float}
+use lib.Ieee.{Float, nan}
 use Rattle.map.specs.declared.Setup.{Setup}
 use Rattle.map.specs.Mode.{subchannels, symbols}
 use Rattle.map.specs.Place.{Content, guard, dc, pilot, point}
@@ -43,8 +43,8 @@ cleared : (n k : ℕ) → k * 2 + 1 < n → pointAt (replicate n zero32) k ≡ z
 unfolding pointAt
 cleared n k h =
     λ t. record {
-      i = getD-replicate n (k * 2) zero32 zero32 (omega arith) t;
-      q = getD-replicate n (k * 2 + 1) zero32 zero32 h t;
+      i = getD-replicate n (k * 2) zero32 nan (omega arith) t;
+      q = getD-replicate n (k * 2 + 1) zero32 nan h t;
     }
 
 -- what a carrier holds, told apart by a number

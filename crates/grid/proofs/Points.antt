@@ -5,9 +5,9 @@ use Prim.Native.Nat.{ℕ, zero, suc, _+_, _*_, _/_, _%_, _<_, _≤_}
 use native.Mathlib.Nat.{add-zero, add-suc}
 use native.Mathlib.Omega.{arith}
 use lib.Dec.{eqb}
-use lib.ListN.{length, getD, set, length-set}
-use lib.Seq.{getD-set-same, getD-set-other}
-use lib.Ieee.{Float}
+use lib.ListN.{length, getD, set, length-set, replicate, length-replicate, getD-replicate}
+use lib.Seq.{getD-set-same, getD-set-other, ext-getD}
+use lib.Ieee.{Float, nan}
 use borrow.Author.Tests.{eq-eqb, ne-eqb, eqb-true, eqb-false}
 use Rattle.base.specs.Choice.{pick}
 use Rattle.base.specs.Tabulate.{tabulate}
@@ -29,28 +29,28 @@ point-floats n f k h = λ t. record { i = in-phase t; q = quadrature t }
   where
     float : ℕ → Float
     float j = pick (eqb (j % 2) 0) (f (j / 2) .i) (f (j / 2) .q)
-    at : (j : ℕ) → j < n * 2 → getD (tabulate (n * 2) float) j zero32 ≡ float j
-    at j l = getD-tabulate (n * 2) float j zero32 l
+    at : (j : ℕ) → j < n * 2 → getD (tabulate (n * 2) float) j nan ≡ float j
+    at j l = getD-tabulate (n * 2) float j nan l
     even : float (k * 2) ≡ f k .i
     even = let e₁ : k * 2 % 2 ≡ 0 = omega arith in let e₂ : k * 2 / 2 ≡ k = omega arith in rw (e₁, e₂)
     odd : float (k * 2 + 1) ≡ f k .q
     odd = let e₁ : (k * 2 + 1) % 2 ≡ 1 = omega arith in let e₂ : (k * 2 + 1) / 2 ≡ k = omega arith in rw (e₁, e₂)
-    in-phase : getD (tabulate (n * 2) float) (k * 2) zero32 ≡ f k .i
+    in-phase : getD (tabulate (n * 2) float) (k * 2) nan ≡ f k .i
     in-phase = at (k * 2) (omega arith) ∙ even
-    quadrature : getD (tabulate (n * 2) float) (k * 2 + 1) zero32 ≡ f k .q
+    quadrature : getD (tabulate (n * 2) float) (k * 2 + 1) nan ≡ f k .q
     quadrature = at (k * 2 + 1) (omega arith) ∙ odd
 
 -- a buffer of n points is known by its points
 pub by-points : (l : List Float) (n : ℕ) (f : ℕ → Point) → length l ≡ n * 2 → ((k : ℕ) → k < n → pointAt l k ≡ f k) → l ≡ floatsOf n f
 unfolding floatsOf pointAt
-by-points l n f e h = tabulated zero32 l (n * 2) _ e float
+by-points l n f e h = tabulated nan l (n * 2) _ e float
   where
-    float : (j : ℕ) → j < n * 2 → getD l j zero32 ≡ pick (eqb (j % 2) 0) (f (j / 2) .i) (f (j / 2) .q)
+    float : (j : ℕ) → j < n * 2 → getD l j nan ≡ pick (eqb (j % 2) 0) (f (j / 2) .i) (f (j / 2) .q)
     float j lt =
         let p = h (j / 2) (omega arith) in
         cases (eqb (j % 2) 0)
-          (λ t. let z = eqb-true (j % 2) 0 t in let s : j / 2 * 2 ≡ j = omega arith in rw t (ap (λ (x : ℕ). getD l x zero32) (sym s) ∙ ap (λ (x : Point). x .i) p))
-          (λ t. let z = eqb-false (j % 2) 0 t in let s : j / 2 * 2 + 1 ≡ j = omega arith in rw t (ap (λ (x : ℕ). getD l x zero32) (sym s) ∙ ap (λ (x : Point). x .q) p))
+          (λ t. let z = eqb-true (j % 2) 0 t in let s : j / 2 * 2 ≡ j = omega arith in rw t (ap (λ (x : ℕ). getD l x nan) (sym s) ∙ ap (λ (x : Point). x .i) p))
+          (λ t. let z = eqb-false (j % 2) 0 t in let s : j / 2 * 2 + 1 ≡ j = omega arith in rw t (ap (λ (x : ℕ). getD l x nan) (sym s) ∙ ap (λ (x : Point). x .q) p))
 
 -- ---- one point put
 
@@ -62,17 +62,17 @@ pub put-same : (l : List Float) (n : ℕ) (p : Point) → n * 2 + 1 < length l �
 unfolding putPoint pointAt
 put-same l n p h = λ t. record { i = in-phase t; q = quadrature t }
   where
-    in-phase : getD (set (set l (n * 2) (p .i)) (n * 2 + 1) (p .q)) (n * 2) zero32 ≡ p .i
-    in-phase = getD-set-other (set l (n * 2) (p .i)) (n * 2 + 1) (n * 2) (p .q) zero32 (λ e. omega arith) ∙ getD-set-same l (n * 2) (p .i) zero32 (omega arith)
-    quadrature : getD (set (set l (n * 2) (p .i)) (n * 2 + 1) (p .q)) (n * 2 + 1) zero32 ≡ p .q
-    quadrature = getD-set-same (set l (n * 2) (p .i)) (n * 2 + 1) (p .q) zero32 (rw (length-set l (n * 2) (p .i)) h)
+    in-phase : getD (set (set l (n * 2) (p .i)) (n * 2 + 1) (p .q)) (n * 2) nan ≡ p .i
+    in-phase = getD-set-other (set l (n * 2) (p .i)) (n * 2 + 1) (n * 2) (p .q) nan (λ e. omega arith) ∙ getD-set-same l (n * 2) (p .i) nan (omega arith)
+    quadrature : getD (set (set l (n * 2) (p .i)) (n * 2 + 1) (p .q)) (n * 2 + 1) nan ≡ p .q
+    quadrature = getD-set-same (set l (n * 2) (p .i)) (n * 2 + 1) (p .q) nan (rw (length-set l (n * 2) (p .i)) h)
 
 pub put-other : (l : List Float) (n : ℕ) (p : Point) (k : ℕ) → (k ≡ n → ⊥) → pointAt (putPoint l n p) k ≡ pointAt l k
 unfolding putPoint pointAt
 put-other l n p k ne = λ t. record { i = kept (k * 2) (λ e. omega arith) (λ e. omega arith) t; q = kept (k * 2 + 1) (λ e. omega arith) (λ e. omega arith) t }
   where
-    kept : (j : ℕ) → (j ≡ n * 2 → ⊥) → (j ≡ n * 2 + 1 → ⊥) → getD (set (set l (n * 2) (p .i)) (n * 2 + 1) (p .q)) j zero32 ≡ getD l j zero32
-    kept j a b = getD-set-other (set l (n * 2) (p .i)) (n * 2 + 1) j (p .q) zero32 b ∙ getD-set-other l (n * 2) j (p .i) zero32 a
+    kept : (j : ℕ) → (j ≡ n * 2 → ⊥) → (j ≡ n * 2 + 1 → ⊥) → getD (set (set l (n * 2) (p .i)) (n * 2 + 1) (p .q)) j nan ≡ getD l j nan
+    kept j a b = getD-set-other (set l (n * 2) (p .i)) (n * 2 + 1) j (p .q) nan b ∙ getD-set-other l (n * 2) j (p .i) nan a
 
 -- ---- many points put
 
@@ -109,3 +109,16 @@ pub puts-more : (place : ℕ → ℕ) (source : ℕ → Point) (a m : ℕ) (l : 
 unfolding puts
 puts-more place source a zero l = rw (add-zero a)
 puts-more place source a (suc m) l = rw (add-suc a m) (ap (λ (x : List Float). putPoint x (place (a + m)) (source (a + m))) (puts-more place source a m l))
+
+-- ---- a buffer cleared from the front
+
+pub cleared-more : (l : List Float) (j : ℕ) → j < length l → ((k : ℕ) → k < j → getD l k nan ≡ zero32) → (k : ℕ) → k < j + 1 → getD (set l j zero32) k nan ≡ zero32
+cleared-more l j room h k lt =
+    cases (eqb k j)
+      (λ t. let e = eqb-true k j t in rw e (getD-set-same l j zero32 nan room))
+      (λ t. let e = eqb-false k j t in getD-set-other l j k zero32 nan e ∙ h k (omega arith))
+
+pub cleared-all : (l : List Float) (n : ℕ) → length l ≡ n → ((k : ℕ) → k < n → getD l k nan ≡ zero32) → l ≡ replicate n zero32
+cleared-all l n e h =
+    ext-getD nan l (replicate n zero32) (e ∙ sym (length-replicate n zero32))
+      (λ k lt. h k (rw (← e) lt) ∙ sym (getD-replicate n k zero32 nan (rw (← e) lt)))

@@ -3,7 +3,7 @@ use mathlib.Core.List.{List}
 use Prim.Native.Nat.{ℕ, _+_, _*_, _/_, _%_}
 use lib.Dec.{eqb}
 use lib.ListN.{getD, set}
-use lib.Ieee.{Float, ofBits, binary32}
+use lib.Ieee.{Float, ofBits, binary32, nan}
 use Rattle.base.specs.Choice.{pick}
 use Rattle.base.specs.Tabulate.{tabulate}
 use Rattle.grid.specs.declared.Point.{Point}
@@ -15,9 +15,9 @@ zero32 = ofBits binary32 0
 abbrev pub zeroPoint : Point
 zeroPoint = record { i = zero32; q = zero32 }
 
--- point n of a buffer, two floats a point
+-- point n of a buffer, two floats a point (past its end the library's list has no number, `nan`)
 unfoldable pub pointAt : List Float → ℕ → Point
-pointAt floats n = record { i = getD floats (n * 2) zero32; q = getD floats (n * 2 + 1) zero32 }
+pointAt floats n = record { i = getD floats (n * 2) nan; q = getD floats (n * 2 + 1) nan }
 
 -- the buffer of n points
 unfoldable pub floatsOf : ℕ → (ℕ → Point) → List Float
