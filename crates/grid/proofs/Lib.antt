@@ -1,5 +1,6 @@
 -- Laws of grids.
 pub mod Points
 pub mod Slot
+pub mod Pilots
 pub mod Ground
 pub mod Filled

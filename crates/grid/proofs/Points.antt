@@ -122,3 +122,19 @@ pub cleared-all : (l : List Float) (n : ℕ) → length l ≡ n → ((k : ℕ) �
 cleared-all l n e h =
     ext-getD nan l (replicate n zero32) (e ∙ sym (length-replicate n zero32))
       (λ k lt. h k (rw (← e) lt) ∙ sym (getD-replicate n k zero32 nan (rw (← e) lt)))
+
+-- ---- one point put at many places
+
+pub puts-one : (place : ℕ → ℕ) (p : Point) (m : ℕ) (l : List Float) (j : ℕ) → j < m → place j * 2 + 1 < length l → pointAt (puts place (λ i. p) m l) (place j) ≡ p
+unfolding puts
+puts-one place p zero l j lt room = absurd (omega arith)
+puts-one place p (suc m) l j lt room =
+    cases (eqb (place j) (place m))
+      (λ t. let q = eqb-true (place j) (place m) t in
+        rw q (put-same (puts place (λ i. p) m l) (place m) p (rw (length-puts place (λ i. p) m l, ← q) room)))
+      (λ t. let q = eqb-false (place j) (place m) t in
+        put-other (puts place (λ i. p) m l) (place m) p (place j) q
+        ∙ puts-one place p m l j (lower j m lt (λ z. q (ap place z))) room)
+  where
+    lower : (a b : ℕ) → a < suc b → (a ≡ b → ⊥) → a < b
+    lower a b l ne = omega arith

@@ -1,13 +1,17 @@
 -- How fill and empty go about it, put by put: what the inner functions' contracts cite. No reader needs these to know what the calls do.
 use mathlib.Core.List.{List}
-use Prim.Native.Nat.{ℕ, zero, suc, _+_, _*_}
+use Prim.Native.Nat.{ℕ, zero, suc, _+_, _*_, _/_, _%_}
+use lib.Dec.{eqb}
 use lib.ListN.{set}
 use lib.Ieee.{Float}
 use Rattle.base.specs.Choice.{pick}
 use Rattle.carriers.specs.Band.{carrierOf}
+use Rattle.carriers.specs.Bin.{binPilotPlace}
+use Rattle.pusc_dl.specs.Cluster.{firstPilot, secondPilot}
 use Rattle.map.specs.declared.Setup.{Setup}
-use Rattle.map.specs.Mode.{symbols, band, isPilot}
+use Rattle.map.specs.Mode.{byMode, width, symbols, band}
 use Rattle.grid.specs.declared.Point.{Point}
+use Rattle.grid.specs.declared.Comb.{Comb}
 use Rattle.grid.specs.Points.{pointAt}
 use Rattle.grid.specs.Row.{position}
 use Rattle.grid.specs.Grid.{standsAt, pointNumber}
@@ -21,17 +25,28 @@ unfoldable pub puts : (ℕ → ℕ) → (ℕ → Point) → ℕ → List Float �
 puts place source zero floats = floats
 puts place source (suc m) floats = putPoint (puts place source m floats) (place m) (source m)
 
--- the pilot point put on the pilots of a row among its first u used numbers
-unfoldable pub pilotsBelow : Setup → ℕ → Point → ℕ → ℕ → List Float → List Float
-pilotsBelow c slot p row zero floats = floats
-pilotsBelow c slot p row (suc u) floats =
-    let before = pilotsBelow c slot p row u floats in
-    pick (isPilot c (slot * symbols c + row) u) (putPoint before (position c row (carrierOf (band c) u)) p) before
+-- the pilots of symbol y of the zone: in each of `count` runs of `step` used numbers the places `first` and `second`
+unfoldable pub combOf : Setup → ℕ → Comb
+combOf c y =
+    byMode (c .mode)
+    (record { first = firstPilot y; second = secondPilot y; step = 14; count = 120 })
+    (record { first = 0; second = 3; step = 4; count = pick (eqb (y % 3) 1) 0 420 })
+    (record { first = binPilotPlace y; second = binPilotPlace y; step = 9; count = 6 * width c })
+    (record { first = binPilotPlace y; second = binPilotPlace y; step = 9; count = 6 * width c })
 
--- the same in the first rows of a slot
+-- the used number of a comb's pilot j, two a run
+abbrev pub pilotNumber : Comb → ℕ → ℕ
+pilotNumber b j = j / 2 * b .step + pick (eqb (j % 2) 0) (b .first) (b .second)
+
+-- the pilot point put on the pilots of a row, and of the first rows of a slot
+unfoldable pub pilotRow : Setup → ℕ → Point → ℕ → List Float → List Float
+pilotRow c slot p row floats =
+    let b = combOf c (slot * symbols c + row) in
+    puts (λ j. position c row (carrierOf (band c) (pilotNumber b j))) (λ j. p) (b .count * 2) floats
+
 unfoldable pub pilotRows : Setup → ℕ → Point → ℕ → List Float → List Float
 pilotRows c slot p zero floats = floats
-pilotRows c slot p (suc row) floats = pilotsBelow c slot p row (band c .used) (pilotRows c slot p row floats)
+pilotRows c slot p (suc row) floats = pilotRow c slot p row (pilotRows c slot p row floats)
 
 -- the points of one subchannel, and of the first s subchannels, laid on the grid
 unfoldable pub laidOne : Setup → ℕ → List Float → ℕ → List Float → List Float

@@ -9,7 +9,7 @@ ghost use Rattle.base.specs.Tabulate.{tabulate};
 ghost use Rattle.grid.specs.Points.{zero32, pointAt};
 ghost use Rattle.grid.specs.Row.{gridPoints};
 ghost use Rattle.grid.specs.Grid.{standsAt, pointNumber};
-ghost use Rattle.grid.specs.Model.{putPoint, pilotsBelow, pilotRows, laidOne, takenOne};
+ghost use Rattle.grid.specs.Model.{putPoint, combOf, pilotRow, pilotRows, laidOne, takenOne};
 
 // A point, in-phase first.
 pub struct Point {
@@ -28,6 +28,14 @@ pub enum Seen {
         index: usize,
     },
     Refused(u8),
+}
+
+// The pilots of a symbol: in each of `count` runs of `step` used numbers the places `first` and `second`.
+struct Comb {
+    first: usize,
+    second: usize,
+    step: usize,
+    count: usize,
 }
 
 // Point n of a buffer.
