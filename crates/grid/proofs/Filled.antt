@@ -19,7 +19,7 @@ use Rattle.grid.specs.Grid.{held, filled, standsAt, emptied, pointNumber
 use Rattle.grid.specs.Model.{puts, pilotRows, laidOne, laid, takenOne, taken}
 use Rattle.grid.proofs.Points.{length-floats, point-floats, by-points, length-puts, puts-miss, puts-hit, puts-more}
 use Rattle.grid.proofs.Slot.{contentAt, stands-lt, stands-holds, stands-alone, row-lt, point-stands}
-use Rattle.grid.proofs.Ground.{length-rows, rows-miss, rows-hit}
+use Rattle.grid.proofs.PilotRows.{length-rows, rows-miss, rows-hit}
 
 -- subchannel after subchannel is point after point
 pub laid-is : (c : Setup) (slot : ℕ) (points : List Float) (s : ℕ) (l : List Float) → laid c slot points s l ≡ puts (standsAt c slot) (pointAt points) (s * 48) l

@@ -2,5 +2,5 @@
 pub mod Points
 pub mod Slot
 pub mod Pilots
-pub mod Ground
+pub mod PilotRows
 pub mod Filled

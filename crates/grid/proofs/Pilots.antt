@@ -12,7 +12,7 @@ use Rattle.base.proofs.Test.{cases}
 use Rattle.carriers.specs.Bin.{isBinPilot, binPilotPlace}
 use Rattle.pusc_dl.specs.Cluster.{isClusterPilot, firstPilot, secondPilot}
 use Rattle.pusc_ul.specs.Tile.{isTilePilot}
-use Rattle.ofusc.specs.Width.{Width}
+use Rattle.ofusc.proofs.Sequence.{size}
 use Rattle.map.specs.declared.Setup.{Setup}
 use Rattle.map.specs.Mode.{width, band, isPilot}
 use Rattle.map.specs.Valid.{Valid, setup, pusc-dl, pusc-ul, ofusc, amc}
@@ -126,3 +126,20 @@ pilots-law (pusc-dl h) y =
 pilots-law (pusc-ul h) y = tiles-law (y % 3)
 pilots-law (ofusc {n = n} {cell = cell} w h) y = bins-law (width (setup 2 (64 * n) cell)) y
 pilots-law (amc {n = n} {cell = cell} w h) y = bins-law (width (setup 3 (64 * n) cell)) y
+
+-- a comb's numbers are small
+pub record Small (b : Comb) : Type 0 where
+  pub first-lt : b .first < 16
+  pub second-lt : b .second < 16
+  pub step-lt : b .step < 16
+  pub count-le : b .count ≤ 420
+
+pub comb-small : {c : Setup} → Valid c → (y : ℕ) → Small (combOf c y)
+unfolding combOf width
+comb-small (pusc-dl h) y = let l = cluster-lt y in record { first-lt = omega arith; second-lt = omega arith; step-lt = omega arith; count-le = omega arith }
+comb-small (pusc-ul h) y = record { first-lt = omega arith; second-lt = omega arith; step-lt = omega arith; count-le = cases (eqb (y % 3) 1) (λ t. rw t (omega arith)) (λ t. rw t (omega arith)) }
+comb-small (ofusc {n = n} w h) y = let l = place-lt y in record { first-lt = omega arith; second-lt = omega arith; step-lt = omega arith; count-le = omega (arith, size w .most) }
+comb-small (amc {n = n} w h) y = let l = place-lt y in record { first-lt = omega arith; second-lt = omega arith; step-lt = omega arith; count-le = omega (arith, size w .most) }
+
+pub small-of : {c : Setup} → Valid c → (y : ℕ) (k : Comb) → k ≡ combOf c y → Small k
+small-of v y k e = rw e (comb-small v y)

@@ -3,6 +3,7 @@ use mathlib.Core.Path.{_≡_, refl, sym, ap, ap₂, _∙_, subst}
 use mathlib.Core.List.{List}
 use Prim.Native.Nat.{ℕ, zero, suc, _+_, _*_, _/_, _%_, _<_, _≤_}
 use native.Mathlib.Nat.{add-zero, add-suc}
+use native.Mathlib.Numerals.{add-one}
 use native.Mathlib.Omega.{arith}
 use lib.Dec.{eqb}
 use lib.ListN.{length, getD, set, length-set, replicate, length-replicate, getD-replicate}
@@ -138,3 +139,14 @@ puts-one place p (suc m) l j lt room =
   where
     lower : (a b : ℕ) → a < suc b → (a ≡ b → ⊥) → a < b
     lower a b l ne = omega arith
+
+-- ---- a loop that puts, turn by turn
+
+pub puts-none : (place : ℕ → ℕ) (source : ℕ → Point) (l : List Float) → l ≡ puts place source 0 l
+unfolding puts
+puts-none place source l = refl
+
+pub puts-next : (place : ℕ → ℕ) (source : ℕ → Point) (m : ℕ) (l l′ before : List Float) → l′ ≡ putPoint l (place m) (source m) → l ≡ puts place source m before
+    → l′ ≡ puts place source (m + 1) before
+unfolding puts
+puts-next place source m l l′ before e h = rw (add-one m) (e ∙ ap (λ (x : List Float). putPoint x (place m) (source m)) h)

@@ -5,16 +5,15 @@ use lib.ListN.{length}
 use lib.Ieee.{Float}
 use Rattle.base.specs.Answer.{Answer, accepted, refused, ask}
 use Rattle.carriers.specs.declared.Spot.{Spot}
-use Rattle.carriers.specs.Band.{carrierOf}
 use Rattle.map.specs.declared.Setup.{Setup}
-use Rattle.map.specs.Mode.{subchannels, symbols, band, spotOf}
+use Rattle.map.specs.Mode.{subchannels, symbols, spotOf}
 use Rattle.map.specs.Question.{askSetup, isSlot, isSymbol, isCarrier}
 use Rattle.map.specs.Place.{Content, guard, dc, pilot, point, contentOf}
 use Rattle.grid.specs.declared.Point.{Point}
 use Rattle.grid.specs.declared.Seen.{Seen}
 use Rattle.grid.specs.declared.Seen.the-variants.{Nothing, Pilot, Data, Refused}
 use Rattle.grid.specs.Points.{pointAt, floatsOf, zeroPoint}
-use Rattle.grid.specs.Row.{gridPoints, position, rowOf, columnOf}
+use Rattle.grid.specs.Row.{gridPoints, position, usedPosition, rowOf, columnOf}
 use Rattle.grid.specs.Question.{arePoints, isGrid}
 
 -- the answer of a call with a buffer, and the buffer as it is then
@@ -57,7 +56,7 @@ fillOf c slot p points grid =
 unfoldable pub standsAt : Setup → ℕ → ℕ → ℕ
 standsAt c slot n =
     let x = spotOf c slot (n / 48) (n % 48) in
-    position c (x .offset) (carrierOf (band c) (x .used))
+    usedPosition c (x .offset) (x .used)
 
 unfoldable pub emptied : Setup → ℕ → List Float → List Float
 emptied c slot grid = floatsOf (48 * subchannels c) (λ n. pointAt grid (standsAt c slot n))

@@ -5,15 +5,14 @@ use lib.Dec.{eqb}
 use lib.ListN.{set}
 use lib.Ieee.{Float}
 use Rattle.base.specs.Choice.{pick}
-use Rattle.carriers.specs.Band.{carrierOf}
 use Rattle.carriers.specs.Bin.{binPilotPlace}
 use Rattle.pusc_dl.specs.Cluster.{firstPilot, secondPilot}
 use Rattle.map.specs.declared.Setup.{Setup}
-use Rattle.map.specs.Mode.{byMode, width, symbols, band}
+use Rattle.map.specs.Mode.{byMode, width, symbols}
 use Rattle.grid.specs.declared.Point.{Point}
 use Rattle.grid.specs.declared.Comb.{Comb}
 use Rattle.grid.specs.Points.{pointAt}
-use Rattle.grid.specs.Row.{position}
+use Rattle.grid.specs.Row.{usedPosition}
 use Rattle.grid.specs.Grid.{standsAt, pointNumber}
 
 -- a buffer with point n put
@@ -25,12 +24,16 @@ unfoldable pub puts : (ℕ → ℕ) → (ℕ → Point) → ℕ → List Float �
 puts place source zero floats = floats
 puts place source (suc m) floats = putPoint (puts place source m floats) (place m) (source m)
 
+-- the corners of the tiles; the middle symbol of a slot has none
+abbrev pub tileComb : ℕ → Comb
+tileComb y = record { first = 0; second = 3; step = 4; count = pick (eqb (y % 3) 1) 0 420 }
+
 -- the pilots of symbol y of the zone: in each of `count` runs of `step` used numbers the places `first` and `second`
 unfoldable pub combOf : Setup → ℕ → Comb
 combOf c y =
     byMode (c .mode)
     (record { first = firstPilot y; second = secondPilot y; step = 14; count = 120 })
-    (record { first = 0; second = 3; step = 4; count = pick (eqb (y % 3) 1) 0 420 })
+    (tileComb y)
     (record { first = binPilotPlace y; second = binPilotPlace y; step = 9; count = 6 * width c })
     (record { first = binPilotPlace y; second = binPilotPlace y; step = 9; count = 6 * width c })
 
@@ -38,11 +41,14 @@ combOf c y =
 abbrev pub pilotNumber : Comb → ℕ → ℕ
 pilotNumber b j = j / 2 * b .step + pick (eqb (j % 2) 0) (b .first) (b .second)
 
+abbrev pub pilotPlace : Setup → ℕ → Comb → ℕ → ℕ
+pilotPlace c row b j = usedPosition c row (pilotNumber b j)
+
 -- the pilot point put on the pilots of a row, and of the first rows of a slot
 unfoldable pub pilotRow : Setup → ℕ → Point → ℕ → List Float → List Float
 pilotRow c slot p row floats =
     let b = combOf c (slot * symbols c + row) in
-    puts (λ j. position c row (carrierOf (band c) (pilotNumber b j))) (λ j. p) (b .count * 2) floats
+    puts (pilotPlace c row b) (λ j. p) (b .count * 2) floats
 
 unfoldable pub pilotRows : Setup → ℕ → Point → ℕ → List Float → List Float
 pilotRows c slot p zero floats = floats

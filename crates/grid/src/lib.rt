@@ -1,15 +1,16 @@
 // Grids: laying a slot's points on the carriers, taking them off again, and looking at one carrier.
 use map::Setup;
 ghost use mathlib.Core.Path.{_≡_};
+ghost use lib.Ieee.{Float};
 ghost use Prim.Native.Nat.{_+_, _*_, _<_};
 ghost use lib.ListN.{length, replicate};
 ghost use Rattle.map.specs.Mode.{symbols, subchannels, band};
 ghost use Rattle.map.specs.Valid.{Valid};
 ghost use Rattle.base.specs.Tabulate.{tabulate};
 ghost use Rattle.grid.specs.Points.{zero32, pointAt};
-ghost use Rattle.grid.specs.Row.{gridPoints};
+ghost use Rattle.grid.specs.Row.{gridPoints, usedPosition};
 ghost use Rattle.grid.specs.Grid.{standsAt, pointNumber};
-ghost use Rattle.grid.specs.Model.{putPoint, combOf, pilotRow, pilotRows, laidOne, takenOne};
+ghost use Rattle.grid.specs.Model.{putPoint, combOf, tileComb, pilotNumber, pilotRow, pilotRows, laidOne, takenOne};
 
 // A point, in-phase first.
 pub struct Point {
@@ -64,4 +65,117 @@ fn clear(floats: &mut [f32])
     for j in 0..floats.len() {
         floats[j] = 0.0;
     }
+}
+
+// Where a used number of a row stands in the grid.
+fn position(c: Setup, row: usize, used: usize) -> usize
+    requires { ⌜ Valid c ⌝ }
+    requires { ⌜ (row < symbols c) × (used < band c .used) ⌝ }
+    ensures { λ r. ⌜ (r ≡ usedPosition c row used) × (r < gridPoints c) ⌝ }
+{
+    row * c.size + carriers::carrier(map::band(c), used)
+}
+
+fn pilot_comb(c: Setup, symbol: usize) -> Comb
+    requires { ⌜ Valid c ⌝ }
+    ensures { λ r. ⌜ r ≡ combOf c symbol ⌝ }
+{
+    if c.mode == 0 {
+        let p = pusc_dl::pilots(symbol);
+        return Comb {
+            first: p.first,
+            second: p.second,
+            step: 14,
+            count: 120,
+        };
+    }
+    if c.mode == 1 {
+        return tile_comb(symbol);
+    }
+    let place = carriers::bin_pilot_place(symbol);
+    Comb {
+        first: place,
+        second: place,
+        step: 9,
+        count: 6 * map::width(c),
+    }
+}
+
+// The corners of the tiles; the middle symbol of a slot has none.
+fn tile_comb(symbol: usize) -> Comb
+    ensures { λ r. ⌜ r ≡ tileComb symbol ⌝ }
+{
+    if symbol % 3 == 1 {
+        return Comb {
+            first: 0,
+            second: 3,
+            step: 4,
+            count: 0,
+        };
+    }
+    Comb {
+        first: 0,
+        second: 3,
+        step: 4,
+        count: 420,
+    }
+}
+
+// The used number of a comb's pilot j.
+fn pilot_number(k: Comb, j: usize) -> usize
+    requires { ⌜ (k .first < 16) × (k .second < 16) × (k .step < 16) × (j < 65536) ⌝ }
+    ensures { λ r. ⌜ r ≡ pilotNumber k j ⌝ }
+{
+    if j % 2 == 0 {
+        return j / 2 * k.step + k.first;
+    }
+    j / 2 * k.step + k.second
+}
+
+fn put_used(c: Setup, row: usize, used: usize, p: Point, grid: &mut [f32])
+    requires { ⌜ Valid c ⌝ }
+    requires { ⌜ (row < symbols c) × (used < band c .used) × (length (now grid) ≡ 2 * gridPoints c) ⌝ }
+    ensures { λ _. ⌜ now (grid .exit) ≡ putPoint (now (grid .entry)) (usedPosition c row used) p ⌝ }
+{
+    put_point(grid, position(c, row, used), p);
+}
+
+// The pilot point on the pilots of a row.
+fn pilot_row(c: Setup, slot: usize, row: usize, p: Point, grid: &mut [f32])
+    requires { ⌜ Valid c ⌝ }
+    requires { ⌜ (slot < 512) × (row < symbols c) × (length (now grid) ≡ 2 * gridPoints c) ⌝ }
+    ensures { λ _. ⌜ now (grid .exit) ≡ pilotRow c slot p row (now (grid .entry)) ⌝ }
+{
+    let k = pilot_comb(c, slot * map::symbols(c) + row);
+    let pilots = k.count * 2;
+    let mut j = 0;
+    while j < pilots {
+        put_used(c, row, pilot_number(k, j), p, grid);
+        j += 1;
+    }
+}
+
+// Zeros, and the pilot point on the pilots.
+fn ground(c: Setup, slot: usize, p: Point, grid: &mut [f32])
+    requires { ⌜ Valid c ⌝ }
+    requires { ⌜ (slot < 512) × (length (now grid) ≡ 2 * gridPoints c) ⌝ }
+    ensures { λ _. ⌜ now (grid .exit) ≡ pilotRows c slot p (symbols c) (replicate (2 * gridPoints c) zero32) ⌝ }
+{
+    clear(grid);
+    let rows = map::symbols(c);
+    let mut row = 0;
+    while row < rows {
+        pilot_row(c, slot, row, p, grid);
+        row += 1;
+    }
+}
+
+// Where in the grid a point of the slot stands.
+fn stands(c: Setup, slot: usize, subchannel: usize, index: usize) -> usize
+    requires { ⌜ Valid c ⌝ }
+    requires { ⌜ (subchannel < subchannels c) × (index < 48) ⌝ }
+    ensures { λ r. ⌜ (r ≡ standsAt c slot (pointNumber subchannel index)) × (r < gridPoints c) ⌝ }
+{
+    let x = map::spot(c, slot, subchannel, index);
+    position(c, x.offset, x.used)
 }
