@@ -4,3 +4,5 @@ pub mod Slot
 pub mod Pilots
 pub mod PilotRows
 pub mod Filled
+pub mod Copy
+pub mod Refusal

@@ -3,18 +3,17 @@ use mathlib.Core.List.{List}
 use Prim.Native.Nat.{ℕ, _+_, _*_, _/_, _%_}
 use lib.ListN.{length}
 use lib.Ieee.{Float}
-use Rattle.base.specs.Answer.{Answer, accepted, refused, ask}
+use Rattle.base.specs.Answer.{Answer, accepted, refused}
 use Rattle.carriers.specs.declared.Spot.{Spot}
 use Rattle.map.specs.declared.Setup.{Setup}
 use Rattle.map.specs.Mode.{subchannels, symbols, spotOf}
-use Rattle.map.specs.Question.{askSetup, isSlot, isSymbol, isCarrier}
 use Rattle.map.specs.Place.{Content, guard, dc, pilot, point, contentOf}
 use Rattle.grid.specs.declared.Point.{Point}
 use Rattle.grid.specs.declared.Seen.{Seen}
 use Rattle.grid.specs.declared.Seen.the-variants.{Nothing, Pilot, Data, Refused}
 use Rattle.grid.specs.Points.{pointAt, floatsOf, zeroPoint}
 use Rattle.grid.specs.Row.{gridPoints, position, usedPosition, rowOf, columnOf}
-use Rattle.grid.specs.Question.{arePoints, isGrid}
+use Rattle.grid.specs.Question.{askSlot, askLook}
 
 -- the answer of a call with a buffer, and the buffer as it is then
 pub record Outcome : Type 0 where
@@ -45,11 +44,7 @@ filled c slot p points =
 unfoldable pub fillOf : Setup → ℕ → Point → List Float → List Float → Outcome
 fillOf c slot p points grid =
     outcome
-    (askSetup c
-    (ask (isSlot slot) 4
-    (ask (arePoints c (length points)) 8
-    (ask (isGrid c (length grid)) 9
-    (accepted (filled c slot p points))))))
+    (askSlot c slot (length points) (length grid) (accepted (filled c slot p points)))
     grid
 
 -- where in the grid point n of the slot stands
@@ -65,11 +60,7 @@ emptied c slot grid = floatsOf (48 * subchannels c) (λ n. pointAt grid (standsA
 unfoldable pub emptyOf : Setup → ℕ → List Float → List Float → Outcome
 emptyOf c slot grid points =
     outcome
-    (askSetup c
-    (ask (isSlot slot) 4
-    (ask (arePoints c (length points)) 8
-    (ask (isGrid c (length grid)) 9
-    (accepted (emptied c slot grid))))))
+    (askSlot c slot (length points) (length grid) (accepted (emptied c slot grid)))
     points
 
 -- nothing (guard or DC), a pilot with its point, or data with its point, slot, subchannel and index
@@ -87,11 +78,8 @@ sight p (point slot s m) = data-with p slot s m
 -- Look takes mode, size, cell, a zone's symbol, its slot's filled grid and a carrier, and reads the point from the grid. Questions 1, 2, 3, 4, 7, 9.
 unfoldable pub lookOf : Setup → ℕ → List Float → ℕ → Answer Sight
 lookOf c symbol grid carrier =
-    askSetup c
-    (ask (isSymbol c symbol) 4
-    (ask (isCarrier c carrier) 7
-    (ask (isGrid c (length grid)) 9
-    (accepted (sight (pointAt grid (position c (symbol % symbols c) carrier)) (contentOf c symbol carrier))))))
+    askLook c symbol carrier (length grid)
+    (accepted (sight (pointAt grid (position c (symbol % symbols c) carrier)) (contentOf c symbol carrier)))
 
 -- What an answer of `look` says: document 01's values, or its number.
 abbrev pub seen : Seen → Answer Sight

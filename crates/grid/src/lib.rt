@@ -179,3 +179,33 @@ fn stands(c: Setup, slot: usize, subchannel: usize, index: usize) -> usize
     let x = map::spot(c, slot, subchannel, index);
     position(c, x.offset, x.used)
 }
+
+// The points of one subchannel laid on the grid.
+fn lay(c: Setup, slot: usize, subchannel: usize, points: &[f32], grid: &mut [f32])
+    requires { ⌜ Valid c ⌝ }
+    requires { ⌜ (subchannel < subchannels c) × (length (now points) ≡ 96 * subchannels c) × (length (now grid) ≡ 2 * gridPoints c) ⌝ }
+    ensures { λ _. ⌜ now (grid .exit) ≡ laidOne c slot (now (points .entry)) subchannel (now (grid .entry)) ⌝ }
+{
+    let first = subchannel * 48;
+    let mut m = 0;
+    while m < 48 {
+        let n = stands(c, slot, subchannel, m);
+        put_point(grid, n, point_at(points, first + m));
+        m += 1;
+    }
+}
+
+// The points of one subchannel taken off the grid.
+fn take(c: Setup, slot: usize, subchannel: usize, grid: &[f32], points: &mut [f32])
+    requires { ⌜ Valid c ⌝ }
+    requires { ⌜ (subchannel < subchannels c) × (length (now points) ≡ 96 * subchannels c) × (length (now grid) ≡ 2 * gridPoints c) ⌝ }
+    ensures { λ _. ⌜ now (points .exit) ≡ takenOne c slot (now (grid .entry)) subchannel (now (points .entry)) ⌝ }
+{
+    let first = subchannel * 48;
+    let mut m = 0;
+    while m < 48 {
+        let n = stands(c, slot, subchannel, m);
+        put_point(points, first + m, point_at(grid, n));
+        m += 1;
+    }
+}
