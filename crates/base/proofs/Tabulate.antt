@@ -21,4 +21,4 @@ getD-tabulate (suc n) f (suc k) d h = getD-tabulate n (λ j. f (suc j)) k d (le-
 pub tabulated : {A : Type 0} (d : A) (l : List A) (n : ℕ) (f : ℕ → A) → length l ≡ n → ((k : ℕ) → k < n → getD l k d ≡ f k) → l ≡ tabulate n f
 tabulated d l n f e h =
     ext-getD d l (tabulate n f) (e ∙ sym (length-tabulate n f))
-      (λ k l′. let lt : k < n = rw (← e) l′ in h k lt ∙ sym (getD-tabulate n f k d lt))
+    (λ k l′. let lt : k < n = rw (← e) l′ in h k lt ∙ sym (getD-tabulate n f k d lt))

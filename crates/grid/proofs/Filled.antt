@@ -6,19 +6,19 @@ use native.Mathlib.Nat.{suc-mul}
 use native.Mathlib.Omega.{arith}
 use mathlib.Core.Bool.{not}
 use lib.Dec.{T, T-not, eqb, eqb-refl}
-use lib.ListN.{length, getD, replicate, length-replicate, getD-replicate}
+use lib.ListN.{length, replicate, length-replicate, getD-replicate}
 use lib.Ieee.{Float, nan}
 use Rattle.map.specs.declared.Setup.{Setup}
 use Rattle.map.specs.Mode.{subchannels, symbols}
 use Rattle.map.specs.Place.{Content, guard, dc, pilot, point}
 use Rattle.map.specs.Valid.{Valid}
 use Rattle.grid.specs.declared.Point.{Point}
-use Rattle.grid.specs.Points.{zero32, zeroPoint, pointAt, floatsOf}
-use Rattle.grid.specs.Row.{gridPoints, rowOf}
+use Rattle.grid.specs.Points.{zero32, zeroPoint, pointAt}
+use Rattle.grid.specs.Row.{gridPoints}
 use Rattle.grid.specs.Grid.{held, filled, standsAt, emptied, pointNumber}
 use Rattle.grid.specs.Model.{puts, pilotRows, laidOne, laid, takenOne, taken}
-use Rattle.grid.proofs.Points.{length-floats, point-floats, by-points, length-puts, puts-miss, puts-hit, puts-more}
-use Rattle.grid.proofs.Slot.{contentAt, stands-lt, stands-holds, stands-alone, row-lt, point-stands}
+use Rattle.grid.proofs.Points.{by-points, length-puts, puts-miss, puts-hit, puts-more}
+use Rattle.grid.proofs.Slot.{contentAt, stands-holds, stands-alone, row-lt, point-stands}
 use Rattle.grid.proofs.PilotRows.{length-rows, rows-miss, rows-hit}
 
 -- subchannel after subchannel is point after point
@@ -74,7 +74,7 @@ module _ (c : Setup) (v : Valid c) (slot : ℕ) (hs : slot < 512) (p : Point) (p
     kept none =
         ap (λ (l : List Float). pointAt l n) (laid-is c slot points (subchannels c) ground)
         ∙ puts-miss (standsAt c slot) (pointAt points) (subchannels c * 48) ground n
-            (λ j h e. none slot (j / 48) (j % 48) (ap (contentAt c slot) e ∙ stands-holds c v slot j (omega arith)))
+        (λ j h e. none slot (j / 48) (j % 48) (ap (contentAt c slot) e ∙ stands-holds c v slot j (omega arith)))
 
     unlit : (contentAt c slot n ≡ pilot → ⊥) → pointAt ground n ≡ zeroPoint
     unlit none = rows-miss c v slot p (symbols c) zeros n none ∙ cleared (2 * gridPoints c) n (omega arith)
@@ -89,8 +89,8 @@ module _ (c : Setup) (v : Valid c) (slot : ℕ) (hs : slot < 512) (p : Point) (p
         ap (λ (l : List Float). pointAt l n) (laid-is c slot points (subchannels c) ground)
         ∙ ap (pointAt (puts (standsAt c slot) (pointAt points) (subchannels c * 48) ground)) (sym (q .stands))
         ∙ puts-hit (standsAt c slot) (pointAt points) (subchannels c * 48) ground (pointNumber s m) j
-            (λ i h e′. sym (stands-alone c v slot (pointNumber s m) i (omega arith) (omega arith) e′))
-            (rw (q .stands, ground-length) (omega arith))
+        (λ i h e′. sym (stands-alone c v slot (pointNumber s m) i (omega arith) (omega arith) e′))
+        (rw (q .stands, ground-length) (omega arith))
 
     laid-holds : (w : Content) → contentAt c slot n ≡ w → pointAt (laid c slot points (subchannels c) ground) n ≡ held p points w
     unfolding held
@@ -103,8 +103,8 @@ module _ (c : Setup) (v : Valid c) (slot : ℕ) (hs : slot < 512) (p : Point) (p
   unfolding filled
   filled-is =
       by-points (laid c slot points (subchannels c) ground) (gridPoints c) _
-        (ap length (laid-is c slot points (subchannels c) ground) ∙ length-puts (standsAt c slot) (pointAt points) (subchannels c * 48) ground ∙ ground-length ∙ omega arith)
-        (λ n hn. laid-holds n hn (contentAt c slot n) refl)
+      (ap length (laid-is c slot points (subchannels c) ground) ∙ length-puts (standsAt c slot) (pointAt points) (subchannels c * 48) ground ∙ ground-length ∙ omega arith)
+      (λ n hn. laid-holds n hn (contentAt c slot n) refl)
 
 -- every point taken off: the emptied points
 pub emptied-is : (c : Setup) (slot : ℕ) (grid l : List Float) → length l ≡ 96 * subchannels c → taken c slot grid (subchannels c) l ≡ emptied c slot grid
@@ -113,5 +113,5 @@ emptied-is c slot grid l e =
     let source : ℕ → Point = λ n. pointAt grid (standsAt c slot n) in
     taken-is c slot grid (subchannels c) l
     ∙ by-points (puts (λ n. n) source (subchannels c * 48) l) (48 * subchannels c) source
-        (length-puts (λ n. n) source (subchannels c * 48) l ∙ e ∙ omega arith)
-        (λ k h. puts-hit (λ n. n) source (subchannels c * 48) l k (omega arith) (λ i h′ z. sym z) (rw e (omega arith)))
+    (length-puts (λ n. n) source (subchannels c * 48) l ∙ e ∙ omega arith)
+    (λ k h. puts-hit (λ n. n) source (subchannels c * 48) l k (omega arith) (λ i h′ z. sym z) (rw e (omega arith)))

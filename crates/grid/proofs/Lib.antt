@@ -6,3 +6,4 @@ pub mod PilotRows
 pub mod Filled
 pub mod Copy
 pub mod Refusal
+pub mod Passes

@@ -1,6 +1,5 @@
 -- The pilot pass: every pilot's place holds the pilot point, and no other place is touched. Assumes nothing.
-use mathlib.Core.Path.{_≡_, refl, sym, ap, _∙_, subst}
-use mathlib.Core.Bool.{Bool, true, false}
+use mathlib.Core.Path.{_≡_, refl, ap, _∙_, subst}
 use mathlib.Core.List.{List}
 use Prim.Native.Nat.{ℕ, zero, suc, _+_, _*_, _<_, _≤_}
 use native.Mathlib.Numerals.{add-one}
@@ -9,20 +8,17 @@ use lib.Dec.{eqb}
 use lib.ListN.{length, replicate, length-replicate}
 use lib.Ieee.{Float}
 use borrow.Author.Tests.{eqb-true, eqb-false}
-use Rattle.base.specs.Choice.{pick}
 use Rattle.base.proofs.Test.{cases}
-use Rattle.carriers.specs.Band.{carrierOf, usedOf}
-use Rattle.carriers.proofs.Guards.{carrier-lt}
+use Rattle.carriers.specs.Band.{usedOf}
 use Rattle.map.specs.declared.Setup.{Setup}
 use Rattle.map.specs.Mode.{symbols, band, isPilot}
-use Rattle.map.specs.Place.{Content, guard, dc, pilot, point, contentOf}
+use Rattle.map.specs.Place.{pilot}
 use Rattle.map.specs.Valid.{Valid}
-use Rattle.map.proofs.Slot.{band-law}
 use Rattle.map.proofs.Law.{pilot-content, pilot-at}
 use Rattle.grid.specs.declared.Point.{Point}
 use Rattle.grid.specs.declared.Comb.{Comb}
 use Rattle.grid.specs.Points.{zero32, pointAt}
-use Rattle.grid.specs.Row.{gridPoints, position, usedPosition, rowOf, columnOf}
+use Rattle.grid.specs.Row.{gridPoints, usedPosition, rowOf, columnOf}
 use Rattle.grid.specs.Model.{putPoint, puts, combOf, pilotNumber, pilotPlace, pilotRow, pilotRows}
 use Rattle.grid.proofs.Points.{length-puts, puts-miss, puts-one, puts-next}
 use Rattle.grid.proofs.Pilots.{CombLaw, pilots-law, Small, comb-small}
@@ -62,7 +58,7 @@ module _ (c : Setup) (v : Valid c) (slot : ℕ) (p : Point) where
     place-pilot : contentAt c slot (place r j) ≡ pilot
     place-pilot =
         rw (place-row, used-column c v r u (law r .number-lt j h))
-          (pilot-content c v (slot * symbols c + r) u (law r .number-lt j h) (law r .number-is j h))
+        (pilot-content c v (slot * symbols c + r) u (law r .number-lt j h) (law r .number-is j h))
 
   -- what is no pilot is as it was
   pub rows-miss : (rows : ℕ) (l : List Float) (n : ℕ) → (contentAt c slot n ≡ pilot → ⊥) → pointAt (pilotRows c slot p rows l) n ≡ pointAt l n
@@ -74,20 +70,20 @@ module _ (c : Setup) (v : Valid c) (slot : ℕ) (p : Point) where
 
   -- a pilot in one of the first rows holds the pilot point
   pub rows-hit : slot < 512 → (rows : ℕ) (l : List Float) (n : ℕ) → n < gridPoints c → rowOf c n < rows → contentAt c slot n ≡ pilot → n * 2 + 1 < length l
-    → pointAt (pilotRows c slot p rows l) n ≡ p
+      → pointAt (pilotRows c slot p rows l) n ≡ p
   unfolding pilotRows pilotRow usedPosition
   rows-hit hs zero l n hn lt e room = absurd (omega arith)
   rows-hit hs (suc r) l n hn lt e room =
       cases (eqb (rowOf c n) r)
-        (λ t. let q = eqb-true (rowOf c n) r t in
-          let a = pilot-at c v (slot * symbols c + rowOf c n) (columnOf c n) e in
-          let f = law r .pilot-is (usedOf (band c) (columnOf c n)) (a .used-below) (rw q at (a .is-pilot)) in
-          let here : place r (f .0) ≡ n = rw (f .1 .1, a .carrier-is, ← q) (at-place c v slot hs n hn) in
-          subst (λ (x : ℕ). pointAt (pilotRow c slot p r (pilotRows c slot p r l)) x ≡ p) here
-            (puts-one (place r) p (comb r .count * 2) (pilotRows c slot p r l) (f .0) (f .1 .0) (rw (here, length-rows r l) room)))
-        (λ t. let q = eqb-false (rowOf c n) r t in
-          puts-miss (place r) (λ j. p) (comb r .count * 2) (pilotRows c slot p r l) n (λ j l z. q (ap (rowOf c) z ∙ place-row r j l))
-          ∙ rows-hit hs r l n hn (lower (rowOf c n) r lt q) e room)
+      (λ t. let q = eqb-true (rowOf c n) r t in
+      let a = pilot-at c v (slot * symbols c + rowOf c n) (columnOf c n) e in
+      let f = law r .pilot-is (usedOf (band c) (columnOf c n)) (a .used-below) (rw q at (a .is-pilot)) in
+      let here : place r (f .0) ≡ n = rw (f .1 .1, a .carrier-is, ← q) (at-place c v slot hs n hn) in
+      subst (λ (x : ℕ). pointAt (pilotRow c slot p r (pilotRows c slot p r l)) x ≡ p) here
+      (puts-one (place r) p (comb r .count * 2) (pilotRows c slot p r l) (f .0) (f .1 .0) (rw (here, length-rows r l) room)))
+      (λ t. let q = eqb-false (rowOf c n) r t in
+      puts-miss (place r) (λ j. p) (comb r .count * 2) (pilotRows c slot p r l) n (λ j l z. q (ap (rowOf c) z ∙ place-row r j l))
+      ∙ rows-hit hs r l n hn (lower (rowOf c n) r lt q) e room)
     where
       lower : (a b : ℕ) → a < suc b → (a ≡ b → ⊥) → a < b
       lower a b l ne = omega arith

@@ -2,11 +2,11 @@
 use mathlib.Core.Path.{_≡_, refl, sym, ap, _∙_, subst}
 use mathlib.Core.Bool.{Bool, true, false}
 use Prim.Native.Nat.{ℕ, _+_, _*_, _/_, _%_, _<_, _≤_}
-use native.Mathlib.Nat.{mod-lt, div-add-mod', div-lt-iff-lt-mul}
+use native.Mathlib.Nat.{div-add-mod', div-lt-iff-lt-mul}
 use native.Mathlib.Omega.{arith}
 use lib.Arith.{digits-mod, digits-lt}
 use lib.Dec.{eqb, lit<}
-use borrow.Author.Tests.{eq-eqb, ne-eqb, eqb-true, eqb-false}
+use borrow.Author.Tests.{eq-eqb, eqb-true}
 use Rattle.base.specs.Choice.{pick}
 use Rattle.base.proofs.Test.{cases}
 use Rattle.carriers.specs.Bin.{isBinPilot, binPilotPlace}
@@ -16,7 +16,6 @@ use Rattle.ofusc.proofs.Sequence.{size}
 use Rattle.map.specs.declared.Setup.{Setup}
 use Rattle.map.specs.Mode.{width, band, isPilot}
 use Rattle.map.specs.Valid.{Valid, setup, pusc-dl, pusc-ul, ofusc, amc}
-use Rattle.map.proofs.Accept.{width-is}
 use Rattle.grid.specs.declared.Comb.{Comb}
 use Rattle.grid.specs.Model.{combOf, pilotNumber}
 
@@ -43,10 +42,10 @@ module _ (b : Comb) (f : b .first < b .step) (s : b .second < b .step) where
   tooth-on j =
       let r : pilotNumber b j % b .step ≡ tooth j = digits-mod (j / 2) (tooth-lt j) in
       cases (eqb (j % 2) 0)
-        (λ t. let z : pilotNumber b j % b .step ≡ b .first = r ∙ ap (λ (x : Bool). pick x (b .first) (b .second)) t in
-          rw (eq-eqb (pilotNumber b j % b .step) (b .first) z))
-        (λ t. let z : pilotNumber b j % b .step ≡ b .second = r ∙ ap (λ (x : Bool). pick x (b .first) (b .second)) t in
-          rw (eq-eqb (pilotNumber b j % b .step) (b .second) z) (either (eqb (pilotNumber b j % b .step) (b .first))))
+      (λ t. let z : pilotNumber b j % b .step ≡ b .first = r ∙ ap (λ (x : Bool). pick x (b .first) (b .second)) t in
+      rw (eq-eqb (pilotNumber b j % b .step) (b .first) z))
+      (λ t. let z : pilotNumber b j % b .step ≡ b .second = r ∙ ap (λ (x : Bool). pick x (b .first) (b .second)) t in
+      rw (eq-eqb (pilotNumber b j % b .step) (b .second) z) (either (eqb (pilotNumber b j % b .step) (b .first))))
     where
       either : (x : Bool) → pick x true true ≡ true
       either true = refl
@@ -60,11 +59,12 @@ module _ (b : Comb) (f : b .first < b .step) (s : b .second < b .step) where
       let pos : 0 < b .step = omega arith in
       let lt : k < b .count = div-lt-iff-lt-mul pos .1 h in
       cases (eqb (u % b .step) (b .first))
-        (λ t. (k * 2, (omega arith, at-even k ∙ ap (λ (x : ℕ). k * b .step + x) (sym (eqb-true (u % b .step) (b .first) t)) ∙ div-add-mod' u (b .step))))
-        (λ t. (k * 2 + 1, (omega arith, at-odd k ∙ ap (λ (x : ℕ). k * b .step + x) (sym (eqb-true (u % b .step) (b .second) (rw t at e))) ∙ div-add-mod' u (b .step))))
+      (λ t. (k * 2, (omega arith, at-even k ∙ ap (λ (x : ℕ). k * b .step + x) (sym (eqb-true (u % b .step) (b .first) t)) ∙ div-add-mod' u (b .step))))
+      (λ t. (k * 2 + 1, (omega arith, at-odd k ∙ ap (λ (x : ℕ). k * b .step + x) (sym (eqb-true (u % b .step) (b .second) (rw t at e))) ∙ div-add-mod' u (b .step))))
     where
       at-even : (k : ℕ) → pilotNumber b (k * 2) ≡ k * b .step + b .first
       at-even k = let e₁ : k * 2 % 2 ≡ 0 = omega arith in let e₂ : k * 2 / 2 ≡ k = omega arith in rw (e₁, e₂)
+
       at-odd : (k : ℕ) → pilotNumber b (k * 2 + 1) ≡ k * b .step + b .second
       at-odd k = let e₁ : (k * 2 + 1) % 2 ≡ 1 = omega arith in let e₂ : (k * 2 + 1) / 2 ≡ k = omega arith in rw (e₁, e₂)
 
@@ -74,7 +74,8 @@ module _ (b : Comb) (f : b .first < b .step) (s : b .second < b .step) where
       record {
         number-lt = λ j h. digits-lt (half j h) (tooth-lt j);
         number-is = λ j h. same (pilotNumber b j) ∙ tooth-on j;
-        pilot-is = λ u h e. found u h (sym (same u) ∙ e) }
+        pilot-is = λ u h e. found u h (sym (same u) ∙ e);
+      }
     where
       half : (j : ℕ) → j < b .count * 2 → j / 2 < b .count
       half j h = omega arith
@@ -85,7 +86,8 @@ none-law b e used is-pilot none =
     record {
       number-lt = λ j h. absurd (omega arith);
       number-is = λ j h. absurd (omega arith);
-      pilot-is = λ u h t. absurd (true-false (sym t ∙ none u)) }
+      pilot-is = λ u h t. absurd (true-false (sym t ∙ none u));
+    }
   where
     true-false : true ≡ false → ⊥
     true-false e = let z : _≡_ {A = ℕ} 0 1 = cc in omega arith
@@ -115,14 +117,14 @@ tiles-law : (o : ℕ) → CombLaw (record { first = 0; second = 3; step = 4; cou
 unfolding isTilePilot
 tiles-law o =
     cases (eqb o 1)
-      (λ t. rw t (none-law (record { first = 0; second = 3; step = 4; count = 0 }) refl 1680 (isTilePilot o) (λ u. rw t)))
-      (λ t. rw t (comb-law (record { first = 0; second = 3; step = 4; count = 420 }) (lit< tt) (lit< tt) (isTilePilot o) (λ u. rw t)))
+    (λ t. rw t (none-law (record { first = 0; second = 3; step = 4; count = 0 }) refl 1680 (isTilePilot o) (λ u. rw t)))
+    (λ t. rw t (comb-law (record { first = 0; second = 3; step = 4; count = 420 }) (lit< tt) (lit< tt) (isTilePilot o) (λ u. rw t)))
 
 pub pilots-law : {c : Setup} → Valid c → (y : ℕ) → CombLaw (combOf c y) (band c .used) (isPilot c y)
 unfolding combOf isPilot band isClusterPilot
 pilots-law (pusc-dl h) y =
     comb-law (record { first = firstPilot y; second = secondPilot y; step = 14; count = 120 })
-      (cluster-lt y .0) (cluster-lt y .1) (isClusterPilot y) (λ u. refl)
+    (cluster-lt y .0) (cluster-lt y .1) (isClusterPilot y) (λ u. refl)
 pilots-law (pusc-ul h) y = tiles-law (y % 3)
 pilots-law (ofusc {n = n} {cell = cell} w h) y = bins-law (width (setup 2 (64 * n) cell)) y
 pilots-law (amc {n = n} {cell = cell} w h) y = bins-law (width (setup 3 (64 * n) cell)) y

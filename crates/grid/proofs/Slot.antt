@@ -1,5 +1,5 @@
 -- A slot's points and the places of its grid: from the law of the map. Assumes nothing.
-use mathlib.Core.Path.{_≡_, refl, sym, ap, _∙_, subst}
+use mathlib.Core.Path.{_≡_, sym, ap, _∙_}
 use Prim.Native.Nat.{ℕ, _+_, _*_, _/_, _%_, _<_, _≤_}
 use native.Mathlib.Nat.{mod-lt, div-add-mod', div-lt-iff-lt-mul, mul-le-mul}
 use native.Mathlib.Omega.{arith}
@@ -11,7 +11,7 @@ use Rattle.carriers.specs.Law.{DataSpot}
 use Rattle.carriers.proofs.Guards.{carrier-lt}
 use Rattle.map.specs.declared.Setup.{Setup}
 use Rattle.map.specs.Mode.{subchannels, symbols, band, isPilot, spotOf}
-use Rattle.map.specs.Place.{Content, guard, dc, pilot, point, Place, placeAt, contentOf}
+use Rattle.map.specs.Place.{Content, point, Place, placeAt, contentOf}
 use Rattle.map.specs.Valid.{Valid}
 use Rattle.map.proofs.ByMode.{symbols-range, size-few}
 use Rattle.map.proofs.Slot.{slot-law, band-law}
@@ -78,13 +78,13 @@ module _ (c : Setup) (v : Valid c) (slot j : ℕ) (h : j < 48 * subchannels c) w
   unfolding standsAt
   stands-holds =
       rw (used-row c v (x .offset) (x .used) (spot-lies .used-lt), used-column c v (x .offset) (x .used) (spot-lies .used-lt))
-        (content-placed c v slot (j / 48) (j % 48) s-lt (omega arith))
+      (content-placed c v slot (j / 48) (j % 48) s-lt (omega arith))
 
 -- so no two points stand at one place
 pub stands-alone : (c : Setup) (v : Valid c) (slot i j : ℕ) → i < 48 * subchannels c → j < 48 * subchannels c → standsAt c slot i ≡ standsAt c slot j → i ≡ j
 stands-alone c v slot i j hi hj e =
     let p : point slot (i / 48) (i % 48) ≡ point slot (j / 48) (j % 48) =
-      sym (stands-holds c v slot i hi) ∙ ap (contentAt c slot) e ∙ stands-holds c v slot j hj in
+    sym (stands-holds c v slot i hi) ∙ ap (contentAt c slot) e ∙ stands-holds c v slot j hj in
     let a : i / 48 ≡ j / 48 = cc in
     let b : i % 48 ≡ j % 48 = cc in
     omega arith

@@ -4,7 +4,6 @@ use Prim.Native.Nat.{ℕ, _+_, _*_, _/_, _%_}
 use lib.ListN.{length}
 use lib.Ieee.{Float}
 use Rattle.base.specs.Answer.{Answer, accepted, refused}
-use Rattle.carriers.specs.declared.Spot.{Spot}
 use Rattle.map.specs.declared.Setup.{Setup}
 use Rattle.map.specs.Mode.{subchannels, symbols, spotOf}
 use Rattle.map.specs.Place.{Content, guard, dc, pilot, point, contentOf}

@@ -2,7 +2,7 @@
 use mathlib.Core.List.{List}
 use Prim.Native.Nat.{ℕ, _+_, _*_, _/_, _%_}
 use lib.Dec.{eqb}
-use lib.ListN.{getD, set}
+use lib.ListN.{getD}
 use lib.Ieee.{Float, ofBits, binary32, nan}
 use Rattle.base.specs.Choice.{pick}
 use Rattle.base.specs.Tabulate.{tabulate}

@@ -9,7 +9,8 @@ ghost use Rattle.map.specs.Valid.{Valid};
 ghost use Rattle.base.specs.Tabulate.{tabulate};
 ghost use Rattle.grid.specs.Points.{zero32, pointAt};
 ghost use Rattle.grid.specs.Row.{gridPoints, usedPosition};
-ghost use Rattle.grid.specs.Grid.{standsAt, pointNumber};
+ghost use Rattle.grid.specs.Question.{slotNumber};
+ghost use Rattle.grid.specs.Grid.{standsAt, pointNumber, fillOf, emptyOf};
 ghost use Rattle.grid.specs.Model.{putPoint, combOf, tileComb, pilotNumber, pilotRow, pilotRows, laidOne, takenOne};
 
 // A point, in-phase first.
@@ -208,4 +209,67 @@ fn take(c: Setup, slot: usize, subchannel: usize, grid: &[f32], points: &mut [f3
         put_point(points, first + m, point_at(grid, n));
         m += 1;
     }
+}
+
+// The number of the first of questions 1, 2, 3, 4, 8 and 9 that is answered no, or 0.
+fn slot_refusal(c: Setup, slot: usize, points: usize, grid: usize) -> u8
+    ensures { λ r. ⌜ r ≡ slotNumber c slot points grid ⌝ }
+{
+    let k = map::refusal(c);
+    if k != 0 {
+        return k;
+    }
+    if 512 <= slot {
+        return 4;
+    }
+    if points != 96 * map::subchannels(c) {
+        return 8;
+    }
+    if grid != 2 * grid_points(c) {
+        return 9;
+    }
+    0
+}
+
+// The points of a slot's grid.
+fn grid_points(c: Setup) -> usize
+    requires { ⌜ Valid c ⌝ }
+    ensures { λ r. ⌜ (r ≡ gridPoints c) × (r < 65536) ⌝ }
+{
+    map::symbols(c) * c.size
+}
+
+// Lays a slot's points on its grid, with the pilot point on pilots and 0.0 elsewhere; or the first refusal of 1, 2, 3, 4, 8, 9.
+pub fn fill(c: Setup, slot: usize, pilot: Point, points: &[f32], grid: &mut [f32]) -> u8
+    ensures { λ r. ⌜ record { number = r; buffer = now (grid .exit) } ≡ fillOf c slot pilot (now (points .entry)) (now (grid .entry)) ⌝ }
+{
+    let k = slot_refusal(c, slot, points.len(), grid.len());
+    if k != 0 {
+        return k;
+    }
+    ground(c, slot, pilot, grid);
+    let n = map::subchannels(c);
+    let mut s = 0;
+    while s < n {
+        lay(c, slot, s, points, grid);
+        s += 1;
+    }
+    0
+}
+
+// Takes a slot's points off its grid; or the first refusal of 1, 2, 3, 4, 8, 9.
+pub fn empty(c: Setup, slot: usize, grid: &[f32], points: &mut [f32]) -> u8
+    ensures { λ r. ⌜ record { number = r; buffer = now (points .exit) } ≡ emptyOf c slot (now (grid .entry)) (now (points .entry)) ⌝ }
+{
+    let k = slot_refusal(c, slot, points.len(), grid.len());
+    if k != 0 {
+        return k;
+    }
+    let n = map::subchannels(c);
+    let mut s = 0;
+    while s < n {
+        take(c, slot, s, grid, points);
+        s += 1;
+    }
+    0
 }

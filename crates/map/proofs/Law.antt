@@ -224,9 +224,9 @@ pub pilot-at : (c : Setup) → Valid c → (y k : ℕ) → contentOf c y k ≡ p
 unfolding contentOf pointAt
 pilot-at c v y k e =
     cases (isGuard (band c) (c .size) k)
-      (λ g. absurd (let h = rw g at e in let z : _≡_ {A = ℕ} 0 1 = cc in omega arith))
-      (λ g. cases (isDc (band c) k)
-        (λ d. absurd (let h = rw (g, d) at e in let z : _≡_ {A = ℕ} 0 1 = cc in omega arith))
-        (λ d. cases (isPilot c y (usedOf (band c) k))
-          (λ p. record { used-below = used-lt (band c) (c .size) (band-law v) k g d; is-pilot = p; carrier-is = carrier-used (band c) (c .size) (band-law v) k g d })
-          (λ p. absurd (let h = rw (g, d, p) at e in let z : _≡_ {A = ℕ} 0 1 = cc in omega arith))))
+    (λ g. absurd (let h = rw g at e in let z : _≡_ {A = ℕ} 0 1 = cc in omega arith))
+    (λ g. cases (isDc (band c) k)
+    (λ d. absurd (let h = rw (g, d) at e in let z : _≡_ {A = ℕ} 0 1 = cc in omega arith))
+    (λ d. cases (isPilot c y (usedOf (band c) k))
+    (λ p. record { used-below = used-lt (band c) (c .size) (band-law v) k g d; is-pilot = p; carrier-is = carrier-used (band c) (c .size) (band-law v) k g d })
+    (λ p. absurd (let h = rw (g, d, p) at e in let z : _≡_ {A = ℕ} 0 1 = cc in omega arith))))

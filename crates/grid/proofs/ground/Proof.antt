@@ -3,8 +3,8 @@ use Rattle.grid.specs.Model.{pilotRows}
 use Rattle.grid.specs.Points.{zero32}
 use lib.ListN.{replicate}
 use borrow.Author.Needs.{needs}
-use mathlib.Core.Path.{refl, sym, ap, _∙_}
-use Prim.Native.Nat.{_-_, _*_}
+use mathlib.Core.Path.{sym, ap, _∙_}
+use Prim.Native.Nat.{_-_}
 use Rattle.map.proofs.ByMode.{symbols-range}
 use Rattle.grid.proofs.PilotRows.{GroundTurn, ground-long, ground-next, ground-done}
 use native.Mathlib.Omega.{arith}
@@ -26,12 +26,12 @@ symbols-requires c κs = search needs
 loop-holds : tie.Need-loop-holds Inv-loop μ-loop
 unfolding pilotRows
 loop-holds c = record {
-      valid = c .before .before .before .before .before .before .pre .0;
-      slot-lt = c .before .before .before .before .before .before .pre .1 .0;
-      rows-are = c .symbols .ensures;
-      at-most = omega arith;
-      so-far = c .before .before .before .clear .ensures ∙ ap (λ n. replicate n zero32) (c .before .before .before .before .before .before .pre .1 .1);
-    }
+  valid = c .before .before .before .before .before .before .pre .0;
+  slot-lt = c .before .before .before .before .before .before .pre .1 .0;
+  rows-are = c .symbols .ensures;
+  at-most = omega arith;
+  so-far = c .before .before .before .clear .ensures ∙ ap (λ n. replicate n zero32) (c .before .before .before .before .before .before .pre .1 .1);
+}
 
 pilot-row-requires : tie.Need-pilot-row-requires Inv-loop μ-loop
 pilot-row-requires c κs = (c .before .before .loop .inv .valid, (c .before .before .loop .inv .slot-lt, rw (c .before .before .loop .inv .rows-are) at (c .before .loop-test .taken), ground-long (c .before .before .loop .inv)))

@@ -1,6 +1,6 @@
 -- `grid::lay` meets its contract. Assumes nothing.
 use Rattle.map.proofs.ByMode.{subchannels-few}
-use mathlib.Core.Path.{ap, ap₂, sym, _∙_}
+use mathlib.Core.Path.{ap₂, _∙_}
 use Rattle.grid.specs.Model.{putPoint, laidOne}
 use Rattle.grid.specs.Grid.{standsAt, pointNumber}
 use Rattle.grid.specs.Points.{pointAt}
@@ -23,13 +23,13 @@ mul-first c = omega (arith, subchannels-few (c .before .before .pre .0))
 
 loop-holds : tie.Need-loop-holds Inv-loop μ-loop
 loop-holds c = record {
-      valid = c .before .before .pre .0;
-      s-lt = c .before .before .pre .1 .0;
-      points-long = c .before .before .pre .1 .1;
-      grid-long = c .before .before .pre .1 .2;
-      at-most = omega arith;
-      so-far = puts-none _ _ _;
-    }
+  valid = c .before .before .pre .0;
+  s-lt = c .before .before .pre .1 .0;
+  points-long = c .before .before .pre .1 .1;
+  grid-long = c .before .before .pre .1 .2;
+  at-most = omega arith;
+  so-far = puts-none _ _ _;
+}
 
 stands-requires : tie.Need-stands-requires Inv-loop μ-loop
 stands-requires c κs = (c .before .loop .inv .valid, (c .before .loop .inv .s-lt, c .loop-test .taken))

@@ -33,14 +33,14 @@ mul-pilots c = omega (arith, small-of (c .before .before .before .before .pre .0
 
 loop-holds : tie.Need-loop-holds Inv-loop μ-loop
 loop-holds c = record {
-      valid = c .before .before .before .before .pre .0;
-      row-lt = c .before .before .before .before .pre .1 .1;
-      comb-is = rw (c .before .before .symbols .ensures) at (c .before .pilot-comb .ensures);
-      pilots-are = refl;
-      long = c .before .before .before .before .pre .1 .2;
-      at-most = omega arith;
-      so-far = puts-none _ _ _;
-    }
+  valid = c .before .before .before .before .pre .0;
+  row-lt = c .before .before .before .before .pre .1 .1;
+  comb-is = rw (c .before .before .symbols .ensures) at (c .before .pilot-comb .ensures);
+  pilots-are = refl;
+  long = c .before .before .before .before .pre .1 .2;
+  at-most = omega arith;
+  so-far = puts-none _ _ _;
+}
 
 pilot-number-requires : tie.Need-pilot-number-requires Inv-loop μ-loop
 pilot-number-requires c κs = omega (arith, turn-small (c .before .loop .inv), c .before .loop .inv .at-most, c .before .loop .inv .pilots-are)

@@ -1,7 +1,6 @@
 -- `grid::position` meets its contract. Assumes nothing.
 use Prim.Native.Nat.{_+_, _*_, _<_}
 use mathlib.Core.Path.{_≡_, subst⁻¹}
-use Rattle.carriers.specs.Band.{carrierOf}
 use Rattle.grid.proofs.Slot.{used-position-lt, grid-few}
 use Rattle.grid.specs.Row.{position, usedPosition, gridPoints}
 use Rattle.map.proofs.ByMode.{row-few, left-few, used-few}

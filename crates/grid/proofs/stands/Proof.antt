@@ -1,7 +1,6 @@
 -- `grid::stands` meets its contract. Assumes nothing.
 use mathlib.Core.Path.{_∙_}
 use Rattle.grid.proofs.Slot.{spot-range, stands-is}
-use native.Mathlib.Omega.{arith}
 use borrow.Author.Needs.{needs}
 use Rattle.grid.proofs.stands.Statement.{statement}
 use Rattle.grid.proofs.stands.Tie as tie
