@@ -7,3 +7,4 @@ pub mod Filled
 pub mod Copy
 pub mod Refusal
 pub mod Passes
+pub mod Looked

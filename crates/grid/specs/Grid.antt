@@ -74,6 +74,11 @@ sight p dc = nothing
 sight p pilot = pilot-with p
 sight p (point slot s m) = data-with p slot s m
 
+-- the same of an answer of the reverse
+unfoldable pub sightOf : Answer Content → Point → Answer Sight
+sightOf (accepted w) p = accepted (sight p w)
+sightOf (refused number) p = refused number
+
 -- Look takes mode, size, cell, a zone's symbol, its slot's filled grid and a carrier, and reads the point from the grid. Questions 1, 2, 3, 4, 7, 9.
 unfoldable pub lookOf : Setup → ℕ → List Float → ℕ → Answer Sight
 lookOf c symbol grid carrier =

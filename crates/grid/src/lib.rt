@@ -1,16 +1,18 @@
 // Grids: laying a slot's points on the carriers, taking them off again, and looking at one carrier.
+use map::Located;
 use map::Setup;
 ghost use mathlib.Core.Path.{_≡_};
 ghost use lib.Ieee.{Float};
-ghost use Prim.Native.Nat.{_+_, _*_, _<_};
+ghost use Prim.Native.Nat.{_+_, _*_, _%_, _<_};
 ghost use lib.ListN.{length, replicate};
 ghost use Rattle.map.specs.Mode.{symbols, subchannels, band};
+ghost use Rattle.map.specs.Place.{located};
 ghost use Rattle.map.specs.Valid.{Valid};
-ghost use Rattle.base.specs.Tabulate.{tabulate};
+ghost use Rattle.base.specs.Answer.{number};
 ghost use Rattle.grid.specs.Points.{zero32, pointAt};
-ghost use Rattle.grid.specs.Row.{gridPoints, usedPosition};
+ghost use Rattle.grid.specs.Row.{gridPoints, position as Position, usedPosition};
 ghost use Rattle.grid.specs.Question.{slotNumber};
-ghost use Rattle.grid.specs.Grid.{standsAt, pointNumber, fillOf, emptyOf};
+ghost use Rattle.grid.specs.Grid.{standsAt, pointNumber, fillOf, emptyOf, seen, sightOf, lookOf};
 ghost use Rattle.grid.specs.Model.{putPoint, combOf, tileComb, pilotNumber, pilotRow, pilotRows, laidOne, takenOne};
 
 // A point, in-phase first.
@@ -272,4 +274,67 @@ pub fn empty(c: Setup, slot: usize, grid: &[f32], points: &mut [f32]) -> u8
         s += 1;
     }
     0
+}
+
+// What is seen on a carrier that holds what `found` says, with the point p there.
+fn sight(found: Located, p: Point) -> Seen
+    ensures { λ r. ⌜ seen r ≡ sightOf (located found) p ⌝ }
+{
+    match found {
+        Located::Guard => Seen::Nothing,
+        Located::Dc => Seen::Nothing,
+        Located::Pilot => Seen::Pilot(p),
+        Located::Data {
+            slot,
+            subchannel,
+            index,
+        } => Seen::Data {
+            point: p,
+            slot,
+            subchannel,
+            index,
+        },
+        Located::Refused(number) => Seen::Refused(number),
+    }
+}
+
+// The number of a refusal, or 0.
+fn refusal_of(found: Located) -> u8
+    ensures { λ r. ⌜ r ≡ number (located found) ⌝ }
+{
+    match found {
+        Located::Guard => 0,
+        Located::Dc => 0,
+        Located::Pilot => 0,
+        Located::Data {
+            slot: _,
+            subchannel: _,
+            index: _,
+        } => 0,
+        Located::Refused(number) => number,
+    }
+}
+
+// Where a carrier of a zone's symbol stands in its slot's grid.
+fn carrier_position(c: Setup, symbol: usize, carrier: usize) -> usize
+    requires { ⌜ Valid c ⌝ }
+    requires { ⌜ carrier < c .size ⌝ }
+    ensures { λ r. ⌜ (r ≡ Position c (symbol % symbols c) carrier) × (r < gridPoints c) ⌝ }
+{
+    symbol % map::symbols(c) * c.size + carrier
+}
+
+// The point on a carrier of a zone's symbol, and whose it is; or the first refusal of 1, 2, 3, 4, 7, 9.
+pub fn look(c: Setup, symbol: usize, grid: &[f32], carrier: usize) -> Seen
+    ensures { λ r. ⌜ seen r ≡ lookOf c symbol (now (grid .entry)) carrier ⌝ }
+{
+    let found = map::locate(c, symbol, carrier);
+    let k = refusal_of(found);
+    if k != 0 {
+        return Seen::Refused(k);
+    }
+    if grid.len() != 2 * grid_points(c) {
+        return Seen::Refused(9);
+    }
+    sight(found, point_at(grid, carrier_position(c, symbol, carrier)))
 }
