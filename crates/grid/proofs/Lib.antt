@@ -8,3 +8,4 @@ pub mod Copy
 pub mod Refusal
 pub mod Passes
 pub mod Looked
+pub mod Round
