@@ -3,7 +3,7 @@ ghost use mathlib.Core.Path.{_≡_};
 ghost use Prim.Native.Nat.{_*_, _<_};
 ghost use Rattle.base.specs.Answer.{accepted, refused as Refused};
 ghost use Rattle.ofusc.specs.Width.{Width};
-ghost use Rattle.collision.specs.Collision.{ofuscHit, answerOf, ofuscOf};
+ghost use Rattle.collision.specs.Collision.{ofuscHit, amcHit, answerOf, ofuscOf, amcOf};
 
 // The first refusal, or 0; a mark for each group or index, set where the two meet; how many are set.
 pub struct Collisions {
@@ -45,6 +45,27 @@ fn ofusc_hits(n: usize, cell_a: usize, a: usize, cell_b: usize, b: usize) -> Col
     }
 }
 
+// One pass over the indices: both cells give the same place.
+fn amc_hits(cell_a: usize, cell_b: usize) -> Collisions
+    requires { ⌜ («cell_a» < 2352) × («cell_b» < 2352) ⌝ }
+    ensures { λ r. ⌜ r ≡ answerOf (accepted (amcHit «cell_a» «cell_b»)) ⌝ }
+{
+    let mut hits = [false; 48];
+    let mut count = 0;
+    let mut j = 0;
+    while j < 48 {
+        let same = amc::traffic(cell_a, j) == amc::traffic(cell_b, j);
+        hits[j] = same;
+        count += same as usize;
+        j += 1;
+    }
+    Collisions {
+        refusal: 0,
+        hits: hits,
+        count: count,
+    }
+}
+
 // The groups in which subchannel_a of cell_a and subchannel_b of cell_b are on one carrier, or the
 // first refusal of 2, 3, 3, 5, 5.
 pub fn ofusc(
@@ -73,4 +94,17 @@ pub fn ofusc(
         return refused(5);
     }
     ofusc_hits(n, cell_a, subchannel_a, cell_b, subchannel_b)
+}
+
+// The indices that both cells put on one place of a subchannel, or refusal 3.
+pub fn amc(cell_a: usize, cell_b: usize) -> Collisions
+    ensures { λ r. ⌜ r ≡ amcOf «cell_a» «cell_b» ⌝ }
+{
+    if 2352 <= cell_a {
+        return refused(3);
+    }
+    if 2352 <= cell_b {
+        return refused(3);
+    }
+    amc_hits(cell_a, cell_b)
 }
