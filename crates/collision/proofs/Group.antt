@@ -1,5 +1,5 @@
 -- Groups of optional FUSC: where a subchannel's point lies in group k, and that two are on one carrier where their elements of the field are the same. Assumes nothing.
-use mathlib.Core.Path.{_≡_, sym, ap, _∙_}
+use mathlib.Core.Path.{_≡_, sym, ap, ap₂, _∙_}
 use Prim.Native.Nat.{ℕ, _+_, _*_, _<_}
 use native.Mathlib.Omega.{arith}
 use lib.Arith.{digits-lt}
@@ -75,7 +75,7 @@ module _ {n : ℕ} (w : Width n) (k : ℕ) (h : k < 48) where
   pub hit-is : (a s b t : ℕ) → s < n → t < n → ofuscHit (64 * n) a s b t k ≡ eqb (element a s) (element b t)
   unfolding ofuscHit
   hit-is a s b t hs ht =
-      rw (carrier-in a 0 s, carrier-in b 0 t)
-      (same-test _ _ _ _
+      ap₂ eqb (carrier-in a 0 s) (carrier-in b 0 t)
+      ∙ same-test _ _ _ _
       (same-element 0 (element a s) (element b t) (element-lt a s hs) (element-lt b t ht))
-      (ap (λ (x : ℕ). carrierAt n 0 (k * n + x))))
+      (ap (λ (x : ℕ). carrierAt n 0 (k * n + x)))

@@ -7,7 +7,8 @@ use native.Mathlib.Numerals.{add-one}
 use native.Mathlib.Omega.{arith}
 use lib.ListN.{length, getD, set, replicate, length-set, length-replicate}
 use lib.Seq.{getD-set-same, getD-set-other, ext-getD}
-use mir.Val.{boolByte}
+use mir.Syntax.{w64}
+use mir.Val.{Fits, boolByte}
 use borrow.Author.Count.{below-none, below-more}
 use Rattle.base.specs.Answer.{accepted}
 use Rattle.base.specs.Tabulate.{tabulate}
@@ -31,7 +32,7 @@ module _ (hit : ℕ → Bool) where
   unfolding countOf tabulate
   start = record { within = omega arith; long = length-replicate 48 false; marked = below-none _; counted = refl }
 
-  pub fits : (k : ℕ) (hits : List Bool) (count : ℕ) (same : Bool) → Passed hit k hits count → count + boolByte same ≤ 49
+  pub fits : (k : ℕ) (hits : List Bool) (count : ℕ) (same : Bool) → Passed hit k hits count → Fits w64 (count + boolByte same)
   fits k hits count same p = omega (arith, count-le k hit, byte-is same, one-le same)
 
   pub step : (k : ℕ) (hits : List Bool) (count : ℕ) (same : Bool) → Passed hit k hits count → k < 48 → same ≡ hit k

@@ -33,9 +33,9 @@ fn ofusc_hits(n: usize, cell_a: usize, a: usize, cell_b: usize, b: usize) -> Col
     let mut count = 0;
     let mut k = 0;
     while k < 48 {
-        let same = a ^ ofusc::mask(n, cell_a, k) == b ^ ofusc::mask(n, cell_b, k);
-        hits[k] = same;
-        count += same as usize;
+        let same_element = a ^ ofusc::mask(n, cell_a, k) == b ^ ofusc::mask(n, cell_b, k);
+        hits[k] = same_element;
+        count += same_element as usize;
         k += 1;
     }
     Collisions {
@@ -54,9 +54,9 @@ fn amc_hits(cell_a: usize, cell_b: usize) -> Collisions
     let mut count = 0;
     let mut j = 0;
     while j < 48 {
-        let same = amc::traffic(cell_a, j) == amc::traffic(cell_b, j);
-        hits[j] = same;
-        count += same as usize;
+        let same_place = amc::traffic(cell_a, j) == amc::traffic(cell_b, j);
+        hits[j] = same_place;
+        count += same_place as usize;
         j += 1;
     }
     Collisions {

@@ -1,6 +1,5 @@
 -- `collision::amc_hits` meets its contract: the marks below j are set and counted. Assumes nothing.
 use Prim.Native.Nat.{_-_}
-use native.Mathlib.Omega.{arith}
 use borrow.Author.Needs.{needs}
 use Rattle.collision.specs.Collision.{amcHit}
 use Rattle.collision.proofs.Pass.{Passed, start, fits, step, answer}
@@ -29,7 +28,7 @@ cast-count : tie.Need-cast-count Inv-loop μ-loop
 cast-count c = tt
 
 add-count : tie.Need-add-count Inv-loop μ-loop
-add-count c = omega (arith, fits _ _ _ _ (lib.Dec.eqb (c .before .traffic .result) (c .traffic2 .result)) (c .before .before .before .loop .inv))
+add-count c = search (fits, needs)
 
 add-j : tie.Need-add-j Inv-loop μ-loop
 add-j c = search needs

@@ -1,9 +1,6 @@
 -- `collision::ofusc_hits` meets its contract: the marks below k are set and counted, each by the comparison inside the field. Assumes nothing.
 use mathlib.Core.Path.{sym}
 use Prim.Native.Nat.{_*_, _-_}
-use native.Mathlib.Omega.{arith}
-use lib.Bits.{bitXor}
-use lib.Dec.{eqb}
 use borrow.Author.Needs.{needs}
 use Rattle.collision.specs.Collision.{ofuscHit}
 use Rattle.collision.proofs.Group.{hit-is}
@@ -33,9 +30,7 @@ cast-count : tie.Need-cast-count Inv-loop μ-loop
 cast-count c = tt
 
 add-count : tie.Need-add-count Inv-loop μ-loop
-add-count c =
-    let a = c .before .before .before .before .args in
-    omega (arith, fits _ _ _ _ (eqb (bitXor (a .a) (c .before .mask .result)) (bitXor (a .b) (c .mask2 .result))) (c .before .before .before .loop .inv))
+add-count c = search (fits, needs)
 
 add-k : tie.Need-add-k Inv-loop μ-loop
 add-k c = search needs
