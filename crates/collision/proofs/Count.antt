@@ -13,6 +13,7 @@ use borrow.Author.Tests.{eqb-true, eqb-false, ne-eqb, ltb-true, ltb-false}
 use Rattle.base.specs.Choice.{pick}
 use Rattle.base.specs.Tabulate.{tabulate}
 use Rattle.base.proofs.Test.{cases}
+use Rattle.base.proofs.Tabulate.{length-tabulate, getD-tabulate}
 use Rattle.collision.specs.Collision.{countOf}
 use Rattle.collision.specs.Figure.{Marked, inRow, sum}
 
@@ -22,18 +23,6 @@ one hit = pick hit 1 0
 pub one-le : (hit : Bool) → one hit ≤ 1
 one-le true = omega arith
 one-le false = omega arith
-
--- a tabulated list: its length, its elements, its last one
-pub length-tabulate : {A : Type 0} (n : ℕ) (f : ℕ → A) → length (tabulate n f) ≡ n
-unfolding tabulate
-length-tabulate zero f = refl
-length-tabulate (suc n) f = ap suc (length-tabulate n (λ k. f (suc k)))
-
-pub getD-tabulate : {A : Type 0} (n : ℕ) (f : ℕ → A) (k : ℕ) (d : A) → k < n → getD (tabulate n f) k d ≡ f k
-unfolding tabulate
-getD-tabulate zero f k d h = absurd (omega arith)
-getD-tabulate (suc n) f zero d h = refl
-getD-tabulate (suc n) f (suc k) d h = getD-tabulate n (λ j. f (suc j)) k d (omega arith)
 
 pub count-last : (n : ℕ) (hit : ℕ → Bool) → countOf (tabulate (suc n) hit) ≡ countOf (tabulate n hit) + one (hit n)
 unfolding tabulate countOf

@@ -3,12 +3,12 @@ use mathlib.Core.Path.{_≡_, refl, sym, _∙_, subst, subst⁻¹}
 use mathlib.Core.Logic.{_↔_}
 use Prim.Native.Nat.{ℕ, _+_, _-_, _*_, _/_, _<_, _≤_}
 use native.Mathlib.Omega.{arith}
-use lib.Dec.{lit<}
 use borrow.Author.Tests.{eqb-true, eq-eqb}
 use Rattle.base.specs.Answer.{accepted}
 use Rattle.base.specs.Steps.{skip}
 use Rattle.base.specs.Tabulate.{tabulate}
 use Rattle.base.proofs.Chain.{same-accepted}
+use Rattle.base.proofs.Tabulate.{length-tabulate}
 use Rattle.carriers.specs.Band.{carrierOf}
 use Rattle.carriers.specs.Bin.{binPilotPlace, usedOfData}
 use Rattle.ofusc.specs.Width.{Width, n4, n8, n16, n32}
@@ -25,7 +25,7 @@ use Rattle.map.proofs.Law.{placing}
 use Rattle.map.proofs.ByMode.{in-ofusc}
 use Rattle.collision.specs.Collision.{countOf, indexIn, carrierIn, ofuscHit, amcHit, answerOf, ofuscOf, amcOf}
 use Rattle.collision.specs.Figure.{InGroup, Marked, inRow, SamePlace, SameInGroup, Reached, sum, most}
-use Rattle.collision.proofs.Count.{count-all, count-rows, length-tabulate, sum-same}
+use Rattle.collision.proofs.Count.{count-all, count-rows, sum-same}
 use Rattle.collision.proofs.Outcome.{ofusc-hits, ofusc-mark, ofusc-count, ofusc-counted, amc-mark, amc-count, amc-counted}
 use Rattle.collision.proofs.Placing.{ofusc-placed, index-is, index-in}
 use Rattle.collision.proofs.OfuscHits.{row-two, all-counts, same-subchannel, other-subchannel, met, meets}
@@ -86,10 +86,10 @@ module _ {n : ℕ} (w : Width n) (a b : ℕ) (ha : a < n * n) (hb : b < n * n) (
 -- d. At each size some choice of different cells reaches that 2, and that count.
 pub d-reached : {n : ℕ} → Width n → Reached n
 unfolding ofuscOf answerOf isFourSizes isCell isSubchannel cells subchannels width ofuscHit carrierIn indexIn placeAt spotOf band carrierOf skip usedOfData binPilotPlace dataNumber groupOf mask term p1 p2 power times remainder product coefficient modulus tabulate countOf most
-d-reached n4 = record { a = 10; s = 0; b = 4; t = 2; row = 0; a-lt = lit< tt; b-lt = lit< tt; different = λ e. omega arith; s-lt = lit< tt; t-lt = lit< tt; row-fits = omega arith; in-row = refl; in-all = refl }
-d-reached n8 = record { a = 32; s = 0; b = 45; t = 7; row = 0; a-lt = lit< tt; b-lt = lit< tt; different = λ e. omega arith; s-lt = lit< tt; t-lt = lit< tt; row-fits = omega arith; in-row = refl; in-all = refl }
-d-reached n16 = record { a = 0; s = 2; b = 244; t = 0; row = 0; a-lt = lit< tt; b-lt = lit< tt; different = λ e. omega arith; s-lt = lit< tt; t-lt = lit< tt; row-fits = omega arith; in-row = refl; in-all = refl }
-d-reached n32 = record { a = 0; s = 2; b = 1010; t = 0; row = 0; a-lt = lit< tt; b-lt = lit< tt; different = λ e. omega arith; s-lt = lit< tt; t-lt = lit< tt; row-fits = omega arith; in-row = refl; in-all = refl }
+d-reached n4 = record { a = 10; s = 0; b = 4; t = 2; row = 0; allowed = omega arith; different = λ e. omega arith; in-row = refl; in-all = refl }
+d-reached n8 = record { a = 32; s = 0; b = 45; t = 7; row = 0; allowed = omega arith; different = λ e. omega arith; in-row = refl; in-all = refl }
+d-reached n16 = record { a = 0; s = 2; b = 244; t = 0; row = 0; allowed = omega arith; different = λ e. omega arith; in-row = refl; in-all = refl }
+d-reached n32 = record { a = 0; s = 2; b = 1010; t = 0; row = 0; allowed = omega arith; different = λ e. omega arith; in-row = refl; in-all = refl }
 
 -- e. For every a, b and s, the counts over all t add up to 48.
 pub e-sum : {n : ℕ} → Width n → (a b s : ℕ) → a < n * n → b < n * n → s < n → sum n (λ t. ofuscOf (64 * n) a s b t .count) ≡ 48

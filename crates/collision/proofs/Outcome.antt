@@ -8,13 +8,13 @@ use lib.ListN.{getD}
 use borrow.Author.Tests.{lt-ltb, le-ltb}
 use Rattle.base.specs.Answer.{Answer, accepted, refused}
 use Rattle.base.specs.Tabulate.{tabulate}
+use Rattle.base.proofs.Tabulate.{getD-tabulate}
 use Rattle.ofusc.specs.Width.{Width, n4, n8, n16, n32}
 use Rattle.map.specs.Mode.{width, cells, subchannels}
 use Rattle.map.specs.Question.{isFourSizes, isCell, isSubchannel}
 use Rattle.map.proofs.Accept.{Sized, sized, four-sizes, size-passes, width-is}
 use Rattle.collision.specs.declared.Collisions.{Collisions}
 use Rattle.collision.specs.Collision.{countOf, ofuscHit, amcHit, answerOf, ofuscOf, amcOf}
-use Rattle.collision.proofs.Count.{getD-tabulate}
 
 -- N of an accepted size, and its cells
 pub record Wide (size : ℕ) : Type 0 where

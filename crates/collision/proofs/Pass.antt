@@ -12,8 +12,9 @@ use mir.Val.{Fits, boolByte}
 use borrow.Author.Count.{below-none, below-more}
 use Rattle.base.specs.Answer.{accepted}
 use Rattle.base.specs.Tabulate.{tabulate}
+use Rattle.base.proofs.Tabulate.{length-tabulate, getD-tabulate}
 use Rattle.collision.specs.Collision.{countOf, answerOf}
-use Rattle.collision.proofs.Count.{one, one-le, length-tabulate, getD-tabulate, count-last, count-le}
+use Rattle.collision.proofs.Count.{one, one-le, count-last, count-le}
 
 -- the marks below k are set as they must be, and counted
 pub record Passed (hit : ℕ → Bool) (k : ℕ) (hits : List Bool) (count : ℕ) : Type 0 where

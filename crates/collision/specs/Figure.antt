@@ -56,11 +56,7 @@ pub record Reached (n : ℕ) : Type 0 where
   pub b : ℕ
   pub t : ℕ
   pub row : ℕ
-  pub a-lt : a < n * n
-  pub b-lt : b < n * n
+  pub allowed : (a < n * n) × (s < n) × (b < n * n) × (t < n) × (row + (n - 1) ≤ 48)
   pub different : a ≡ b → ⊥
-  pub s-lt : s < n
-  pub t-lt : t < n
-  pub row-fits : row + (n - 1) ≤ 48
   pub in-row : countOf (inRow (n - 1) row (ofuscOf (64 * n) a s b t .hits)) ≡ 2
   pub in-all : ofuscOf (64 * n) a s b t .count ≡ most n
