@@ -11,7 +11,10 @@ add-t12 c = omega (arith, subchannel-runs .number-lt (c .before .before .used-da
 
 returns : tie.Need-returns
 unfolding addressOf
-returns c = cc
+returns c =
+    let a = c .before .before .group-address .ensures .0 in
+    let d = c .before .before .before .used-data .ensures .0 in
+    rw (a .0, a .1, d .0, d .1)
 
 pub address-spec : {M : Type 1} → statement M
 address-spec =

@@ -13,7 +13,10 @@ bounded y w r hy hw n e = (e, rw e (on-data y w hy hw n .data-lt))
 
 returns : tie.Need-returns
 unfolding clusterData
-returns c = bounded _ _ _ (search needs) (search needs) (search needs) (cc)
+returns c =
+    let p = c .before .before .pilots .ensures in
+    bounded _ _ _ (search needs) (search needs) (search needs)
+    (rw (c .unskip2 .ensures .0, c .before .unskip .ensures .0, p .0, p .1))
 
 pub cluster-data-spec : {M : Type 1} → statement M
 cluster-data-spec = tie.close (tie.spec (λ c κs. search needs) (λ c κs. search needs) (λ c κs. search needs) returns)

@@ -15,7 +15,7 @@ unrenumber-requires c κs = (search needs, cluster-runs .number-lt _ _ (c .pre .
 
 returns : tie.Need-returns
 unfolding groupUsed
-returns c = cc
+returns c = rw (c .cluster-place .ensures .0, c .before .before .unrenumber .ensures .0)
 
 pub group-used-spec : {M : Type 1} → statement M
 group-used-spec =

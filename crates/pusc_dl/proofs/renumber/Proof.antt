@@ -8,7 +8,11 @@ use Rattle.pusc_dl.proofs.renumber.Tie as tie
 
 returns : tie.Need-returns
 unfolding renumber
-returns c = (cc, omega (arith, r-perm .to-lt _ (c .before .turn .ensures .1)))
+returns c =
+    let i = c .before .rotate .ensures in
+    (rw (c .wide .ensures .0, i .0), omega (arith, r-perm .to-lt _ (i .1)))
 
 pub renumber-spec : {M : Type 1} → statement M
-renumber-spec = tie.close (tie.spec (λ c. search needs) (λ c κs. search needs) (λ c κs. search needs) returns)
+renumber-spec =
+    tie.close
+    (tie.spec (λ c. search needs) (λ c κs. search needs) (λ c. search needs) (λ c κs. search needs) returns)

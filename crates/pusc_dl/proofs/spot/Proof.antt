@@ -14,7 +14,7 @@ group-data-requires c κs = (search needs, rw (c .group-in .ensures .0) (omega (
 
 returns : tie.Need-returns
 unfolding spotOf
-returns c = cc
+returns c = rw (c .group-used .ensures, c .before .group-data .ensures .0, c .before .before .group-in .ensures .0)
 
 pub spot-spec : {M : Type 1} → statement M
 spot-spec =

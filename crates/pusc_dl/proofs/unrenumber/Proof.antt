@@ -6,7 +6,9 @@ use Rattle.pusc_dl.proofs.unrenumber.Tie as tie
 
 returns : tie.Need-returns
 unfolding unrenumber
-returns c = (cc, search needs)
+returns c = (rw (c .unrotate .ensures .0, c .before .wide .ensures .0), search needs)
 
 pub unrenumber-spec : {M : Type 1} → statement M
-unrenumber-spec = tie.close (tie.spec (λ c. search needs) (λ c κs. search needs) (λ c κs. search needs) returns)
+unrenumber-spec =
+    tie.close
+    (tie.spec (λ c. search needs) (λ c. search needs) (λ c κs. search needs) (λ c κs. search needs) returns)

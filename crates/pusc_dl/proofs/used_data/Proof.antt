@@ -24,7 +24,10 @@ cluster-data-requires c κs = (search needs, search needs, rw pilot-place at (c 
 
 returns : tie.Need-returns
 unfolding usedGroup usedData logicalOf
-returns c = bounded _ _ _ _ _ (search needs) (search needs) (search needs) (cc) (cc)
+returns c =
+    let l = c .before .before .renumber .ensures .0 in
+    let g = c .before .group-in .ensures .0 in
+    bounded _ _ _ _ _ (search needs) (search needs) (search needs) (rw (g, l)) (rw (c .cluster-data .ensures .0, g, l))
 
 pub used-data-spec : {M : Type 1} → statement M
 used-data-spec =
