@@ -12,12 +12,12 @@ unfoldable pub shift : ℕ → ℕ → ℕ → ℕ
 shift n zero x = x
 shift n (suc i) x = times n 2 (shift n i x)
 
--- The facts about the field of N elements.
+-- THE FACTS ABOUT THE FIELD of N elements that the figures rest on.
 pub record Doubling (n : ℕ) : Type 0 where
   pub above : 3 < n
   pub closed : (x y : ℕ) → x < n → y < n → bitXor x y < n
   pub double-lt : (x : ℕ) → x < n → times n 2 x < n
-  -- it is additive,
+  -- doubling is additive,
   pub additive : (x y : ℕ) → x < n → y < n → times n 2 (bitXor x y) ≡ bitXor (times n 2 x) (times n 2 y)
   -- comes back after N-1 steps,
   pub order : (x : ℕ) → x < n → shift n (n - 1) x ≡ x
@@ -81,9 +81,6 @@ module _ {n : ℕ} (F : Doubling n) where
   zero-lt : 0 < n
   zero-lt = let l = F .above in omega arith
 
-  one-lt : 1 < n
-  one-lt = let l = F .above in omega arith
-
   pub shift-zero : (i : ℕ) → shift n i 0 ≡ 0
   unfolding shift
   shift-zero zero = refl
@@ -108,7 +105,7 @@ module _ {n : ℕ} (F : Doubling n) where
   still zero x h l hx e = absurd (omega arith)
   still (suc i) x h l hx e = F .free i x (omega arith) hx e
 
-  -- x + 2^i·x, and the same twice: x + 2^2i·x, since a square of a sum is the sum of the squares
+  -- (1 + 2^i)·x; done twice it is (1 + 2^2i)·x, since the square of a sum is the sum of the squares
   abbrev both : ℕ → ℕ → ℕ
   both i x = bitXor x (shift n i x)
 
