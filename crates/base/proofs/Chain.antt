@@ -1,9 +1,9 @@
 -- A chain of questions, link by link. Assumes nothing.
-use mathlib.Core.Path.{_≡_, refl, sym, ap, _∙_}
+use mathlib.Core.Path.{_≡_, refl}
 use mathlib.Core.Bool.{Bool, true, false}
 use Prim.Native.Nat.{ℕ}
 use native.Mathlib.Omega.{arith}
-use Rattle.base.specs.Answer.{Answer, accepted, refused, ask}
+use Rattle.base.specs.Answer.{Answer, accepted, ask}
 
 -- where a request is accepted, each question was answered yes
 pub ask-yes : {A : Type 0} (b : Bool) (k : ℕ) (rest : Answer A) {a : A} → ask b k rest ≡ accepted a → (b ≡ true) × (rest ≡ accepted a)

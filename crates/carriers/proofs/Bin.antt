@@ -69,7 +69,7 @@ module _ (y : ℕ) where
         ∙ ap (λ (w : ℕ). u / 9 * 9 + w) (skip-unskip p (u % 9) not-p)
         ∙ omega arith
 
-    data-lt : (n : ℕ) → u < 54 * n → dataOfUsed y u < 48 * n
+    pub data-lt : (n : ℕ) → u < 54 * n → dataOfUsed y u < 48 * n
     unfolding dataOfUsed
     data-lt n h = let l = data-place-lt in omega arith
 

@@ -1,6 +1,6 @@
 -- The law of a slot speaks only of its own symbols: pilots and addresses may be given otherwise elsewhere. Assumes nothing.
 use mathlib.Core.Path.{_≡_, sym, _∙_, subst⁻¹}
-use mathlib.Core.Bool.{Bool, false}
+use mathlib.Core.Bool.{Bool}
 use Prim.Native.Nat.{ℕ, _<_}
 use Rattle.carriers.specs.declared.Spot.{Spot}
 use Rattle.carriers.specs.declared.Address.{Address}
@@ -15,10 +15,11 @@ module _
   relabel =
       record {
         lies = λ s m hs hm.
-          let l = law .lies s m hs hm in
-          record { offset-lt = l .offset-lt; used-lt = l .used-lt; no-pilot = same-pilot (spot s m .offset) (spot s m .used) (l .offset-lt) ∙ l .no-pilot };
+            let l = law .lies s m hs hm in
+            record { offset-lt = l .offset-lt; used-lt = l .used-lt; no-pilot = same-pilot (spot s m .offset) (spot s m .used) (l .offset-lt) ∙ l .no-pilot };
         found = λ s m hs hm. same-address (spot s m .offset) (spot s m .used) (law .lies s m hs hm .offset-lt) ∙ law .found s m hs hm;
         names = λ o u ho hu np. subst⁻¹ (PointOf subchannels) (same-address o u ho) (law .names o u ho hu (sym (same-pilot o u ho) ∙ np));
         placed = λ o u ho hu np.
-          subst⁻¹ (λ (a : Address). spot (a .subchannel) (a .index) ≡ record { offset = o; used = u }) (same-address o u ho)
-            (law .placed o u ho hu (sym (same-pilot o u ho) ∙ np)) }
+            subst⁻¹ (λ (a : Address). spot (a .subchannel) (a .index) ≡ record { offset = o; used = u }) (same-address o u ho)
+            (law .placed o u ho hu (sym (same-pilot o u ho) ∙ np));
+      }

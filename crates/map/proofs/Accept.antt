@@ -1,17 +1,17 @@
 -- Questions 1, 2 and 3 let pass just the valid setups. Assumes nothing.
-use mathlib.Core.Path.{_≡_, refl, sym, ap, _∙_, subst, subst⁻¹}
+use mathlib.Core.Path.{_≡_, refl, subst⁻¹}
 use mathlib.Core.Bool.{Bool, true, false}
-use Prim.Native.Nat.{ℕ, zero, suc, _+_, _*_, _/_, _<_}
+use Prim.Native.Nat.{ℕ, zero, suc, _*_, _/_, _<_, _≤_}
 use native.Mathlib.Omega.{arith}
 use lib.Dec.{eqb, ltb}
-use borrow.Author.Tests.{ltb-true, eqb-true, eqb-false, lt-ltb}
-use Rattle.base.specs.Choice.{pick}
+use borrow.Author.Tests.{ltb-true, eqb-true, ne-eqb, lt-ltb, le-ltb}
 use Rattle.base.specs.Answer.{Answer, accepted, refused, ask, number}
 use Rattle.base.proofs.Test.{cases}
 use Rattle.ofusc.specs.Width.{Width, n4, n8, n16, n32}
+use Rattle.ofusc.proofs.Sequence.{size}
 use Rattle.map.specs.declared.Setup.{Setup}
-use Rattle.map.specs.Mode.{width, cells, subchannels, symbols, band}
-use Rattle.map.specs.Question.{isMode, isFourSizes, isSize, isCell, askSetup}
+use Rattle.map.specs.Mode.{width, cells}
+use Rattle.map.specs.Question.{isMode, isFourSizes, isSize, isCell, askSetup, setupNumber}
 use Rattle.map.specs.Valid.{Valid, setup, pusc-dl, pusc-ul, ofusc, amc}
 
 -- N of a size
@@ -38,12 +38,12 @@ four-sizes : (z : ℕ) → isFourSizes z ≡ true → Sized z
 unfolding isFourSizes
 four-sizes z h =
     cases (eqb z 256)
-      (λ e. subst⁻¹ Sized (eqb-true z 256 e) (sized n4))
-      (λ e. cases (eqb z 512)
-        (λ e′. subst⁻¹ Sized (eqb-true z 512 e′) (sized n8))
-        (λ e′. cases (eqb z 1024)
-          (λ e″. subst⁻¹ Sized (eqb-true z 1024 e″) (sized n16))
-          (λ e″. subst⁻¹ Sized (eqb-true z 2048 (rw (e, e′, e″) at h)) (sized n32))))
+    (λ e. subst⁻¹ Sized (eqb-true z 256 e) (sized n4))
+    (λ e. cases (eqb z 512)
+    (λ e′. subst⁻¹ Sized (eqb-true z 512 e′) (sized n8))
+    (λ e′. cases (eqb z 1024)
+    (λ e″. subst⁻¹ Sized (eqb-true z 1024 e″) (sized n16))
+    (λ e″. subst⁻¹ Sized (eqb-true z 2048 (rw (e, e′, e″) at h)) (sized n32))))
 
 valid-at : {m : ℕ} (z k : ℕ) → Listed m → isSize (setup m z k) ≡ true → isCell (setup m z k) ≡ true → Valid (setup m z k)
 unfolding isSize isCell cells width
@@ -76,3 +76,57 @@ passes (pusc-dl h) = rw (lt-ltb _ _ h)
 passes (pusc-ul h) = rw (lt-ltb _ _ h)
 passes (ofusc {n = n} w h) = rw (size-passes w, width-is n, lt-ltb _ _ h)
 passes (amc w h) = rw (size-passes w, lt-ltb _ _ h)
+
+-- what the first three questions come to: a number, or a valid setup
+pub refused-number : {A : Type 0} (c : Setup) (rest : Answer A) → (setupNumber c ≡ 0 → ⊥) → askSetup c rest ≡ refused (setupNumber c)
+unfolding setupNumber
+refused-number c rest ne = link (isMode c) (isSize c) (isCell c) ne
+  where
+    link : (a b d : Bool) → (number (ask {A = Unit {0}} a 1 (ask b 2 (ask d 3 (accepted tt)))) ≡ 0 → ⊥)
+        → ask a 1 (ask b 2 (ask d 3 rest)) ≡ refused (number (ask {A = Unit {0}} a 1 (ask b 2 (ask d 3 (accepted tt)))))
+    link false b d ne = refl
+    link true false d ne = refl
+    link true true false ne = refl
+    link true true true ne = absurd (ne refl)
+
+pub number-valid : (c : Setup) → setupNumber c ≡ 0 → Valid c
+unfolding setupNumber
+number-valid c e = link (isMode c) (isSize c) (isCell c) e (valid c)
+  where
+    link : (a b d : Bool) → number (ask {A = Unit {0}} a 1 (ask b 2 (ask d 3 (accepted tt)))) ≡ 0 → (a ≡ true → b ≡ true → d ≡ true → Valid c) → Valid c
+    link false b d e f = absurd (omega arith)
+    link true false d e f = absurd (omega arith)
+    link true true false e f = absurd (omega arith)
+    link true true true e f = f refl refl refl
+
+pub four-rest : (size : ℕ) → (size ≡ 256 → ⊥) → (size ≡ 512 → ⊥) → (size ≡ 1024 → ⊥) → eqb size 2048 ≡ isFourSizes size
+unfolding isFourSizes
+four-rest size a b d = rw (ne-eqb size 256 a, ne-eqb size 512 b, ne-eqb size 1024 d)
+
+-- the number, question by question
+module _ (c : Setup) where
+  pub number-1 : 4 ≤ c .mode → 1 ≡ setupNumber c
+  unfolding setupNumber isMode
+  number-1 h = rw (le-ltb (c .mode) 4 h)
+
+  pub number-2 : c .mode < 4 → isSize c ≡ false → 2 ≡ setupNumber c
+  unfolding setupNumber isMode
+  number-2 h e = rw (lt-ltb (c .mode) 4 h, e)
+
+  pub number-3 : c .mode < 4 → isSize c ≡ true → cells c ≤ c .cell → 3 ≡ setupNumber c
+  unfolding setupNumber isMode isCell
+  number-3 h e l = rw (lt-ltb (c .mode) 4 h, e, le-ltb (c .cell) (cells c) l)
+
+  pub number-0 : c .mode < 4 → isSize c ≡ true → c .cell < cells c → 0 ≡ setupNumber c
+  unfolding setupNumber isMode isCell
+  number-0 h e l = rw (lt-ltb (c .mode) 4 h, e, lt-ltb (c .cell) (cells c) l)
+
+  pub size-most : isSize c ≡ true → c .size ≤ 2048
+  unfolding isSize
+  size-most h =
+      cases (ltb (c .mode) 2)
+      (λ e. omega (arith, eqb-true (c .size) 2048 (rw e at h)))
+      (λ e. most (four-sizes (c .size) (rw e at h)))
+    where
+      most : {z : ℕ} → Sized z → z ≤ 2048
+      most (sized w) = omega (arith, size w .most)

@@ -1,1 +1,190 @@
+-- THE LAW OF THE MAP, for every mode, size and cell that the questions let pass. It rests on the law of a slot, and on no mode's text. Assumes nothing.
+use mathlib.Core.Path.{_≡_, sym, ap, _∙_, subst}
+use mathlib.Core.Bool.{false}
+use Prim.Native.Nat.{ℕ, _+_, _*_, _/_, _%_, _<_}
+use native.Mathlib.Nat.{mod-lt, div-add-mod', div-lt-iff-lt-mul}
+use native.Mathlib.Omega.{arith}
+use lib.Arith.{digits-div, digits-lt}
+use borrow.Author.Tests.{lt-ltb, ltb-true}
+use Rattle.base.specs.Answer.{Answer, accepted}
+use Rattle.base.proofs.Test.{cases}
+use Rattle.base.proofs.Chain.{ask-yes, same-accepted}
+use Rattle.carriers.specs.declared.Spot.{Spot}
+use Rattle.carriers.specs.declared.Address.{Address}
+use Rattle.carriers.specs.Band.{carrierOf, usedOf, isGuard, isDc}
+use Rattle.carriers.specs.Law.{PointOf}
+use Rattle.carriers.proofs.Guards.{carrier-lt, carrier-no-guard, carrier-no-dc, used-carrier, used-lt, carrier-used}
+use Rattle.map.specs.declared.Setup.{Setup}
+use Rattle.map.specs.Mode.{subchannels, symbols, band, isPilot, spotOf, addressOf}
+use Rattle.map.specs.Question.{askSetup, isMode, isSize, isCell, isSlot, isSymbol, isSubchannel, isIndex, isCarrier}
+use Rattle.map.specs.Place.{Place, Content, point, placeAt, placeOf, pointAt, contentOf, locateOf}
+use Rattle.map.specs.Valid.{Valid}
+use Rattle.map.proofs.Accept.{valid, passes}
+use Rattle.map.proofs.ByMode.{symbols-range}
+use Rattle.map.proofs.Slot.{LawOf, slot-law, band-law}
 
+-- what an accepted setup is
+setup-asked : {A : Type 0} (c : Setup) (rest : Answer A) {a : A} → askSetup c rest ≡ accepted a → Valid c × (rest ≡ accepted a)
+setup-asked c rest e =
+    let q₁ = ask-yes (isMode c) 1 _ e in
+    let q₂ = ask-yes (isSize c) 2 _ (q₁ .1) in
+    let q₃ = ask-yes (isCell c) 3 rest (q₂ .1) in
+    (valid c (q₁ .0) (q₂ .0) (q₃ .0), q₃ .1)
+
+-- an accepted request to place, and one to locate
+pub record Placing (c : Setup) (slot s m : ℕ) (p : Place) : Type 0 where
+  pub is-valid : Valid c
+  pub slot-lt : slot < 512
+  pub subchannel-lt : s < subchannels c
+  pub index-lt : m < 48
+  pub place-is : placeAt c slot (spotOf c slot s m) ≡ p
+
+pub record Locating (c : Setup) (y k : ℕ) (w : Content) : Type 0 where
+  pub is-valid : Valid c
+  pub symbol-lt : y < 512 * symbols c
+  pub carrier-below : k < c .size
+  pub content-is : contentOf c y k ≡ w
+
+pub placing : (c : Setup) (slot s m : ℕ) {p : Place} → placeOf c slot s m ≡ accepted p → Placing c slot s m p
+unfolding placeOf isSlot isSubchannel isIndex
+placing c slot s m e =
+    let q = setup-asked c _ e in
+    let q₄ = ask-yes (isSlot slot) 4 _ (q .1) in
+    let q₅ = ask-yes (isSubchannel c s) 5 _ (q₄ .1) in
+    let q₆ = ask-yes (isIndex m) 6 _ (q₅ .1) in
+    record {
+      is-valid = q .0;
+      slot-lt = ltb-true slot 512 (q₄ .0);
+      subchannel-lt = ltb-true s (subchannels c) (q₅ .0);
+      index-lt = ltb-true m 48 (q₆ .0);
+      place-is = same-accepted (q₆ .1);
+    }
+
+pub locating : (c : Setup) (y k : ℕ) {w : Content} → locateOf c y k ≡ accepted w → Locating c y k w
+unfolding locateOf isSymbol isCarrier
+locating c y k e =
+    let q = setup-asked c _ e in
+    let q₄ = ask-yes (isSymbol c y) 4 _ (q .1) in
+    let q₇ = ask-yes (isCarrier c k) 7 _ (q₄ .1) in
+    record {
+      is-valid = q .0;
+      symbol-lt = ltb-true y (512 * symbols c) (q₄ .0);
+      carrier-below = ltb-true k (c .size) (q₇ .0);
+      content-is = same-accepted (q₇ .1);
+    }
+
+-- and back: fields in range are accepted
+pub place-accepts : (c : Setup) (slot s m : ℕ) → Valid c → slot < 512 → s < subchannels c → m < 48
+    → placeOf c slot s m ≡ accepted (placeAt c slot (spotOf c slot s m))
+unfolding placeOf isSlot isSubchannel isIndex
+place-accepts c slot s m v h₄ h₅ h₆ = passes v ∙ rw (lt-ltb _ _ h₄, lt-ltb _ _ h₅, lt-ltb _ _ h₆)
+
+pub locate-accepts : (c : Setup) (y k : ℕ) → Valid c → y < 512 * symbols c → k < c .size → locateOf c y k ≡ accepted (contentOf c y k)
+unfolding locateOf isSymbol isCarrier
+locate-accepts c y k v h₄ h₇ = passes v ∙ rw (lt-ltb _ _ h₄, lt-ltb _ _ h₇)
+
+symbols-pos : {c : Setup} → Valid c → 0 < symbols c
+symbols-pos v = symbols-range v .0
+
+-- the place of a point holds that point
+module _ (c : Setup) (v : Valid c) (slot s m : ℕ) (hs : s < subchannels c) (hm : m < 48) where
+  abbrev x : Spot
+  x = spotOf c slot s m
+
+  abbrev l : LawOf c slot
+  l = slot-law v slot
+
+  content-placed : contentOf c (slot * symbols c + x .offset) (carrierOf (band c) (x .used)) ≡ point slot s m
+  unfolding contentOf pointAt
+  content-placed =
+      let h = l .lies s m hs hm in
+      let b = band-law v in
+      rw (
+        carrier-no-guard (band c) (c .size) b (x .used) (h .used-lt),
+        carrier-no-dc (band c) (c .size) b (x .used) (h .used-lt),
+        used-carrier (band c) (c .size) b (x .used) (h .used-lt),
+        h .no-pilot,
+        l .found s m hs hm,
+        digits-div slot (h .offset-lt),
+      )
+
+-- a data carrier's point is placed there
+module _ (c : Setup) (v : Valid c) (y k : ℕ)
+    (g : isGuard (band c) (c .size) k ≡ false) (d : isDc (band c) k ≡ false) (np : isPilot c y (usedOf (band c) k) ≡ false) where
+  abbrev u : ℕ
+  u = usedOf (band c) k
+
+  abbrev a : Address
+  a = addressOf c y u
+
+  u-lt : u < band c .used
+  u-lt = used-lt (band c) (c .size) (band-law v) k g d
+
+  -- symbol y is symbol y mod L of slot y div L
+  in-slot : PointOf (subchannels c) a × (spotOf c (y / symbols c) (a .subchannel) (a .index) ≡ record { offset = y % symbols c; used = u })
+  in-slot =
+      let slot = y / symbols c in
+      let o = y % symbols c in
+      let h = mod-lt y (symbols-pos v) in
+      subst (λ (t : ℕ). isPilot c t u ≡ false → PointOf (subchannels c) (addressOf c t u) × (spotOf c slot (addressOf c t u .subchannel) (addressOf c t u .index) ≡ record { offset = o; used = u }))
+      (div-add-mod' y (symbols c)) (λ q. (slot-law v slot .names o u h u-lt q, slot-law v slot .placed o u h u-lt q)) np
+
+  pub data-content : contentOf c y k ≡ point (y / symbols c) (a .subchannel) (a .index)
+  unfolding contentOf pointAt
+  data-content = rw (g, d, np)
+
+  pub data-placed : y < 512 * symbols c → placeOf c (y / symbols c) (a .subchannel) (a .index) ≡ accepted (record { symbol = y; carrier = k })
+  unfolding placeAt
+  data-placed h =
+      place-accepts c (y / symbols c) (a .subchannel) (a .index) v (div-lt-iff-lt-mul (symbols-pos v) .1 h) (in-slot .0 .subchannel-lt) (in-slot .0 .index-lt)
+      ∙ ap (λ (t : Spot). accepted (placeAt c (y / symbols c) t)) (in-slot .1)
+      ∙ (λ i. accepted (record { symbol = div-add-mod' y (symbols c) i; carrier = carrier-used (band c) (c .size) (band-law v) k g d i }))
+
+-- LOCATE FINDS WHAT PLACE PLACED. Where a request to place is accepted, the carrier holds that point and no other.
+pub located-where-placed : (c : Setup) (slot s m : ℕ) {p : Place} → placeOf c slot s m ≡ accepted p
+    → locateOf c (p .symbol) (p .carrier) ≡ accepted (point slot s m)
+unfolding placeAt
+located-where-placed c slot s m {p} e =
+    let q = placing c slot s m e in
+    let h = slot-law (q .is-valid) slot .lies s m (q .subchannel-lt) (q .index-lt) in
+    ap (λ (t : Place). locateOf c (t .symbol) (t .carrier)) (sym (q .place-is))
+    ∙ locate-accepts c _ _ (q .is-valid) (digits-lt (q .slot-lt) (h .offset-lt))
+    (carrier-lt (band c) (c .size) (band-law (q .is-valid)) (spotOf c slot s m .used) (h .used-lt))
+    ∙ ap accepted (content-placed c (q .is-valid) slot s m (q .subchannel-lt) (q .index-lt))
+
+-- a carrier that holds a point is no guard, not DC and no pilot
+point-carrier : (c : Setup) (y k : ℕ) {slot s m : ℕ} → contentOf c y k ≡ point slot s m
+    → (isGuard (band c) (c .size) k ≡ false) × (isDc (band c) k ≡ false) × (isPilot c y (usedOf (band c) k) ≡ false)
+unfolding contentOf
+point-carrier c y k e =
+    cases (isGuard (band c) (c .size) k)
+    (λ g. absurd (let h = rw g at e in let z : _≡_ {A = ℕ} 0 1 = cc in omega arith))
+    (λ g. cases (isDc (band c) k)
+    (λ d. absurd (let h = rw (g, d) at e in let z : _≡_ {A = ℕ} 0 1 = cc in omega arith))
+    (λ d. cases (isPilot c y (usedOf (band c) k))
+    (λ p. absurd (let h = rw (g, d, p) at e in let z : _≡_ {A = ℕ} 0 1 = cc in omega arith))
+    (λ p. (g, d, p))))
+
+-- PLACE PUTS A POINT WHERE LOCATE FOUND IT. Where a carrier holds data, it is the place of the address that `locate` gives.
+pub placed-where-located : (c : Setup) (y k slot s m : ℕ) → locateOf c y k ≡ accepted (point slot s m)
+    → placeOf c slot s m ≡ accepted (record { symbol = y; carrier = k })
+placed-where-located c y k slot s m e =
+    let q = locating c y k e in
+    let n = point-carrier c y k (q .content-is) in
+    let h = sym (data-content c (q .is-valid) y k (n .0) (n .1) (n .2)) ∙ q .content-is in
+    cc (data-placed c (q .is-valid) y k (n .0) (n .1) (n .2) (q .symbol-lt))
+
+-- So different addresses have different places: each data subcarrier belongs to just one slot, subchannel and index.
+pub one-address : (c : Setup) (slot s m slot′ s′ m′ : ℕ) {p : Place} → placeOf c slot s m ≡ accepted p → placeOf c slot′ s′ m′ ≡ accepted p
+    → (slot ≡ slot′) × (s ≡ s′) × (m ≡ m′)
+one-address c slot s m slot′ s′ m′ {p} e e′ =
+    let h : point slot s m ≡ point slot′ s′ m′ = same-accepted (sym (located-where-placed c slot s m e) ∙ located-where-placed c slot′ s′ m′ e′) in
+    ((cc), (cc), (cc))
+
+-- And nothing is left over: a carrier of an accepted symbol that is no guard, not DC and no pilot is the place of a point.
+pub data-elsewhere : (c : Setup) (y k : ℕ) {w : Content} → locateOf c y k ≡ accepted w
+    → isGuard (band c) (c .size) k ≡ false → isDc (band c) k ≡ false → isPilot c y (usedOf (band c) k) ≡ false
+    → (slot : ℕ) × (s : ℕ) × (m : ℕ) × (placeOf c slot s m ≡ accepted (record { symbol = y; carrier = k }))
+data-elsewhere c y k e g d np =
+    let q = locating c y k e in
+    (y / symbols c, a c (q .is-valid) y k g d np .subchannel, a c (q .is-valid) y k g d np .index, data-placed c (q .is-valid) y k g d np (q .symbol-lt))

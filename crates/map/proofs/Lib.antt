@@ -1,2 +1,6 @@
+-- Laws of the map.
 pub mod Accept
+pub mod ByMode
+pub mod Slot
 pub mod Law
+pub mod Outcome

@@ -17,34 +17,34 @@ use Rattle.ofusc.specs.Map as ofusc
 use Rattle.amc.specs.Map as amc
 
 -- PUSC downlink (mode 0, partial down), PUSC uplink (1, partial up), optional FUSC (2, spread), AMC (3, adjacent)
-abbrev pub byMode : {A : Type 0} → Setup → A → A → A → A → A
-byMode c a₀ a₁ a₂ a₃ = pick (eqb (c .mode) 0) a₀ (pick (eqb (c .mode) 1) a₁ (pick (eqb (c .mode) 2) a₂ a₃))
+abbrev pub byMode : {A : Type 0} → ℕ → A → A → A → A → A
+byMode mode a₀ a₁ a₂ a₃ = pick (eqb mode 0) a₀ (pick (eqb mode 1) a₁ (pick (eqb mode 2) a₂ a₃))
 
 -- N: the size is 64N
 unfoldable pub width : Setup → ℕ
 width c = c .size / 64
 
 unfoldable pub cells : Setup → ℕ
-cells c = byMode c 32 70 (width c * width c) 2352
+cells c = byMode (c .mode) 32 70 (width c * width c) 2352
 
 unfoldable pub subchannels : Setup → ℕ
-subchannels c = byMode c 60 70 (width c) (width c)
+subchannels c = byMode (c .mode) 60 70 (width c) (width c)
 
 -- symbols a slot
 unfoldable pub symbols : Setup → ℕ
-symbols c = byMode c 2 3 1 1
+symbols c = byMode (c .mode) 2 3 1 1
 
 unfoldable pub band : Setup → Band
-band c = byMode c puscBand puscBand (binBand (width c)) (binBand (width c))
+band c = byMode (c .mode) puscBand puscBand (binBand (width c)) (binBand (width c))
 
 -- Is used number u a pilot in symbol y of the zone? (Tiles go by the symbol in the slot.)
 unfoldable pub isPilot : Setup → ℕ → ℕ → Bool
-isPilot c y u = byMode c (isClusterPilot y u) (isTilePilot (y % 3) u) (isBinPilot y u) (isBinPilot y u)
+isPilot c y u = byMode (c .mode) (isClusterPilot y u) (isTilePilot (y % 3) u) (isBinPilot y u) (isBinPilot y u)
 
 -- where index m of a subchannel lies in a slot, and whose point a used number that is no pilot holds in symbol y of the zone
 unfoldable pub spotOf : Setup → ℕ → ℕ → ℕ → Spot
 spotOf c slot s m =
-    byMode c
+    byMode (c .mode)
     (pusc-dl.spotOf (c .cell) s m)
     (pusc-ul.spotOf (c .cell) s m)
     (binSpot slot (ofusc.dataNumber (width c) (c .cell) s m))
@@ -52,7 +52,7 @@ spotOf c slot s m =
 
 unfoldable pub addressOf : Setup → ℕ → ℕ → Address
 addressOf c y u =
-    byMode c
+    byMode (c .mode)
     (pusc-dl.addressOf (c .cell) (y % 2) u)
     (pusc-ul.addressOf (c .cell) (y % 3) u)
     (ofusc.addressOf (width c) (c .cell) (dataOfUsed y u))

@@ -3,7 +3,7 @@ use mathlib.Core.Bool.{Bool, true}
 use Prim.Native.Nat.{ℕ, _*_}
 use lib.Dec.{eqb, ltb}
 use Rattle.base.specs.Choice.{pick}
-use Rattle.base.specs.Answer.{Answer, ask}
+use Rattle.base.specs.Answer.{Answer, accepted, ask, number}
 use Rattle.map.specs.declared.Setup.{Setup}
 use Rattle.map.specs.Mode.{cells, subchannels, symbols}
 
@@ -47,3 +47,7 @@ askSetup c rest =
     ask (isMode c) 1
     (ask (isSize c) 2
     (ask (isCell c) 3 rest))
+
+-- the number of the first of them that is answered no, 0 where none is
+unfoldable pub setupNumber : Setup → ℕ
+setupNumber c = number (askSetup {A = Unit {0}} c (accepted tt))

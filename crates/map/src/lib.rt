@@ -1,4 +1,16 @@
 // The map: ranges, refusals, placing a point and locating a carrier, in all modes.
+use carriers::Address;
+use carriers::Band;
+use carriers::Spot;
+ghost use mathlib.Core.Path.{_≡_};
+ghost use mathlib.Core.Bool.{false};
+ghost use Prim.Native.Nat.{_*_, _<_, _≤_};
+ghost use Rattle.base.specs.Answer.{accepted};
+ghost use Rattle.carriers.specs.Bin.{binSpot};
+ghost use Rattle.map.specs.Mode.{width as Width, cells as Cells, subchannels as Subchannels, symbols as Symbols, band as BandOf, isPilot, spotOf, addressOf};
+ghost use Rattle.map.specs.Question.{isFourSizes, isSize, setupNumber};
+ghost use Rattle.map.specs.Place.{placed, placeAt, placeOf, located, contentOf, locateOf};
+ghost use Rattle.map.specs.Valid.{Valid};
 
 // What a zone fixes: mode, FFT size and cell.
 pub struct Setup {
@@ -18,6 +30,251 @@ pub enum Located {
     Guard,
     Dc,
     Pilot,
-    Data { slot: usize, subchannel: usize, index: usize },
+    Data {
+        slot: usize,
+        subchannel: usize,
+        index: usize,
+    },
     Refused(u8),
+}
+
+// N of modes 2 and 3.
+pub fn width(c: Setup) -> usize
+    ensures { λ r. ⌜ r ≡ Width c ⌝ }
+{
+    c.size / 64
+}
+
+fn cells(c: Setup) -> usize
+    requires { ⌜ c .size ≤ 2048 ⌝ }
+    ensures { λ r. ⌜ r ≡ Cells c ⌝ }
+{
+    if c.mode == 0 {
+        return 32;
+    }
+    if c.mode == 1 {
+        return 70;
+    }
+    if c.mode == 2 {
+        return width(c) * width(c);
+    }
+    2352
+}
+
+pub fn subchannels(c: Setup) -> usize
+    ensures { λ r. ⌜ r ≡ Subchannels c ⌝ }
+{
+    if c.mode == 0 {
+        return 60;
+    }
+    if c.mode == 1 {
+        return 70;
+    }
+    width(c)
+}
+
+// Symbols a slot.
+pub fn symbols(c: Setup) -> usize
+    ensures { λ r. ⌜ r ≡ Symbols c ⌝ }
+{
+    if c.mode == 0 {
+        return 2;
+    }
+    if c.mode == 1 {
+        return 3;
+    }
+    1
+}
+
+pub fn band(c: Setup) -> Band
+    requires { ⌜ Valid c ⌝ }
+    ensures { λ r. ⌜ r ≡ BandOf c ⌝ }
+{
+    if c.mode == 0 {
+        return carriers::pusc_band();
+    }
+    if c.mode == 1 {
+        return carriers::pusc_band();
+    }
+    carriers::bin_band(width(c))
+}
+
+// Is it one of the four sizes of modes 2 and 3?
+pub fn is_four_sizes(size: usize) -> bool
+    ensures { λ r. ⌜ r ≡ isFourSizes size ⌝ }
+{
+    if size == 256 {
+        return true;
+    }
+    if size == 512 {
+        return true;
+    }
+    if size == 1024 {
+        return true;
+    }
+    size == 2048
+}
+
+fn is_size(c: Setup) -> bool
+    ensures { λ r. ⌜ r ≡ isSize c ⌝ }
+{
+    if c.mode < 2 {
+        c.size == 2048
+    } else {
+        is_four_sizes(c.size)
+    }
+}
+
+// The number of the first of questions 1, 2 and 3 that is answered no, or 0.
+pub fn refusal(c: Setup) -> u8
+    ensures { λ r. ⌜ r ≡ setupNumber c ⌝ }
+{
+    if 4 <= c.mode {
+        return 1;
+    }
+    if !is_size(c) {
+        return 2;
+    }
+    if cells(c) <= c.cell {
+        return 3;
+    }
+    0
+}
+
+// Where data number d lies in a slot of one symbol.
+fn bin_spot(slot: usize, d: usize) -> Spot
+    requires { ⌜ d < 65536 ⌝ }
+    ensures { λ r. ⌜ r ≡ binSpot slot d ⌝ }
+{
+    Spot {
+        offset: 0,
+        used: carriers::used_of_data(slot, d),
+    }
+}
+
+// Where a point lies in its slot.
+pub fn spot(c: Setup, slot: usize, subchannel: usize, index: usize) -> Spot
+    requires { ⌜ Valid c ⌝ }
+    requires { ⌜ (subchannel < Subchannels c) × (index < 48) ⌝ }
+    ensures { λ r. ⌜ r ≡ spotOf c slot subchannel index ⌝ }
+{
+    if c.mode == 0 {
+        return pusc_dl::spot(c.cell, subchannel, index);
+    }
+    if c.mode == 1 {
+        return pusc_ul::spot(c.cell, subchannel, index);
+    }
+    if c.mode == 2 {
+        return bin_spot(
+            slot,
+            ofusc::data_number(width(c), c.cell, subchannel, index),
+        );
+    }
+    bin_spot(slot, amc::data_number(c.cell, subchannel, index))
+}
+
+pub fn is_pilot(c: Setup, symbol: usize, used: usize) -> bool
+    ensures { λ r. ⌜ r ≡ isPilot c symbol used ⌝ }
+{
+    if c.mode == 0 {
+        return pusc_dl::is_pilot(symbol, used);
+    }
+    if c.mode == 1 {
+        return pusc_ul::is_pilot(symbol % 3, used);
+    }
+    carriers::is_bin_pilot(symbol, used)
+}
+
+// Whose point a used number holds that is no pilot.
+fn address(c: Setup, symbol: usize, used: usize) -> Address
+    requires { ⌜ Valid c ⌝ }
+    requires { ⌜ used < BandOf c .used ⌝ }
+    requires { ⌜ isPilot c symbol used ≡ false ⌝ }
+    ensures { λ r. ⌜ r ≡ addressOf c symbol used ⌝ }
+{
+    if c.mode == 0 {
+        return pusc_dl::address(c.cell, symbol % 2, used);
+    }
+    if c.mode == 1 {
+        return pusc_ul::address(c.cell, symbol % 3, used);
+    }
+    let d = carriers::data_of_used(symbol, used);
+    if c.mode == 2 {
+        return ofusc::address(width(c), c.cell, d);
+    }
+    amc::address(c.cell, d)
+}
+
+// The place of a spot of a slot.
+fn at(c: Setup, slot: usize, x: Spot) -> Placed
+    requires { ⌜ Valid c ⌝ }
+    requires { ⌜ (slot < 512) × (x .offset < Symbols c) × (x .used < BandOf c .used) ⌝ }
+    ensures { λ r. ⌜ placed r ≡ accepted (placeAt c slot x) ⌝ }
+{
+    Placed::At {
+        symbol: slot * symbols(c) + x.offset,
+        carrier: carriers::carrier(band(c), x.used),
+    }
+}
+
+// The zone's symbol and the carrier of a point, or the first refusal of 1, 2, 3, 4, 5, 6.
+pub fn place(setup: Setup, slot: usize, subchannel: usize, index: usize) -> Placed
+    ensures { λ r. ⌜ placed r ≡ placeOf setup slot subchannel index ⌝ }
+{
+    let k = refusal(setup);
+    if k != 0 {
+        return Placed::Refused(k);
+    }
+    if 512 <= slot {
+        return Placed::Refused(4);
+    }
+    if subchannels(setup) <= subchannel {
+        return Placed::Refused(5);
+    }
+    if 48 <= index {
+        return Placed::Refused(6);
+    }
+    at(setup, slot, spot(setup, slot, subchannel, index))
+}
+
+// What a carrier of an accepted symbol holds.
+fn content(c: Setup, symbol: usize, carrier: usize) -> Located
+    requires { ⌜ Valid c ⌝ }
+    requires { ⌜ carrier < c .size ⌝ }
+    ensures { λ r. ⌜ located r ≡ accepted (contentOf c symbol carrier) ⌝ }
+{
+    let b = band(c);
+    if carriers::is_guard(b, c.size, carrier) {
+        return Located::Guard;
+    }
+    if carriers::is_dc(b, carrier) {
+        return Located::Dc;
+    }
+    let used = carriers::used(b, carrier);
+    if is_pilot(c, symbol, used) {
+        return Located::Pilot;
+    }
+    let a = address(c, symbol, used);
+    Located::Data {
+        slot: symbol / symbols(c),
+        subchannel: a.subchannel,
+        index: a.index,
+    }
+}
+
+// What a carrier holds in a symbol of the zone, or the first refusal of 1, 2, 3, 4, 7.
+pub fn locate(setup: Setup, symbol: usize, carrier: usize) -> Located
+    ensures { λ r. ⌜ located r ≡ locateOf setup symbol carrier ⌝ }
+{
+    let k = refusal(setup);
+    if k != 0 {
+        return Located::Refused(k);
+    }
+    if 512 * symbols(setup) <= symbol {
+        return Located::Refused(4);
+    }
+    if setup.size <= carrier {
+        return Located::Refused(7);
+    }
+    content(setup, symbol, carrier)
 }

@@ -1,5 +1,5 @@
 -- Major groups: numbers and groups, and the points and the data numbers of a group, each one for one. Assumes nothing.
-use mathlib.Core.Path.{_≡_, ap, ap₂, _∙_}
+use mathlib.Core.Path.{_≡_, ap₂, _∙_}
 use mathlib.Core.Bool.{Bool}
 use mathlib.Core.List.{List}
 use Prim.Native.Nat.{ℕ, _+_, _-_, _*_, _/_, _%_, _<_, _≤_}
@@ -17,6 +17,10 @@ use Rattle.pusc_dl.proofs.Tables.{b12-perm, b8-perm}
 size-pos : (g : ℕ) → 0 < groupSize g
 unfolding groupSize
 size-pos g = cases (eqb (g % 2) 0) (λ e. rw e (lit< tt)) (λ e. rw e (lit< tt))
+
+pub size-8 : (g : ℕ) → (groupSize g ≡ 12 → ⊥) → groupSize g ≡ 8
+unfolding groupSize
+size-8 g ne = cases (eqb (g % 2) 0) (λ e. absurd (ne (rw e))) (λ e. rw e)
 
 base-perm : (g : ℕ) → Perm (groupSize g) (baseOf (groupSize g)) (baseInverse (groupSize g))
 unfolding groupSize baseOf baseInverse

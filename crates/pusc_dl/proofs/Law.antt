@@ -1,16 +1,15 @@
 -- The law of PUSC downlink: from the points of a group to its data numbers, and from these to the used numbers of a symbol. Assumes nothing.
-use mathlib.Core.Path.{_≡_, refl, sym, ap, ap₂, _∙_}
+use mathlib.Core.Path.{_≡_}
 use mathlib.Core.Bool.{false}
-use Prim.Native.Nat.{ℕ, _+_, _-_, _*_, _/_, _%_, _<_, _≤_}
+use Prim.Native.Nat.{ℕ, _+_, _-_, _*_, _/_, _%_, _<_}
 use native.Mathlib.Nat.{div-add-mod', add-sub-cancel-left}
 use native.Mathlib.Omega.{arith}
 use lib.Arith.{digits-div, digits-mod, digits-lt}
-use Rattle.base.specs.Steps.{rotate, unrotate, entry}
-use Rattle.base.proofs.Perm.{Perm}
+use Rattle.base.specs.Steps.{unrotate, entry}
 use Rattle.carriers.specs.Law.{SlotLaw, DataSpot, PointOf}
-use Rattle.pusc_dl.specs.Table.{renumbering, renumberingInverse}
-use Rattle.pusc_dl.specs.Cluster.{renumber, unrenumber, isClusterPilot, clusterPlace, clusterData}
-use Rattle.pusc_dl.specs.Group.{clusterStarts, subchannelStarts, groupIn, groupSize, groupData, groupSubchannel, groupIndex}
+use Rattle.pusc_dl.specs.Table.{renumberingInverse}
+use Rattle.pusc_dl.specs.Cluster.{renumber, unrenumber, isClusterPilot, clusterPlace}
+use Rattle.pusc_dl.specs.Group.{clusterStarts, subchannelStarts, groupIn, groupSize, groupData, groupSubchannel}
 use Rattle.pusc_dl.specs.Map.{spotOf, addressOf, groupUsed, logicalOf, usedGroup, usedData}
 use Rattle.pusc_dl.proofs.Cluster.{renumber-perm, OnPlace, on-place, OnData, on-data, pilot-place}
 use Rattle.pusc_dl.proofs.Group as group
@@ -24,23 +23,26 @@ module _ (cell : ℕ) where
     run-lt : d / 12 < 2 * groupSize g
     run-lt = omega arith
 
-    physical-lt : unrotate 120 (13 * cell) (entry renumberingInverse logical) < 120
-    physical-lt = renumber-perm cell .from-lt logical (group.cluster-runs .number-lt g (d / 12) hg run-lt)
+    fits : logical < 120
+    fits = group.cluster-runs .number-lt g (d / 12) hg run-lt
+
+    abbrev cluster : ℕ
+    cluster = unrotate 120 (13 * cell) (entry renumberingInverse logical)
 
     at-place : OnPlace y (d % 12)
     at-place = on-place y (d % 12) hy (omega arith)
 
     used-lt : groupUsed cell y g d < 1680
     unfolding groupUsed unrenumber
-    used-lt = digits-lt physical-lt (at-place .place-lt)
+    used-lt = digits-lt (renumber-perm cell .from-lt logical fits) (at-place .place-lt)
 
     used-place : groupUsed cell y g d % 14 ≡ clusterPlace y (d % 12)
     unfolding groupUsed unrenumber
-    used-place = digits-mod (unrotate 120 (13 * cell) (entry renumberingInverse logical)) (at-place .place-lt)
+    used-place = digits-mod cluster (at-place .place-lt)
 
     used-logical : logicalOf cell (groupUsed cell y g d) .0 ≡ logical
     unfolding groupUsed logicalOf renumber unrenumber
-    used-logical = rw (digits-div (unrotate 120 (13 * cell) (entry renumberingInverse logical)) (at-place .place-lt)) (renumber-perm cell .forth logical (group.cluster-runs .number-lt g (d / 12) hg run-lt))
+    used-logical = rw (digits-div cluster (at-place .place-lt)) (renumber-perm cell .forth logical fits)
 
     used-group : usedGroup cell (groupUsed cell y g d) ≡ g
     unfolding usedGroup
@@ -59,11 +61,11 @@ module _ (cell : ℕ) where
     at-data : OnData y (u % 14)
     at-data = on-data y (u % 14) hy (omega arith) (rw (pilot-place y u) at e)
 
-    group-lt : usedGroup cell u < 6
+    pub group-lt : usedGroup cell u < 6
     unfolding usedGroup
     group-lt = group.cluster-runs .group-lt (logicalOf cell u .0) logical-lt
 
-    data-lt : usedData cell y u < 24 * groupSize (usedGroup cell u)
+    pub data-lt : usedData cell y u < 24 * groupSize (usedGroup cell u)
     unfolding usedData usedGroup
     data-lt = omega (arith, group.cluster-runs .run-lt (logicalOf cell u .0) logical-lt, at-data .data-lt)
 
@@ -104,10 +106,14 @@ module _ (cell : ℕ) where
     placed : spotOf cell (addressOf cell y u .subchannel) (addressOf cell y u .index) ≡ record { offset = y; used = u }
     unfolding spotOf addressOf
     placed =
-        rw (group.subchannel-runs .group-of its-group its-subchannel group-lt subchannel-lt,
+        rw (
+          group.subchannel-runs .group-of its-group its-subchannel group-lt subchannel-lt,
           add-sub-cancel-left (entry subchannelStarts its-group) its-subchannel,
-          digits-div y (group.index-lt its-group cell its-data), digits-mod y (group.index-lt its-group cell its-data),
-          group.data-forth its-group cell its-data data-lt, used-forth)
+          digits-div y (group.index-lt its-group cell its-data),
+          digits-mod y (group.index-lt its-group cell its-data),
+          group.data-forth its-group cell its-data data-lt,
+          used-forth,
+        )
 
   -- point i of subchannel s
   module _ (s i : ℕ) (hs : s < 60) (hi : i < 48) where
@@ -145,14 +151,20 @@ module _ (cell : ℕ) where
           offset-lt = y-lt;
           used-lt = used-lt (i / 24) g d y-lt g-lt d-lt;
           no-pilot =
-            rw (pilot-place, used-place (i / 24) g d y-lt g-lt d-lt) (at-place (i / 24) g d y-lt g-lt d-lt .no-pilot);
+              rw (pilot-place, used-place (i / 24) g d y-lt g-lt d-lt) (at-place (i / 24) g d y-lt g-lt d-lt .no-pilot);
         }
 
     found : addressOf cell (spotOf cell s i .offset) (spotOf cell s i .used) ≡ record { subchannel = s; index = i }
     unfolding spotOf addressOf
     found =
-        rw (used-group (i / 24) g d y-lt g-lt d-lt, used-data (i / 24) g d y-lt g-lt d-lt,
-          group.subchannel-back g cell r (i % 24) r-lt k-lt, group.index-back g cell r (i % 24) r-lt k-lt, s-back, div-add-mod' i 24)
+        rw (
+          used-group (i / 24) g d y-lt g-lt d-lt,
+          used-data (i / 24) g d y-lt g-lt d-lt,
+          group.subchannel-back g cell r (i % 24) r-lt k-lt,
+          group.index-back g cell r (i % 24) r-lt k-lt,
+          s-back,
+          div-add-mod' i 24,
+        )
 
   pub law : SlotLaw 2 60 1680 isClusterPilot (spotOf cell) (addressOf cell)
   law = record { lies = lies; found = found; names = names; placed = placed }

@@ -1,6 +1,516 @@
 // PUSC downlink: clusters, their renumbering, major groups and the inner permutation.
+use carriers::Address;
+use carriers::Spot;
+ghost use mathlib.Core.Path.{_≡_};
+ghost use mathlib.Core.Bool.{false};
+ghost use Prim.Native.Nat.{_+_, _*_, _<_, _≤_};
+ghost use lib.Dec.{eqb};
+ghost use Rattle.base.specs.Choice.{pick};
+ghost use Rattle.base.specs.Steps.{entry, rotate, unrotate, skip, unskip};
+ghost use Rattle.pusc_dl.specs.Cluster as cluster;
+ghost use Rattle.pusc_dl.specs.Cluster.{firstPilot, secondPilot, isClusterPilot, clusterPlace, clusterData};
+ghost use Rattle.pusc_dl.specs.Group.{groupIn, groupSize, groupData, groupSubchannel, groupIndex};
+ghost use Rattle.pusc_dl.specs.Map.{groupUsed, usedGroup, usedData, spotOf, addressOf};
 
 // A cluster's number in the order of the carriers, and its number after the renumbering. They are never added or compared.
 pub struct Physical(pub usize);
 
 pub struct Logical(pub usize);
+
+// R of document 01, as document 003 prints it, and its inverse.
+const RENUMBERING: [u8; 120] = [
+    6,
+    108,
+    37,
+    81,
+    31,
+    100,
+    42,
+    116,
+    32,
+    107,
+    30,
+    93,
+    54,
+    78,
+    10,
+    75,
+    50,
+    111,
+    58,
+    106,
+    23,
+    105,
+    16,
+    117,
+    39,
+    95,
+    7,
+    115,
+    25,
+    119,
+    53,
+    71,
+    22,
+    98,
+    28,
+    79,
+    17,
+    63,
+    27,
+    72,
+    29,
+    86,
+    5,
+    101,
+    49,
+    104,
+    9,
+    68,
+    1,
+    73,
+    36,
+    74,
+    43,
+    62,
+    20,
+    84,
+    52,
+    64,
+    34,
+    60,
+    66,
+    48,
+    97,
+    21,
+    91,
+    40,
+    102,
+    56,
+    92,
+    47,
+    90,
+    33,
+    114,
+    18,
+    70,
+    15,
+    110,
+    51,
+    118,
+    46,
+    83,
+    45,
+    76,
+    57,
+    99,
+    35,
+    67,
+    55,
+    85,
+    59,
+    113,
+    11,
+    82,
+    38,
+    88,
+    19,
+    77,
+    3,
+    87,
+    12,
+    89,
+    26,
+    65,
+    41,
+    109,
+    44,
+    69,
+    8,
+    61,
+    13,
+    96,
+    14,
+    103,
+    2,
+    80,
+    24,
+    112,
+    4,
+    94,
+    0,
+];
+
+const RENUMBERING_INVERSE: [u8; 120] = [
+    119,
+    48,
+    113,
+    97,
+    117,
+    42,
+    0,
+    26,
+    107,
+    46,
+    14,
+    91,
+    99,
+    109,
+    111,
+    75,
+    22,
+    36,
+    73,
+    95,
+    54,
+    63,
+    32,
+    20,
+    115,
+    28,
+    101,
+    38,
+    34,
+    40,
+    10,
+    4,
+    8,
+    71,
+    58,
+    85,
+    50,
+    2,
+    93,
+    24,
+    65,
+    103,
+    6,
+    52,
+    105,
+    81,
+    79,
+    69,
+    61,
+    44,
+    16,
+    77,
+    56,
+    30,
+    12,
+    87,
+    67,
+    83,
+    18,
+    89,
+    59,
+    108,
+    53,
+    37,
+    57,
+    102,
+    60,
+    86,
+    47,
+    106,
+    74,
+    31,
+    39,
+    49,
+    51,
+    15,
+    82,
+    96,
+    13,
+    35,
+    114,
+    3,
+    92,
+    80,
+    55,
+    88,
+    41,
+    98,
+    94,
+    100,
+    70,
+    64,
+    68,
+    11,
+    118,
+    25,
+    110,
+    62,
+    33,
+    84,
+    5,
+    43,
+    66,
+    112,
+    45,
+    21,
+    19,
+    9,
+    1,
+    104,
+    76,
+    17,
+    116,
+    90,
+    72,
+    27,
+    7,
+    23,
+    78,
+    29,
+];
+
+// B of a group of 12 subchannels and of one of 8, and their inverses.
+const BASE_12: [u8; 12] = [6, 9, 4, 8, 10, 11, 5, 2, 7, 3, 1, 0];
+
+const BASE_12_INVERSE: [u8; 12] = [11, 10, 7, 9, 2, 6, 0, 8, 3, 1, 4, 5];
+
+const BASE_8: [u8; 8] = [7, 4, 0, 2, 1, 5, 3, 6];
+
+const BASE_8_INVERSE: [u8; 8] = [2, 4, 3, 6, 1, 5, 7, 0];
+
+// The first logical cluster and the first subchannel of each group.
+const CLUSTER_STARTS: [usize; 6] = [0, 24, 40, 64, 80, 104];
+
+const SUBCHANNEL_STARTS: [usize; 6] = [0, 12, 20, 32, 40, 52];
+
+// An entry of a table, as a number.
+fn wide(x: u8) -> usize
+    ensures { λ r. ⌜ (r ≡ x) × (r < 256) ⌝ }
+{
+    x as usize
+}
+
+// x moved on by c modulo n, and y moved back.
+fn turn(n: usize, c: usize, x: usize) -> usize
+    requires { ⌜ (0 < n) × (c < 512) × (x < 256) ⌝ }
+    ensures { λ r. ⌜ (r ≡ rotate n c x) × (r < n) ⌝ }
+{
+    (x + c) % n
+}
+
+fn turn_back(n: usize, c: usize, y: usize) -> usize
+    requires { ⌜ (0 < n) × (n < 256) × (y < 256) ⌝ }
+    ensures { λ r. ⌜ (r ≡ unrotate n c y) × (r < n) ⌝ }
+{
+    (y + (n - c % n)) % n
+}
+
+// The only passage between the two numbers of a cluster.
+fn renumber(cell: usize, p: Physical) -> Logical
+    requires { ⌜ (cell < 32) × (p .0 < 120) ⌝ }
+    ensures { λ r. ⌜ (r ≡ cluster.renumber cell p) × (r .0 < 120) ⌝ }
+{
+    let i = turn(120, 13 * cell, p.0);
+    Logical(wide(RENUMBERING[i]))
+}
+
+fn unrenumber(cell: usize, l: Logical) -> Physical
+    requires { ⌜ (cell < 32) × (l .0 < 120) ⌝ }
+    ensures { λ r. ⌜ (r ≡ cluster.unrenumber cell l) × (r .0 < 120) ⌝ }
+{
+    let i = l.0;
+    Physical(turn_back(120, 13 * cell, wide(RENUMBERING_INVERSE[i])))
+}
+
+// The two pilots of a cluster.
+struct PilotPlaces {
+    first: usize,
+    second: usize,
+}
+
+fn pilots(symbol: usize) -> PilotPlaces
+    ensures { λ r. ⌜ (r .first ≡ firstPilot symbol) × (r .second ≡ secondPilot symbol) ⌝ }
+{
+    if symbol % 2 == 0 {
+        PilotPlaces {
+            first: 4,
+            second: 8,
+        }
+    } else {
+        PilotPlaces {
+            first: 0,
+            second: 12,
+        }
+    }
+}
+
+// Whether a used number is a pilot in a symbol.
+pub fn is_pilot(symbol: usize, used: usize) -> bool
+    ensures { λ r. ⌜ r ≡ isClusterPilot symbol used ⌝ }
+{
+    let place = used % 14;
+    let p = pilots(symbol);
+    if place == p.first {
+        return true;
+    }
+    place == p.second
+}
+
+// The count r with the place p left out, and the count of a place other than p.
+fn leave_out(p: usize, r: usize) -> usize
+    requires { ⌜ r < 14 ⌝ }
+    ensures { λ q. ⌜ (q ≡ skip p r) × (q < r + 2) ⌝ }
+{
+    if p <= r { r + 1 } else { r }
+}
+
+fn put_back(p: usize, place: usize) -> usize
+    ensures { λ r. ⌜ (r ≡ unskip p place) × (r ≤ place) ⌝ }
+{
+    if p < place { place - 1 } else { place }
+}
+
+// The place of data number r of a cluster, and the data number of a place that is no pilot.
+fn cluster_place(symbol: usize, r: usize) -> usize
+    requires { ⌜ r < 12 ⌝ }
+    ensures { λ q. ⌜ (q ≡ clusterPlace symbol r) × (q < 14) ⌝ }
+{
+    let p = pilots(symbol);
+    leave_out(p.second, leave_out(p.first, r))
+}
+
+fn cluster_data(symbol: usize, place: usize) -> usize
+    requires { ⌜ (symbol < 2) × (place < 14) × (isClusterPilot symbol place ≡ false) ⌝ }
+    ensures { λ r. ⌜ (r ≡ clusterData symbol place) × (r < 12) ⌝ }
+{
+    let p = pilots(symbol);
+    put_back(p.first, put_back(p.second, place))
+}
+
+// The group whose run of numbers holds x.
+fn group_in(starts: [usize; 6], x: usize) -> usize
+    ensures { λ g. ⌜ (g ≡ groupIn starts x) × (g < 6) ⌝ }
+{
+    if x < starts[1] {
+        return 0;
+    }
+    if x < starts[2] {
+        return 1;
+    }
+    if x < starts[3] {
+        return 2;
+    }
+    if x < starts[4] {
+        return 3;
+    }
+    if x < starts[5] {
+        return 4;
+    }
+    5
+}
+
+// The number of subchannels of a group.
+fn group_size(g: usize) -> usize
+    ensures { λ m. ⌜ (m ≡ groupSize g) × (0 < m) × (m < 13) ⌝ }
+{
+    if g % 2 == 0 { 12 } else { 8 }
+}
+
+// The entry of the table for a group's size.
+fn of_size(g: usize, twelve: [u8; 12], eight: [u8; 8], i: usize) -> usize
+    requires { ⌜ i < groupSize g ⌝ }
+    ensures { λ r. ⌜ (r ≡ entry (pick (eqb (groupSize g) 12) twelve eight) i) × (r < 256) ⌝ }
+{
+    if group_size(g) == 12 {
+        wide(twelve[i])
+    } else {
+        wide(eight[i])
+    }
+}
+
+// The group data number of index k, below 24, of subchannel s, counted in the group.
+fn group_data(g: usize, cell: usize, s: usize, k: usize) -> usize
+    requires { ⌜ (cell < 32) × (s < groupSize g) × (k < 24) ⌝ }
+    ensures { λ d. ⌜ (d ≡ groupData (groupSize g) cell s k) × (d < 24 * groupSize g) ⌝ }
+{
+    let m = group_size(g);
+    let n = turn(24, 13 * s, k);
+    let base = of_size(g, BASE_12, BASE_8, turn(m, n, s));
+    n * m + turn(m, cell, base)
+}
+
+// The reverse: the subchannel, counted in the group, and the index, below 24, of a group data number.
+fn group_address(g: usize, cell: usize, d: usize) -> Address
+    requires { ⌜ d < 24 * groupSize g ⌝ }
+    ensures { λ r. ⌜ (r .subchannel ≡ groupSubchannel (groupSize g) cell d) × (r .index ≡ groupIndex (groupSize g) cell d) ⌝ }
+    ensures { λ r. ⌜ (r .subchannel < groupSize g) × (r .index < 24) ⌝ }
+{
+    let m = group_size(g);
+    let n = d / m;
+    let i = of_size(
+        g,
+        BASE_12_INVERSE,
+        BASE_8_INVERSE,
+        turn_back(m, cell, d % m),
+    );
+    let s = turn_back(m, n, i);
+    Address {
+        subchannel: s,
+        index: turn_back(24, 13 * s, n),
+    }
+}
+
+// The used number of group data number d.
+fn group_used(cell: usize, symbol: usize, g: usize, d: usize) -> usize
+    requires { ⌜ (cell < 32) × (g < 6) × (d < 24 * groupSize g) ⌝ }
+    ensures { λ r. ⌜ r ≡ groupUsed cell symbol g d ⌝ }
+{
+    let logical = Logical(CLUSTER_STARTS[g] + d / 12);
+    let physical = unrenumber(cell, logical);
+    physical.0 * 14 + cluster_place(symbol, d % 12)
+}
+
+// Where point `index` of a subchannel lies.
+pub fn spot(cell: usize, subchannel: usize, index: usize) -> Spot
+    requires { ⌜ (cell < 32) × (subchannel < 60) × (index < 48) ⌝ }
+    ensures { λ r. ⌜ r ≡ spotOf cell subchannel index ⌝ }
+{
+    let g = group_in(SUBCHANNEL_STARTS, subchannel);
+    let s = subchannel - SUBCHANNEL_STARTS[g];
+    let d = group_data(g, cell, s, index % 24);
+    let offset = index / 24;
+    Spot {
+        offset,
+        used: group_used(cell, offset, g, d),
+    }
+}
+
+// A data number of a group.
+struct Datum {
+    group: usize,
+    number: usize,
+}
+
+// The group data number of a used number that is no pilot.
+fn used_data(cell: usize, symbol: usize, used: usize) -> Datum
+    requires { ⌜ (cell < 32) × (symbol < 2) × (used < 1680) × (isClusterPilot symbol used ≡ false) ⌝ }
+    ensures { λ r. ⌜ (r .group ≡ usedGroup cell used) × (r .number ≡ usedData cell symbol used) ⌝ }
+    ensures { λ r. ⌜ (r .group < 6) × (r .number < 24 * groupSize (r .group)) ⌝ }
+{
+    let logical = renumber(cell, Physical(used / 14));
+    let l = logical.0;
+    let g = group_in(CLUSTER_STARTS, l);
+    Datum {
+        group: g,
+        number: (l - CLUSTER_STARTS[g]) * 12 + cluster_data(symbol, used % 14),
+    }
+}
+
+// The point that lies on a carrier that is no pilot.
+pub fn address(cell: usize, offset: usize, used: usize) -> Address
+    requires { ⌜ (cell < 32) × (offset < 2) × (used < 1680) × (isClusterPilot offset used ≡ false) ⌝ }
+    ensures { λ r. ⌜ r ≡ addressOf cell offset used ⌝ }
+{
+    let d = used_data(cell, offset, used);
+    let g = d.group;
+    let a = group_address(g, cell, d.number);
+    Address {
+        subchannel: SUBCHANNEL_STARTS[g] + a.subchannel,
+        index: offset * 24 + a.index,
+    }
+}

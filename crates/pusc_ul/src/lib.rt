@@ -4,8 +4,6 @@ use carriers::Spot;
 ghost use mathlib.Core.Path.{_≡_};
 ghost use mathlib.Core.Bool.{false};
 ghost use Prim.Native.Nat.{_<_};
-ghost use Rattle.base.specs.Steps.{entry};
-ghost use Rattle.pusc_ul.specs.Table.{tilePermutation, tilePermutationInverse};
 ghost use Rattle.pusc_ul.specs.Tile.{tileOf, tileSubchannel, isTilePilot, placeSymbol, placeTile, placeCarrier, dataPlace};
 ghost use Rattle.pusc_ul.specs.Map.{spotOf, addressOf};
 
@@ -163,27 +161,13 @@ fn wide(x: u8) -> usize
     x as usize
 }
 
-// Q[i], and the i with Q[i] = x.
-fn permuted(i: usize) -> usize
-    requires { ⌜ i < 70 ⌝ }
-    ensures { λ r. ⌜ (r ≡ entry tilePermutation i) × (r < 256) ⌝ }
-{
-    wide(TILE_PERMUTATION[i])
-}
-
-fn unpermuted(x: usize) -> usize
-    requires { ⌜ x < 70 ⌝ }
-    ensures { λ r. ⌜ (r ≡ entry tilePermutationInverse x) × (r < 256) ⌝ }
-{
-    wide(TILE_PERMUTATION_INVERSE[x])
-}
-
 // Tile t of a subchannel.
 fn tile(cell: usize, subchannel: usize, t: usize) -> usize
     requires { ⌜ (cell < 70) × (subchannel < 70) × (t < 6) ⌝ }
     ensures { λ r. ⌜ (r ≡ tileOf cell subchannel t) × (r < 420) ⌝ }
 {
-    t * 70 + (permuted((subchannel + t) % 70) + cell) % 70
+    let i = (subchannel + t) % 70;
+    t * 70 + (wide(TILE_PERMUTATION[i]) + cell) % 70
 }
 
 // The subchannel that has a tile.
@@ -191,8 +175,8 @@ fn tile_subchannel(cell: usize, tile: usize) -> usize
     requires { ⌜ (cell < 70) × (tile < 420) ⌝ }
     ensures { λ r. ⌜ (r ≡ tileSubchannel cell tile) × (r < 70) ⌝ }
 {
-    let entry = unpermuted((tile % 70 + (70 - cell % 70)) % 70);
-    (entry + (70 - tile / 70 % 70)) % 70
+    let x = (tile % 70 + (70 - cell % 70)) % 70;
+    (wide(TILE_PERMUTATION_INVERSE[x]) + (70 - tile / 70 % 70)) % 70
 }
 
 // A data carrier of a subchannel's tiles: its symbol in the slot, its tile t, and its place in the tile.

@@ -10,7 +10,7 @@ data-place-requires c κs = (search needs, search needs, search needs, rw pilot-
 
 returns : tie.Need-returns
 unfolding addressOf
-returns c = cc
+returns c = rw (c .data-place .ensures .0, c .before .tile-subchannel .ensures .0)
 
 pub address-spec : {M : Type 1} → statement M
 address-spec =

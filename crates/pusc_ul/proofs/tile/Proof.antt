@@ -6,9 +6,16 @@ use Rattle.pusc_ul.proofs.tile.Tie as tie
 
 returns : tie.Need-returns
 unfolding tileOf
-returns c = search needs
+returns c = (rw (c .wide .ensures .0), search needs)
 
 pub tile-spec : {M : Type 1} → statement M
 tile-spec =
     tie.close
-    (tie.spec (λ c. search needs) (λ c. search needs) (λ c. search needs) (λ c. search needs) (λ c. search needs) returns)
+    (tie.spec
+    (λ c. search needs)
+    (λ c. search needs)
+    (λ c. search needs)
+    (λ c κs. search needs)
+    (λ c. search needs)
+    (λ c. search needs)
+    returns)

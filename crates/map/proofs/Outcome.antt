@@ -1,0 +1,102 @@
+-- What placing and locating come to at each of their returns. Assumes nothing.
+use mathlib.Core.Path.{_≡_, sym, ap, _∙_, subst}
+use mathlib.Core.Bool.{Bool, true, false}
+use Prim.Native.Nat.{ℕ, _*_, _/_, _<_, _≤_}
+use borrow.Author.Tests.{lt-ltb, le-ltb}
+use Rattle.base.specs.Answer.{Answer, accepted, refused}
+use Rattle.carriers.specs.declared.Address.{Address}
+use Rattle.carriers.specs.declared.Band.{Band}
+use Rattle.carriers.specs.Band.{usedOf, isGuard, isDc}
+use Rattle.carriers.specs.declared.Spot.{Spot}
+use Rattle.carriers.proofs.Guards.{used-left, used-lt}
+use Rattle.map.specs.declared.Setup.{Setup}
+use Rattle.map.specs.Mode.{subchannels, symbols, band, isPilot, spotOf, addressOf}
+use Rattle.map.specs.Question.{askSetup, setupNumber, isSlot, isSymbol, isSubchannel, isIndex, isCarrier}
+use Rattle.map.specs.Place.{guard, dc, pilot, point, placeAt, placeOf, pointAt, contentOf, locateOf}
+use Rattle.map.specs.Valid.{Valid}
+use Rattle.map.proofs.Accept.{refused-number, number-valid, passes}
+use Rattle.map.proofs.Slot.{slot-law, band-law}
+use Rattle.map.proofs.Law.{place-accepts, locate-accepts}
+
+pub now-valid : (c : Setup) (k : ℕ) → k ≡ setupNumber c → k ≡ 0 → Valid c
+now-valid c k e z = number-valid c (sym e ∙ z)
+
+pub refuses : {A : Type 0} (c : Setup) (k : ℕ) (rest : Answer A) → k ≡ setupNumber c → (k ≡ 0 → ⊥) → refused k ≡ askSetup c rest
+refuses c k rest e ne = ap refused e ∙ sym (refused-number c rest (λ z. ne (e ∙ z)))
+
+module _ (c : Setup) (slot s m : ℕ) where
+  pub place-setup : (k : ℕ) → k ≡ setupNumber c → (k ≡ 0 → ⊥) → refused k ≡ placeOf c slot s m
+  unfolding placeOf
+  place-setup k e ne = refuses c k _ e ne
+
+  pub place-4 : Valid c → 512 ≤ slot → refused 4 ≡ placeOf c slot s m
+  unfolding placeOf isSlot
+  place-4 v h = rw (le-ltb slot 512 h) (sym (passes v))
+
+  pub place-5 : Valid c → slot < 512 → (n : ℕ) → n ≡ subchannels c → n ≤ s → refused 5 ≡ placeOf c slot s m
+  unfolding placeOf isSlot isSubchannel
+  place-5 v h n e l = rw (lt-ltb slot 512 h, le-ltb s (subchannels c) (subst (λ (x : ℕ). x ≤ s) e l)) (sym (passes v))
+
+  pub place-6 : Valid c → slot < 512 → (n : ℕ) → n ≡ subchannels c → s < n → 48 ≤ m → refused 6 ≡ placeOf c slot s m
+  unfolding placeOf isSlot isSubchannel isIndex
+  place-6 v h n e l g = rw (lt-ltb slot 512 h, lt-ltb s (subchannels c) (subst (λ (x : ℕ). s < x) e l), le-ltb m 48 g) (sym (passes v))
+
+  pub place-done : Valid c → slot < 512 → (n : ℕ) → n ≡ subchannels c → s < n → m < 48 → placeOf c slot s m ≡ accepted (placeAt c slot (spotOf c slot s m))
+  place-done v h n e l g = place-accepts c slot s m v h (subst (λ (x : ℕ). s < x) e l) g
+
+module _ (c : Setup) (y k : ℕ) where
+  pub locate-setup : (r : ℕ) → r ≡ setupNumber c → (r ≡ 0 → ⊥) → refused r ≡ locateOf c y k
+  unfolding locateOf
+  locate-setup r e ne = refuses c r _ e ne
+
+  pub locate-4 : Valid c → (n : ℕ) → n ≡ symbols c → 512 * n ≤ y → refused 4 ≡ locateOf c y k
+  unfolding locateOf isSymbol
+  locate-4 v n e l = rw (le-ltb y (512 * symbols c) (subst (λ (x : ℕ). 512 * x ≤ y) e l)) (sym (passes v))
+
+  pub locate-7 : Valid c → (n : ℕ) → n ≡ symbols c → y < 512 * n → c .size ≤ k → refused 7 ≡ locateOf c y k
+  unfolding locateOf isSymbol isCarrier
+  locate-7 v n e l g = rw (lt-ltb y (512 * symbols c) (subst (λ (x : ℕ). y < 512 * x) e l), le-ltb k (c .size) g) (sym (passes v))
+
+  pub locate-done : Valid c → (n : ℕ) → n ≡ symbols c → y < 512 * n → k < c .size → locateOf c y k ≡ accepted (contentOf c y k)
+  locate-done v n e l g = locate-accepts c y k v (subst (λ (x : ℕ). y < 512 * x) e l) g
+
+-- the answers of a carrier of an accepted symbol, test by test
+module _ (c : Setup) (y k : ℕ) (b : Band) (e : b ≡ band c) where
+  pub content-guard : (g : Bool) → g ≡ isGuard b (c .size) k → g ≡ true → accepted guard ≡ accepted (contentOf c y k)
+  unfolding contentOf
+  content-guard g h t = rw (← e, ← h, t)
+
+  pub content-dc : (g : Bool) → g ≡ isGuard b (c .size) k → g ≡ false → (d : Bool) → d ≡ isDc b k → d ≡ true → accepted dc ≡ accepted (contentOf c y k)
+  unfolding contentOf
+  content-dc g h t d h₁ t₁ = rw (← e, ← h, t, ← h₁, t₁)
+
+  pub content-pilot : (g : Bool) → g ≡ isGuard b (c .size) k → g ≡ false → (d : Bool) → d ≡ isDc b k → d ≡ false
+      → (u : ℕ) → u ≡ usedOf b k → (p : Bool) → p ≡ isPilot c y u → p ≡ true → accepted pilot ≡ accepted (contentOf c y k)
+  unfolding contentOf
+  content-pilot g h t d h₁ t₁ u h₂ p h₃ t₃ = rw (← e, ← h, t, ← h₁, t₁, ← h₂, ← h₃, t₃)
+
+  pub content-point : (g : Bool) → g ≡ isGuard b (c .size) k → g ≡ false → (d : Bool) → d ≡ isDc b k → d ≡ false
+      → (u : ℕ) → u ≡ usedOf b k → (p : Bool) → p ≡ isPilot c y u → p ≡ false → (a : Address) → a ≡ addressOf c y u → (n : ℕ) → n ≡ symbols c
+      → accepted (point (y / n) (a .subchannel) (a .index)) ≡ accepted (contentOf c y k)
+  unfolding contentOf pointAt
+  content-point g h t d h₁ t₁ u h₂ p h₃ t₃ a h₄ n h₅ = rw (← e, ← h, t, ← h₁, t₁, ← h₂, ← h₃, t₃, ← h₄, ← h₅)
+
+  -- what the inner functions ask there
+  pub content-left : Valid c → (g : Bool) → g ≡ isGuard b (c .size) k → g ≡ false → (d : Bool) → d ≡ isDc b k → d ≡ false → b .left ≤ k
+  content-left v g h t d h₁ t₁ =
+      rw e (used-left (band c) (c .size) (band-law v) k (rw e at (sym h ∙ t)) (rw e at (sym h₁ ∙ t₁)))
+
+  pub content-used : Valid c → (g : Bool) → g ≡ isGuard b (c .size) k → g ≡ false → (d : Bool) → d ≡ isDc b k → d ≡ false
+      → (u : ℕ) → u ≡ usedOf b k → u < band c .used
+  content-used v g h t d h₁ t₁ u h₂ =
+      rw (h₂, e) (used-lt (band c) (c .size) (band-law v) k (rw e at (sym h ∙ t)) (rw e at (sym h₁ ∙ t₁)))
+
+pub no-pilot : (c : Setup) (y u : ℕ) (p : Bool) → p ≡ isPilot c y u → p ≡ false → isPilot c y u ≡ false
+no-pilot c y u p h t = sym h ∙ t
+
+-- a spot that `spot` gives may be placed
+pub spot-asks : (c : Setup) (slot s m : ℕ) (x : Spot) → Valid c → slot < 512 → s < subchannels c → m < 48 → x ≡ spotOf c slot s m
+    → Valid c × ((slot < 512) × (x .offset < symbols c) × (x .used < band c .used))
+spot-asks c slot s m x v h hs hm e =
+    let l = slot-law v slot .lies s m hs hm in
+    (v, (h, rw e (l .offset-lt), rw e (l .used-lt)))

@@ -1,0 +1,12 @@
+-- `map::width` meets its contract. Assumes nothing.
+use borrow.Author.Needs.{needs}
+use Rattle.map.specs.Mode.{width}
+use Rattle.map.proofs.width.Statement.{statement}
+use Rattle.map.proofs.width.Tie as tie
+
+returns : tie.Need-returns
+unfolding width
+returns c = search needs
+
+pub width-spec : {M : Type 1} → statement M
+width-spec = tie.close (tie.spec returns)

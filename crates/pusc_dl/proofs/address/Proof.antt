@@ -1,0 +1,30 @@
+-- `pusc_dl::address` meets its contract. Assumes nothing.
+use native.Mathlib.Omega.{arith}
+use borrow.Author.Needs.{needs}
+use Rattle.pusc_dl.specs.Map.{addressOf}
+use Rattle.pusc_dl.proofs.Group.{subchannel-runs}
+use Rattle.pusc_dl.proofs.address.Statement.{statement}
+use Rattle.pusc_dl.proofs.address.Tie as tie
+
+add-t12 : tie.Need-add-t12
+add-t12 c = omega (arith, subchannel-runs .number-lt (c .before .before .used-data .result .group) (c .before .group-address .result .subchannel) (search needs) (search needs))
+
+returns : tie.Need-returns
+unfolding addressOf
+returns c =
+    let a = c .before .before .group-address .ensures .0 in
+    let d = c .before .before .before .used-data .ensures .0 in
+    rw (a .0, a .1, d .0, d .1)
+
+pub address-spec : {M : Type 1} → statement M
+address-spec =
+    tie.close
+    (tie.spec
+    (λ c κs. search needs)
+    (λ c κs. search needs)
+    (λ c. search needs)
+    (λ c. search needs)
+    add-t12
+    (λ c. search needs)
+    (λ c. search needs)
+    returns)

@@ -1,0 +1,14 @@
+-- `pusc_dl::cluster_place` meets its contract. Assumes nothing.
+use borrow.Author.Needs.{needs}
+use Rattle.pusc_dl.specs.Cluster.{clusterPlace}
+use Rattle.pusc_dl.proofs.cluster_place.Statement.{statement}
+use Rattle.pusc_dl.proofs.cluster_place.Tie as tie
+
+returns : tie.Need-returns
+unfolding clusterPlace
+returns c =
+    let p = c .before .before .pilots .ensures in
+    (rw (c .leave-out2 .ensures .0, c .before .leave-out .ensures .0, p .0, p .1), search needs)
+
+pub cluster-place-spec : {M : Type 1} → statement M
+cluster-place-spec = tie.close (tie.spec (λ c κs. search needs) (λ c κs. search needs) (λ c κs. search needs) returns)

@@ -1,0 +1,27 @@
+-- `pusc_dl::is_pilot` meets its contract. Assumes nothing.
+use mathlib.Core.Path.{_≡_}
+use mathlib.Core.Bool.{true}
+use Prim.Native.Nat.{ℕ, _%_}
+use lib.Dec.{eqb}
+use borrow.Author.Needs.{needs}
+use borrow.Author.Tests.{eq-eqb, ne-eqb}
+use Rattle.pusc_dl.specs.Cluster.{isClusterPilot, firstPilot, secondPilot}
+use Rattle.pusc_dl.proofs.is_pilot.Statement.{statement}
+use Rattle.pusc_dl.proofs.is_pilot.Tie as tie
+
+at-first : (y u p : ℕ) → p ≡ firstPilot y → u % 14 ≡ p → true ≡ isClusterPilot y u
+unfolding isClusterPilot
+at-first y u p e h = simp (← e, eq-eqb (u % 14) p h)
+
+at-second : (y u p q : ℕ) → p ≡ firstPilot y → q ≡ secondPilot y → (u % 14 ≡ p → ⊥) → eqb (u % 14) q ≡ isClusterPilot y u
+unfolding isClusterPilot
+at-second y u p q e f h = simp (← e, ← f, ne-eqb (u % 14) p h)
+
+returns : tie.Need-returns
+returns c = search (at-first, needs)
+
+returns-2 : tie.Need-returns-2
+returns-2 c = search (at-second, needs)
+
+pub is-pilot-spec : {M : Type 1} → statement M
+is-pilot-spec = tie.close (tie.spec (λ c κs. search needs) returns returns-2)

@@ -1,0 +1,68 @@
+-- `text::put_bytes` meets its contract. The loop's invariant: the first i bytes are put, and `dest` is as long as it was.
+-- Assumes nothing.
+use borrow.Author.Needs.{needs}
+use mathlib.Core.Path.{_≡_, refl, sym}
+use Prim.Native.Nat.{_≤_, _-_}
+use lib.ListN.{length, take, length-set}
+use Rattle.text.specs.Text.{put}
+use Rattle.text.specs.Laws.{put-none, put-next, all-bytes}
+use Rattle.text.proofs.put_bytes.Statement.{statement}
+use Rattle.text.proofs.put_bytes.Tie as tie
+
+abbrev Inv-loop : tie.InvT-loop
+Inv-loop dest₀ at bytes i₀ dest i = (i ≤ length bytes) × (dest ≡ put dest₀ at (take i bytes)) × (length dest ≡ length dest₀)
+
+abbrev μ-loop : tie.MeasureT-loop
+μ-loop dest₀ at bytes i₀ dest i = length bytes - i
+
+loop-holds : tie.Need-loop-holds Inv-loop μ-loop
+loop-holds c = (search needs, sym (put-none _ _), refl)
+
+shared-slice-read-dest : tie.Need-shared-slice-read-dest Inv-loop μ-loop
+shared-slice-read-dest c = search needs
+
+add-dest : tie.Need-add-dest Inv-loop μ-loop
+add-dest c = search needs
+
+slice-write-dest : tie.Need-slice-write-dest Inv-loop μ-loop
+slice-write-dest c = search needs
+
+add-i : tie.Need-add-i Inv-loop μ-loop
+add-i c = search needs
+
+loop-less : tie.Need-loop-less Inv-loop μ-loop
+loop-less c = search needs
+
+loop-again : tie.Need-loop-again Inv-loop μ-loop
+loop-again c =
+    let inv = c .before .before .loop .inv in (
+      search needs,
+      rw (inv .1) (put-next _ _ _ _ (c .before .before .before .pre) (c .before .loop-test .taken)),
+      simp length-set (inv .2),
+    )
+
+add-result : tie.Need-add-result Inv-loop μ-loop
+add-result c = search needs
+
+same-length : tie.Need-same-length Inv-loop μ-loop
+same-length c = c .before .loop .inv .2
+
+returns : tie.Need-returns Inv-loop μ-loop
+returns c = let inv = c .before .loop .inv in all-bytes _ _ _ _ _ (inv .0) (c .loop-test .left) (inv .1)
+
+pub put-bytes-spec : {M : Type 1} → statement M
+put-bytes-spec =
+    tie.close
+    (tie.spec
+    Inv-loop
+    μ-loop
+    loop-holds
+    shared-slice-read-dest
+    add-dest
+    slice-write-dest
+    add-i
+    loop-less
+    loop-again
+    add-result
+    same-length
+    returns)

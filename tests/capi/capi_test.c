@@ -1,0 +1,105 @@
+/* Holds the exported functions to the reference: the answers of table.h, that a refusal writes
+   nothing, that locate writes an address only at data, and that nothing beside an out parameter
+   is written. Run by run.sh. */
+#include <inttypes.h>
+#include <stdint.h>
+#include <stdio.h>
+
+#include "bellpulsar.h"
+
+struct place_row {
+    uint32_t mode, size, cell, slot, subchannel, index;
+    uint32_t refusal, symbol, carrier;
+};
+
+struct locate_row {
+    uint32_t mode, size, cell, symbol, carrier;
+    uint32_t refusal, kind, slot, subchannel, index;
+};
+
+#include "table.h"
+
+#define COUNT(rows) (sizeof(rows) / sizeof((rows)[0]))
+
+enum { KIND_DATA = 3 };
+
+/* An out parameter between two guard words. */
+struct out {
+    uint32_t before, value, after;
+};
+
+/* Each request is put twice, over different words, so that a value written by chance shows. */
+static const uint32_t fills[2] = {0xA5A5A5A5u, 0x5A5A5A5Au};
+
+static struct out fresh(uint32_t fill)
+{
+    struct out out = {~fill, fill, ~fill};
+    return out;
+}
+
+/* Whether the parameter holds this value and its guard words stand. */
+static int holds(const struct out *out, uint32_t fill, uint32_t value)
+{
+    return out->before == ~fill && out->value == value && out->after == ~fill;
+}
+
+static int place_agrees(const struct place_row *row, uint32_t fill)
+{
+    struct out symbol = fresh(fill), carrier = fresh(fill);
+    uint32_t refusal = bp_place(row->mode, row->size, row->cell, row->slot, row->subchannel,
+                                row->index, &symbol.value, &carrier.value);
+    int accepted = row->refusal == 0;
+    return refusal == row->refusal && holds(&symbol, fill, accepted ? row->symbol : fill) &&
+           holds(&carrier, fill, accepted ? row->carrier : fill);
+}
+
+static int locate_agrees(const struct locate_row *row, uint32_t fill)
+{
+    struct out kind = fresh(fill), slot = fresh(fill), subchannel = fresh(fill), index = fresh(fill);
+    uint32_t refusal = bp_locate(row->mode, row->size, row->cell, row->symbol, row->carrier,
+                                 &kind.value, &slot.value, &subchannel.value, &index.value);
+    int accepted = row->refusal == 0;
+    int data = accepted && row->kind == KIND_DATA;
+    return refusal == row->refusal && holds(&kind, fill, accepted ? row->kind : fill) &&
+           holds(&slot, fill, data ? row->slot : fill) &&
+           holds(&subchannel, fill, data ? row->subchannel : fill) &&
+           holds(&index, fill, data ? row->index : fill);
+}
+
+static int test_place(void)
+{
+    int wrong = 0;
+    for (size_t i = 0; i < COUNT(place_rows); i++) {
+        const struct place_row *row = &place_rows[i];
+        if (place_agrees(row, fills[0]) && place_agrees(row, fills[1]))
+            continue;
+        wrong = 1;
+        printf("bp_place differs: mode %" PRIu32 " size %" PRIu32 " cell %" PRIu32 " slot %" PRIu32
+               " subchannel %" PRIu32 " index %" PRIu32 "\n",
+               row->mode, row->size, row->cell, row->slot, row->subchannel, row->index);
+    }
+    return wrong;
+}
+
+static int test_locate(void)
+{
+    int wrong = 0;
+    for (size_t i = 0; i < COUNT(locate_rows); i++) {
+        const struct locate_row *row = &locate_rows[i];
+        if (locate_agrees(row, fills[0]) && locate_agrees(row, fills[1]))
+            continue;
+        wrong = 1;
+        printf("bp_locate differs: mode %" PRIu32 " size %" PRIu32 " cell %" PRIu32
+               " symbol %" PRIu32 " carrier %" PRIu32 "\n",
+               row->mode, row->size, row->cell, row->symbol, row->carrier);
+    }
+    return wrong;
+}
+
+int main(void)
+{
+    int wrong = test_place() | test_locate();
+    if (!wrong)
+        puts("capi: place and locate agree with the reference");
+    return wrong;
+}

@@ -1,0 +1,84 @@
+"""Prints the table of requests and answers that capi_test.c includes, from a fixed seed.
+
+    python3 tests/capi/table.py > target/capi/table.h
+"""
+
+import os
+import random
+import sys
+
+sys.path.insert(0, os.path.dirname(os.path.dirname(os.path.abspath(__file__))))
+
+import reference as ref
+
+LARGEST = 2**32 - 1
+KINDS = {ref.GUARD: 0, ref.DC: 1, ref.PILOT: 2, ref.DATA: 3}
+SETUPS = [(mode, size) for mode in range(4) for size in ref.sizes(mode)]
+
+
+def wrong(dice, good, limit):
+    """A number past a range: the first, the last, one cut to an accepted one, or any."""
+    return dice.choice([limit, LARGEST, good + 2**16, good + 2**31, dice.randrange(limit, 2**32)])
+
+
+def spoiled(dice, good, limits):
+    """Some fields wrong: most often one, sometimes more."""
+    fields = list(good)
+    for i in dice.sample(range(len(good)), dice.choice([1, 1, 2, 3])):
+        fields[i] = wrong(dice, good[i], limits[i])
+    return fields
+
+
+def place_row(fields):
+    return fields + list(ref.place(*fields))
+
+
+def locate_row(fields):
+    number, what = ref.locate(*fields)
+    if number:
+        return fields + [number, 0, 0, 0, 0]
+    address = list(what[1:]) if what[0] == ref.DATA else [0, 0, 0]
+    return fields + [0, KINDS[what[0]]] + address
+
+
+def place_rows(dice, mode, size):
+    limits = [4, 2049, ref.cells(mode, size), 512, ref.subchannels(mode, size), 48]
+    for _ in range(300):
+        good = [mode, size] + [dice.randrange(limit) for limit in limits[2:]]
+        yield place_row(good)
+        yield place_row(spoiled(dice, good, limits))
+
+
+def locate_rows(dice, mode, size):
+    """A few cells and symbols, many carriers of each, DC and the edges of the band among them."""
+    limits = [4, 2049, ref.cells(mode, size), 512 * ref.SLOT_LENGTH[mode], size]
+    left, used = ref.left_guards(mode, size), ref.used_numbers(mode, size)
+    edges = [0, left - 1, left, size // 2 - 1, size // 2, size // 2 + 1, left + used, left + used + 1, size - 1]
+    for _ in range(6):
+        cell, symbol = dice.randrange(limits[2]), dice.randrange(limits[3])
+        for carrier in edges + [dice.randrange(size) for _ in range(50)]:
+            good = [mode, size, cell, symbol, carrier]
+            yield locate_row(good)
+            yield locate_row(spoiled(dice, good, limits))
+
+
+def print_table(kind, name, rows):
+    print("static const %s %s[] = {" % (kind, name))
+    for row in rows:
+        print("    {%s}," % ", ".join("%du" % number for number in row))
+    print("};")
+
+
+def main():
+    dice = random.Random(16)
+    places = [row for setup in SETUPS for row in place_rows(dice, *setup)]
+    locates = [row for setup in SETUPS for row in locate_rows(dice, *setup)]
+    assert {row[6] for row in places} == {0, 1, 2, 3, 4, 5, 6}
+    assert {row[5] for row in locates} == {0, 1, 2, 3, 4, 7}
+    assert {row[6] for row in locates} == {0, 1, 2, 3}
+    print_table("struct place_row", "place_rows", places)
+    print_table("struct locate_row", "locate_rows", locates)
+
+
+if __name__ == "__main__":
+    main()

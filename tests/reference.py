@@ -1,0 +1,532 @@
+"""Document 01 in plain Python, written from the papers alone.
+
+The stored vectors and the tests through C are made from this file. It is as simple as it can be
+and slow where that is simpler: locating builds the whole slot by placing and looks the carrier up.
+
+A refusal is document 01's number; 0 means accepted. Floats are handled as 32-bit patterns.
+"""
+
+from functools import lru_cache
+
+# Document 003, table 308: the renumbering sequence and the two permutation bases.
+R = [
+    6, 108, 37, 81, 31, 100, 42, 116, 32, 107, 30, 93, 54, 78, 10, 75, 50, 111, 58, 106, 23, 105, 16, 117,
+    39, 95, 7, 115, 25, 119, 53, 71, 22, 98, 28, 79, 17, 63, 27, 72, 29, 86, 5, 101, 49, 104, 9, 68,
+    1, 73, 36, 74, 43, 62, 20, 84, 52, 64, 34, 60, 66, 48, 97, 21, 91, 40, 102, 56, 92, 47, 90, 33,
+    114, 18, 70, 15, 110, 51, 118, 46, 83, 45, 76, 57, 99, 35, 67, 55, 85, 59, 113, 11, 82, 38, 88, 19,
+    77, 3, 87, 12, 89, 26, 65, 41, 109, 44, 69, 8, 61, 13, 96, 14, 103, 2, 80, 24, 112, 4, 94, 0,
+]
+BASE_12 = [6, 9, 4, 8, 10, 11, 5, 2, 7, 3, 1, 0]
+BASE_8 = [7, 4, 0, 2, 1, 5, 3, 6]
+
+# Document 000, section 2.2.2: the tile permutation.
+Q = [
+    6, 48, 58, 57, 50, 1, 13, 26, 46, 44, 30, 3, 27, 53, 22, 18, 61, 7, 55, 36, 45, 37, 52, 15,
+    40, 2, 20, 4, 34, 31, 10, 5, 41, 9, 69, 63, 21, 11, 12, 19, 68, 56, 43, 23, 25, 39, 66, 42,
+    16, 47, 51, 8, 62, 14, 33, 24, 32, 17, 54, 29, 67, 49, 65, 35, 38, 59, 64, 28, 60, 0,
+]
+
+# Document 004: the basic sequence over pairs of base-seven digits, the high digit first.
+P = """
+    01 22 46 52 42 41 26 50 05 33 62 43 63 65 32 40 04 11 23 61 21 24 13 60
+    06 55 31 25 35 36 51 20 02 44 15 34 14 12 45 30 03 66 54 16 56 53 64 10
+""".split()
+
+PUSC_DL, PUSC_UL, OFUSC, AMC = 0, 1, 2, 3
+SLOT_LENGTH = {PUSC_DL: 2, PUSC_UL: 3, OFUSC: 1, AMC: 1}
+BIN_SIZES = [256, 512, 1024, 2048]
+SLOTS = 512
+POINTS = 48
+
+
+# --- ranges -----------------------------------------------------------------------------------
+
+
+def sizes(mode):
+    return [2048] if mode in (PUSC_DL, PUSC_UL) else BIN_SIZES
+
+
+def n_of(size):
+    """N of modes 2 and 3: size = 64N."""
+    return size // 64
+
+
+def cells(mode, size):
+    if mode == PUSC_DL:
+        return 32
+    if mode == PUSC_UL:
+        return 70
+    return n_of(size) ** 2 if mode == OFUSC else 2352
+
+
+def subchannels(mode, size):
+    if mode == PUSC_DL:
+        return 60
+    return 70 if mode == PUSC_UL else n_of(size)
+
+
+# --- the questions put to a request -----------------------------------------------------------
+
+
+def setup_refusal(mode, size, cell):
+    """Questions 1, 2, 3."""
+    if mode not in (PUSC_DL, PUSC_UL, OFUSC, AMC):
+        return 1
+    if size not in sizes(mode):
+        return 2
+    return 0 if cell < cells(mode, size) else 3
+
+
+def place_refusal(mode, size, cell, slot, subchannel, index):
+    """Questions 1 to 6."""
+    number = setup_refusal(mode, size, cell)
+    if number:
+        return number
+    if slot >= SLOTS:
+        return 4
+    if subchannel >= subchannels(mode, size):
+        return 5
+    return 0 if index < POINTS else 6
+
+
+def symbol_refusal(mode, size, cell, symbol):
+    """Questions 1 to 4 of a call that has the zone's symbol."""
+    number = setup_refusal(mode, size, cell)
+    if number:
+        return number
+    return 0 if symbol < SLOTS * SLOT_LENGTH[mode] else 4
+
+
+def locate_refusal(mode, size, cell, symbol, carrier):
+    """Questions 1, 2, 3, 4, 7."""
+    number = symbol_refusal(mode, size, cell, symbol)
+    if number:
+        return number
+    return 0 if carrier < size else 7
+
+
+def buffers_refusal(mode, size, cell, slot, points_len, grid_len):
+    """Questions 1, 2, 3, 4, 8, 9 of fill and empty. Lengths count floats."""
+    number = setup_refusal(mode, size, cell)
+    if number:
+        return number
+    if slot >= SLOTS:
+        return 4
+    if points_len != 96 * subchannels(mode, size):
+        return 8
+    return 0 if grid_len == grid_floats(mode, size) else 9
+
+
+def look_refusal(mode, size, cell, symbol, grid_len, carrier):
+    """Questions 1, 2, 3, 4, 7, 9."""
+    number = locate_refusal(mode, size, cell, symbol, carrier)
+    if number:
+        return number
+    return 0 if grid_len == grid_floats(mode, size) else 9
+
+
+def grid_floats(mode, size):
+    return 2 * size * SLOT_LENGTH[mode]
+
+
+# --- carriers ---------------------------------------------------------------------------------
+
+
+def left_guards(mode, size):
+    return 184 if mode in (PUSC_DL, PUSC_UL) else 5 * n_of(size)
+
+
+def used_numbers(mode, size):
+    return 1680 if mode in (PUSC_DL, PUSC_UL) else 54 * n_of(size)
+
+
+def dc(size):
+    return size // 2
+
+
+def carrier_of_used(mode, size, used):
+    """Used numbers leave DC out: one more from the middle on."""
+    carrier = left_guards(mode, size) + used
+    return carrier + 1 if used >= used_numbers(mode, size) // 2 else carrier
+
+
+def cluster_pilots(symbol):
+    return (4, 8) if symbol % 2 == 0 else (0, 12)
+
+
+def bin_pilot(symbol):
+    return 3 * (symbol % 3) + 1
+
+
+def is_pilot(mode, symbol, used):
+    if mode == PUSC_DL:
+        return used % 14 in cluster_pilots(symbol)
+    if mode == PUSC_UL:
+        return symbol % 3 != 1 and used % 4 in (0, 3)
+    return used % 9 == bin_pilot(symbol)
+
+
+# --- placing ----------------------------------------------------------------------------------
+
+GROUP_FIRST_LOGICAL = [0, 24, 40, 64, 80, 104]
+
+
+@lru_cache(maxsize=None)
+def physical_of_logical(cell, logical):
+    """Logical = R[(physical + 13 cell) mod 120], read from logical to physical."""
+    found = [p for p in range(120) if R[(p + 13 * cell) % 120] == logical]
+    assert len(found) == 1
+    return found[0]
+
+
+def group_of(subchannel):
+    """The major group and the subchannel's number in it: 12, 8, 12, 8, 12, 8 subchannels."""
+    group = 0
+    while True:
+        m = 12 if group % 2 == 0 else 8
+        if subchannel < m:
+            return group, m, subchannel
+        subchannel -= m
+        group += 1
+
+
+def place_pusc_dl(cell, slot, subchannel, index):
+    group, m, s = group_of(subchannel)
+    base = BASE_12 if m == 12 else BASE_8
+    symbol = 2 * slot + index // 24
+    k = index % 24
+    n = (k + 13 * s) % 24
+    data = m * n + (base[(n + s) % m] + cell) % m
+    physical = physical_of_logical(cell, GROUP_FIRST_LOGICAL[group] + data // 12)
+    data_places = [p for p in range(14) if p not in cluster_pilots(symbol)]
+    return symbol, 14 * physical + data_places[data % 12]
+
+
+def tiles(cell, subchannel):
+    """The six tiles of a PUSC uplink subchannel."""
+    return [70 * t + (Q[(subchannel + t) % 70] + cell) % 70 for t in range(6)]
+
+
+# Data places of a PUSC uplink subchannel: by symbol, then tile, then carrier of the tile.
+UL_DATA_PLACES = [
+    (offset, t, x)
+    for offset in range(3)
+    for t in range(6)
+    for x in range(4)
+    if offset == 1 or x in (1, 2)
+]
+
+
+def place_pusc_ul(cell, slot, subchannel, index):
+    offset, t, x = UL_DATA_PLACES[(index + 13 * subchannel) % 48]
+    return 3 * slot + offset, 4 * tiles(cell, subchannel)[t] + x
+
+
+def used_of_bin_place(symbol, bin_number, place):
+    """Data place 0..7 of a bin, the pilot left out."""
+    data_places = [p for p in range(9) if p != bin_pilot(symbol)]
+    return 9 * bin_number + data_places[place]
+
+
+MODULUS = {4: 7, 8: 11, 16: 19, 32: 37}
+
+
+def field_times(n, a, b):
+    """Product of polynomials with coefficients modulo 2, modulo the field's polynomial."""
+    product = 0
+    for bit in range(5):
+        if b >> bit & 1:
+            product ^= a << bit
+    while product >= n:
+        product ^= MODULUS[n] << (product.bit_length() - MODULUS[n].bit_length())
+    return product
+
+
+@lru_cache(maxsize=None)
+def sequences(n):
+    """P1, the powers of 2 from the zeroth on; P2, every second of them."""
+    p1 = [1]
+    while len(p1) < n - 1:
+        p1.append(field_times(n, p1[-1], 2))
+    return p1, [p1[2 * i % (n - 1)] for i in range(n - 1)]
+
+
+def place_ofusc(size, cell, slot, subchannel, index):
+    n = n_of(size)
+    p1, p2 = sequences(n)
+    c1, c2 = cell % n, cell // n
+    k = (index + 23 * subchannel) % 48
+    k_ = k % (n - 1)
+    inner = subchannel
+    if c1 != 0:
+        inner ^= p1[(k_ + c1) % (n - 1)]
+    if c2 != 0:
+        inner ^= p2[(k_ + c2) % (n - 1)]
+    data = n * k + inner
+    return slot, used_of_bin_place(slot, data // 8, data % 8)
+
+
+def amc_v(cell, index):
+    """The place 0..47 of an index in its subchannel."""
+    per, off = cell % 48, cell // 48
+    high, low = off // 7, off % 7
+    entry = P[(index + per) % 48]
+    e = ((int(entry[0]) + high) % 7, (int(entry[1]) + low) % 7)
+    if e == (0, 0):
+        e = (high, low)
+    return 7 * e[0] + e[1] - 1
+
+
+def place_amc(cell, slot, subchannel, index):
+    v = amc_v(cell, index)
+    return slot, used_of_bin_place(slot, 6 * subchannel + v // 8, v % 8)
+
+
+def place(mode, size, cell, slot, subchannel, index):
+    """(refusal, symbol, carrier)."""
+    number = place_refusal(mode, size, cell, slot, subchannel, index)
+    if number:
+        return number, 0, 0
+    if mode == PUSC_DL:
+        symbol, used = place_pusc_dl(cell, slot, subchannel, index)
+    elif mode == PUSC_UL:
+        symbol, used = place_pusc_ul(cell, slot, subchannel, index)
+    elif mode == OFUSC:
+        symbol, used = place_ofusc(size, cell, slot, subchannel, index)
+    else:
+        symbol, used = place_amc(cell, slot, subchannel, index)
+    return 0, symbol, carrier_of_used(mode, size, used)
+
+
+# --- its reverse ------------------------------------------------------------------------------
+
+GUARD, DC, PILOT, DATA = "guard", "dc", "pilot", "data"
+
+
+@lru_cache(maxsize=64)
+def slot_map(mode, size, cell, slot):
+    """What stands on each (symbol, carrier) of a slot; every place is taken once."""
+    found = {}
+    for symbol in range(slot * SLOT_LENGTH[mode], (slot + 1) * SLOT_LENGTH[mode]):
+        found[symbol, dc(size)] = (DC,)
+        for used in range(used_numbers(mode, size)):
+            if is_pilot(mode, symbol, used):
+                found[symbol, carrier_of_used(mode, size, used)] = (PILOT,)
+    for subchannel in range(subchannels(mode, size)):
+        for index in range(POINTS):
+            _, symbol, carrier = place(mode, size, cell, slot, subchannel, index)
+            assert (symbol, carrier) not in found
+            found[symbol, carrier] = (DATA, slot, subchannel, index)
+    return found
+
+
+def locate(mode, size, cell, symbol, carrier):
+    """(refusal, what): (GUARD,), (DC,), (PILOT,) or (DATA, slot, subchannel, index)."""
+    number = locate_refusal(mode, size, cell, symbol, carrier)
+    if number:
+        return number, None
+    found = slot_map(mode, size, cell, symbol // SLOT_LENGTH[mode])
+    return 0, found.get((symbol, carrier), (GUARD,))
+
+
+# --- grids: flat lists of 32-bit patterns, two a point, in-phase first ------------------------
+
+
+def grid_at(mode, size, symbol, carrier):
+    """Where a point's two floats start in its slot's grid."""
+    return 2 * (symbol % SLOT_LENGTH[mode] * size + carrier)
+
+
+def points_at(subchannel, index):
+    return 2 * (POINTS * subchannel + index)
+
+
+def fill(mode, size, cell, slot, pilot, points, grid):
+    """(refusal, the grid afterwards)."""
+    number = buffers_refusal(mode, size, cell, slot, len(points), len(grid))
+    if number:
+        return number, list(grid)
+    after = [0] * len(grid)
+    for (symbol, carrier), what in slot_map(mode, size, cell, slot).items():
+        at = grid_at(mode, size, symbol, carrier)
+        if what[0] == PILOT:
+            after[at : at + 2] = pilot
+        if what[0] == DATA:
+            source = points_at(what[2], what[3])
+            after[at : at + 2] = points[source : source + 2]
+    return 0, after
+
+
+def empty(mode, size, cell, slot, grid, points):
+    """(refusal, the points afterwards)."""
+    number = buffers_refusal(mode, size, cell, slot, len(points), len(grid))
+    if number:
+        return number, list(points)
+    after = []
+    for subchannel in range(subchannels(mode, size)):
+        for index in range(POINTS):
+            _, symbol, carrier = place(mode, size, cell, slot, subchannel, index)
+            at = grid_at(mode, size, symbol, carrier)
+            after += grid[at : at + 2]
+    return 0, after
+
+
+def look(mode, size, cell, symbol, grid, carrier):
+    """(refusal, what): ("nothing",), (PILOT, point) or (DATA, point, slot, subchannel, index)."""
+    number = look_refusal(mode, size, cell, symbol, len(grid), carrier)
+    if number:
+        return number, None
+    _, what = locate(mode, size, cell, symbol, carrier)
+    at = grid_at(mode, size, symbol, carrier)
+    point = list(grid[at : at + 2])
+    if what[0] in (GUARD, DC):
+        return 0, ("nothing",)
+    return 0, (what[0], point) + what[1:]
+
+
+# --- meetings ---------------------------------------------------------------------------------
+
+
+def ofusc_collisions_refusal(size, cell_a, subchannel_a, cell_b, subchannel_b):
+    """Questions 2, 3, 3, 5, 5."""
+    if size not in BIN_SIZES:
+        return 2
+    if cell_a >= cells(OFUSC, size) or cell_b >= cells(OFUSC, size):
+        return 3
+    return 0 if subchannel_a < n_of(size) and subchannel_b < n_of(size) else 5
+
+
+def ofusc_collisions(size, cell_a, subchannel_a, cell_b, subchannel_b, slot=0):
+    """(refusal, marks by group, their count). The answer is the same for every slot."""
+    number = ofusc_collisions_refusal(size, cell_a, subchannel_a, cell_b, subchannel_b)
+    if number:
+        return number, [0] * 48, 0
+
+    def carrier_in_group(cell, subchannel, group):
+        index = [m for m in range(48) if (m + 23 * subchannel) % 48 == group][0]
+        return place(OFUSC, size, cell, slot, subchannel, index)[2]
+
+    hits = [
+        int(carrier_in_group(cell_a, subchannel_a, k) == carrier_in_group(cell_b, subchannel_b, k))
+        for k in range(48)
+    ]
+    return 0, hits, sum(hits)
+
+
+def amc_collisions(cell_a, cell_b):
+    """(refusal, marks by index, their count). Question 3, twice."""
+    if cell_a >= cells(AMC, 2048) or cell_b >= cells(AMC, 2048):
+        return 3, [0] * 48, 0
+    hits = [int(amc_v(cell_a, j) == amc_v(cell_b, j)) for j in range(48)]
+    return 0, hits, sum(hits)
+
+
+# --- zone plans: a zone is (mode, cell, slots); a plan has eight places -----------------------
+
+PLACES = 8
+NO_ZONE = (0, 0, 0)
+
+
+class Refused(Exception):
+    def __init__(self, number):
+        super().__init__(number)
+        self.number = number
+
+
+def read_value(data, at):
+    """(value, the place after it). Questions 10 and 11."""
+    groups = []
+    while len(groups) < 3:
+        if at == len(data):
+            raise Refused(10)
+        groups.append(data[at])
+        at += 1
+        if groups[-1] < 128:
+            break
+    if groups[-1] >= 128 or (len(groups) > 1 and groups[-1] == 0):
+        raise Refused(11)
+    return sum((group % 128) * 128**i for i, group in enumerate(groups)), at
+
+
+def write_value(value):
+    out = []
+    while value >= 128:
+        out.append(128 + value % 128)
+        value //= 128
+    return out + [value]
+
+
+def judge_zone(size, before, zone):
+    """Questions 1, 2, 3, 13, 14 of one zone; before is the zone before it, or None."""
+    mode, cell, slots = zone
+    if mode not in (PUSC_DL, OFUSC, AMC):
+        raise Refused(1)
+    number = setup_refusal(mode, size, cell)
+    if number:
+        raise Refused(number)
+    if not 1 <= slots <= 512:
+        raise Refused(13)
+    if size == 2048 and before is None and (mode, cell) != (PUSC_DL, 0):
+        raise Refused(14)
+    if before is not None and before[0] == AMC and mode != AMC:
+        raise Refused(14)
+
+
+def read_whole_plan(data):
+    count, at = read_value(data, 0)
+    if not 1 <= count <= PLACES:
+        raise Refused(12)
+    size, at = read_value(data, at)
+    if size not in BIN_SIZES:
+        raise Refused(2)
+    zones = []
+    for _ in range(count):
+        mode, at = read_value(data, at)
+        cell, at = read_value(data, at)
+        slots, at = read_value(data, at)
+        judge_zone(size, zones[-1] if zones else None, (mode, cell, slots))
+        zones.append((mode, cell, slots))
+    if at != len(data):
+        raise Refused(15)
+    return count, size, zones + [NO_ZONE] * (PLACES - count)
+
+
+def read_plan(data):
+    """(refusal, count, size, eight zones)."""
+    try:
+        return (0,) + read_whole_plan(data)
+    except Refused as refused:
+        return refused.number, 0, 0, [NO_ZONE] * PLACES
+
+
+def judge_plan(count, size, zones):
+    """The questions of writing but the last."""
+    if not 1 <= count <= PLACES or any(zone != NO_ZONE for zone in zones[count:]):
+        raise Refused(12)
+    if size not in BIN_SIZES:
+        raise Refused(2)
+    for i in range(count):
+        judge_zone(size, zones[i - 1] if i else None, zones[i])
+
+
+def write_plan(count, size, zones, dest):
+    """(refusal, bytes written, the destination afterwards)."""
+    try:
+        judge_plan(count, size, zones)
+    except Refused as refused:
+        return refused.number, 0, list(dest)
+    out = write_value(count) + write_value(size)
+    for zone in zones[:count]:
+        for value in zone:
+            out += write_value(value)
+    if len(out) > len(dest):
+        return 16, 0, list(dest)
+    return 0, len(out), out + list(dest[len(out) :])
+
+
+def zones_text(data):
+    """What the program prints for its input: at most 128 bytes of it count."""
+    number, count, _, zones = read_plan(data[:128])
+    if number:
+        return "refused %d\n" % number
+    return "".join("%d %d %d\n" % zone for zone in zones[:count])

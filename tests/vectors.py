@@ -1,0 +1,239 @@
+"""Writes and checks the stored vectors of the vector programs.
+
+    python3 tests/vectors.py map        writes crates/map_vectors/stdin and stdout
+    python3 tests/vectors.py --check    fails where a stored file differs from the reference
+
+One request a line, numbers in base ten; the answer repeats the request, then a colon:
+
+    p mode size cell slot subchannel index n    n points from this index on: symbol.carrier
+    l mode size cell symbol carrier n           n carriers from this one on: guard, dc, pilot
+                                                or slot.subchannel.index
+
+A refused point or carrier stands as `refused` and document 01's number.
+"""
+
+import os
+import random
+import sys
+
+import reference as ref
+from reference import AMC, OFUSC, PUSC_DL, PUSC_UL
+
+ROOT = os.path.dirname(os.path.dirname(os.path.abspath(__file__)))
+LARGEST = 2**64 - 1
+INPUT_ROOM = 262144  # what a vector program reads
+SETUPS = [(mode, size) for mode in range(4) for size in ref.sizes(mode)]
+
+
+# --- the map ----------------------------------------------------------------------------------
+
+
+def placed_text(mode, size, cell, slot, subchannel, index):
+    number, symbol, carrier = ref.place(mode, size, cell, slot, subchannel, index)
+    return "refused %d" % number if number else "%d.%d" % (symbol, carrier)
+
+
+def located_text(mode, size, cell, symbol, carrier):
+    number, what = ref.locate(mode, size, cell, symbol, carrier)
+    if number:
+        return "refused %d" % number
+    return "%d.%d.%d" % what[1:] if what[0] == ref.DATA else what[0]
+
+
+def map_answer(request):
+    operation, fields, first, count = request[0], request[1:-2], request[-2], request[-1]
+    text = placed_text if operation == "p" else located_text
+    return " ".join(text(*fields, first + i) for i in range(count))
+
+
+def known_points():
+    """The known points of document 01 that place and locate answer."""
+    yield ("p", OFUSC, 1024, 0, 0, 3, 5, 1)
+    yield ("p", OFUSC, 1024, 0, 1, 3, 5, 1)
+    yield ("p", OFUSC, 1024, 17, 0, 0, 0, 1)
+    yield ("p", PUSC_DL, 2048, 0, 0, 1, 11, 1)
+    yield ("p", PUSC_DL, 2048, 0, 0, 1, 35, 1)
+    yield ("p", PUSC_UL, 2048, 0, 0, 1, 0, 1)
+    for cell in range(32):
+        for symbol in (0, 1):
+            yield ("l", PUSC_DL, 2048, cell, symbol, 183, 2)
+            yield ("l", PUSC_DL, 2048, cell, symbol, 1024, 1)
+
+
+def whole_slot(mode, size, cell, slot):
+    """Every point of a slot: a line a subchannel."""
+    for subchannel in range(ref.subchannels(mode, size)):
+        yield ("p", mode, size, cell, slot, subchannel, 0, 48)
+
+
+def whole_symbol(mode, size, cell, symbol):
+    """Every carrier of a symbol: a line a cluster, four tiles or a bin; guards and DC apart."""
+    left, used = ref.left_guards(mode, size), ref.used_numbers(mode, size)
+    run = {PUSC_DL: 14, PUSC_UL: 16, OFUSC: 9, AMC: 9}[mode]
+    request = ("l", mode, size, cell, symbol)
+    yield request + (0, left)
+    for half in (0, used // 2):
+        first = ref.carrier_of_used(mode, size, half)
+        for offset in range(0, used // 2, run):
+            yield request + (first + offset, min(run, used // 2 - offset))
+        if half == 0:
+            yield request + (ref.dc(size), 1)
+    yield request + (left + used + 1, size - left - used - 1)
+
+
+def slot_cells(mode, size):
+    """(cell, slot) of the whole slots. Optional FUSC has both terms, each alone, and the last
+    cell, where both sequences turn by N-1. AMC has the zero rule firing twice, then not at all."""
+    n = ref.n_of(size)
+    return {
+        PUSC_DL: [(31, 511), (5, 0)],
+        PUSC_UL: [(69, 511), (17, 0)],
+        OFUSC: [(2 * n + 1, 0), (3, 511), (2 * n, 1), (n * n - 1, 2)],
+        AMC: [(2351, 0), (13 * 48 + 5, 511), (47, 1)],
+    }[mode]
+
+
+def symbol_cells(mode, size):
+    """(cell, symbol) of the whole symbols: every kind of symbol of the mode."""
+    last = ref.cells(mode, size) - 1
+    return {
+        PUSC_DL: [(31, 1022), (19, 1)],
+        PUSC_UL: [(69, 1533), (44, 1), (1, 2)],
+        OFUSC: [(last, 510), (ref.n_of(size) + 2, 1), (1, 2)],
+        AMC: [(last, 510), (20 * 48 + 31, 1), (46, 509)],
+    }[mode]
+
+
+def good_place(mode, size):
+    """One accepted request, with the first number of each field that is not."""
+    good = [mode, size, 3, 7, 2, 11]
+    limits = [4, size + 1, ref.cells(mode, size), 512, ref.subchannels(mode, size), 48]
+    return good, limits
+
+
+def good_locate(mode, size):
+    good = [mode, size, 3, 7, size // 2 + 5]
+    limits = [4, size + 1, ref.cells(mode, size), 512 * ref.SLOT_LENGTH[mode], size]
+    return good, limits
+
+
+def wrong_values(good, limit):
+    """The smallest, the largest, and two that a narrower type would cut to an accepted one."""
+    return [limit, good + 2**16, good + 2**32, LARGEST]
+
+
+def refusals(operation, good, limits):
+    """Each field wrong alone, and together with each later one; the same wrong kind in both."""
+    wrong = [wrong_values(g, limit) for g, limit in zip(good, limits)]
+    for i in range(len(good)):
+        for j in range(i, len(good)):
+            for kind in range(4):
+                fields = list(good)
+                fields[i], fields[j] = wrong[i][kind], wrong[j][kind]
+                yield (operation, *fields, 1)
+    for kind in range(4):
+        yield (operation, *(values[kind] for values in wrong), 1)
+
+
+def edges(mode, size):
+    """The last number of every range and the first past it."""
+    cells, symbols = ref.cells(mode, size), 512 * ref.SLOT_LENGTH[mode]
+    for cell in (cells - 1, cells):
+        yield ("p", mode, size, cell, 0, 0, 0, 1)
+        yield ("l", mode, size, cell, 0, size // 2 + 1, 1)
+    for slot in (511, 512):
+        yield ("p", mode, size, 0, slot, 0, 0, 1)
+    for symbol in (symbols - 1, symbols):
+        yield ("l", mode, size, 0, symbol, size // 2 - 1, 1)
+    for subchannel in (ref.subchannels(mode, size) - 1, ref.subchannels(mode, size)):
+        yield ("p", mode, size, 0, 0, subchannel, 0, 1)
+    yield ("p", mode, size, 0, 0, 0, 47, 2)
+    yield ("l", mode, size, 0, 0, size - 1, 2)
+
+
+def size_edges():
+    """Sizes that are no mode's, and those that are another mode's only."""
+    for mode in range(5):
+        for size in (0, 1, 64, 128, 255, 256, 257, 512, 1023, 1024, 1536, 2047, 2048, 2049, 4096, LARGEST):
+            yield ("p", mode, size, 0, 0, 0, 0, 1)
+            yield ("l", mode, size, 0, 0, 0, 1)
+
+
+def scattered(count):
+    """Accepted requests anywhere, from a fixed seed."""
+    dice = random.Random(802016)
+    for _ in range(count):
+        mode, size = dice.choice(SETUPS)
+        cell, slot = dice.randrange(ref.cells(mode, size)), dice.randrange(512)
+        subchannel, index = dice.randrange(ref.subchannels(mode, size)), dice.randrange(48)
+        yield ("p", mode, size, cell, slot, subchannel, index, 1)
+        offset = dice.randrange(ref.SLOT_LENGTH[mode])
+        yield ("l", mode, size, cell, slot * ref.SLOT_LENGTH[mode] + offset, dice.randrange(size), 1)
+
+
+def map_requests():
+    yield from known_points()
+    for mode, size in SETUPS:
+        for cell, slot in slot_cells(mode, size):
+            yield from whole_slot(mode, size, cell, slot)
+        for cell, symbol in symbol_cells(mode, size):
+            yield from whole_symbol(mode, size, cell, symbol)
+    for mode, size in SETUPS:
+        yield from edges(mode, size)
+        yield from refusals("p", *good_place(mode, size))
+        yield from refusals("l", *good_locate(mode, size))
+    yield from size_edges()
+    yield from scattered(300)
+
+
+# --- the stored files -------------------------------------------------------------------------
+
+# The name of a set of vectors: its crate, its requests, the answer to one.
+SETS = {"map": ("map_vectors", map_requests, map_answer)}
+
+
+def files(name):
+    """The path and the text of each stored file of a set."""
+    crate, requests, answer = SETS[name]
+    lines = [(" ".join(map(str, request)), answer(request)) for request in requests()]
+    folder = os.path.join(ROOT, "crates", crate)
+    asked = "".join("%s\n" % request for request, _ in lines)
+    assert len(asked) <= INPUT_ROOM
+    yield os.path.join(folder, "stdin"), asked
+    yield os.path.join(folder, "stdout"), "".join("%s: %s\n" % line for line in lines)
+
+
+def write(name):
+    for path, text in files(name):
+        os.makedirs(os.path.dirname(path), exist_ok=True)
+        with open(path, "w", encoding="ascii", newline="\n") as file:
+            file.write(text)
+
+
+def stored(path):
+    if not os.path.exists(path):
+        return None
+    with open(path, encoding="ascii", newline="") as file:
+        return file.read()
+
+
+def check():
+    stale = [path for name in SETS for path, text in files(name) if stored(path) != text]
+    for path in stale:
+        print("differs from the reference: %s" % os.path.relpath(path, ROOT))
+    if stale:
+        sys.exit(1)
+    print("vectors: stored files agree with the reference")
+
+
+def main():
+    if sys.argv[1:] == ["--check"]:
+        check()
+    elif len(sys.argv) == 2 and sys.argv[1] in SETS:
+        write(sys.argv[1])
+    else:
+        sys.exit("usage: vectors.py %s | --check" % " | ".join(SETS))
+
+
+if __name__ == "__main__":
+    main()
