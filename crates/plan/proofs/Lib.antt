@@ -1,0 +1,4 @@
+pub mod Points
+pub mod Places
+pub mod Judge
+pub mod Round

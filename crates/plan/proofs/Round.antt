@@ -1,0 +1,250 @@
+-- Reading and writing undo each other. Assumes nothing.
+use mathlib.Core.Path.{_≡_, refl, sym, ap, _∙_, subst}
+use mathlib.Core.Bool.{Bool, true, false}
+use mathlib.Core.List.{List, [], _∷_, _++_, append-assoc, append-nil}
+use Prim.Native.Nat.{ℕ, zero, suc, _+_, _<_, _≤_}
+use native.Mathlib.Omega.{arith}
+use lib.Dec.{eqb, ltb, leb}
+use lib.ListN.{length, take, drop, getD, length-append, length-drop}
+use lib.Seq.{drop-append-seam, take-append-seam, getD-drop, length-take-le}
+use borrow.Author.Tests.{eqb-true, leb-true, le-leb}
+use Rattle.base.specs.Answer.{Answer, accepted, refused, ask}
+use Rattle.base.proofs.Chain.{ask-yes, same-accepted}
+use Rattle.map.specs.Question.{isFourSizes, isSize}
+use Rattle.map.proofs.Accept.{size-most}
+use Rattle.value.specs.Value.{Value, valueOf, encode}
+use Rattle.value.proofs.Laws.{Bytes, read-written, same}
+use Rattle.plan.specs.declared.Zone.{Zone}
+use Rattle.plan.specs.declared.Plan.{Plan}
+use Rattle.plan.specs.declared.Before.{Before}
+use Rattle.plan.specs.declared.Before.the-variants.{First, After}
+use Rattle.plan.specs.Zone.{askZone, isCount, inPlaces}
+use Rattle.plan.specs.Read.{handOn, readValue, readZone, readZones, planWith, finish, afterSize, afterCount, planOf}
+use Rattle.plan.specs.Write.{areUnused, usedZones, askZones, askPlan, zoneBytes, zonesBytes, planBytes, Outcome, over, laid, writeOf}
+use Rattle.plan.proofs.Places.{both-true, take-places, drop-places, places-of}
+use Rattle.plan.proofs.Judge.{Passed, zone-yes, zone-passes, Judged, none, then, zones-yes, zones-pass, Small, small}
+
+-- From bytes to a value and back.
+record Value-of {A : Type 0} (s : List ℕ) (rest : ℕ → List ℕ → Answer A) (a : A) : Type 0 where
+  value : ℕ
+  after : List ℕ
+  bytes : encode value ++ after ≡ s
+  after-bytes : Bytes after
+  go-on : rest value after ≡ accepted a
+
+value-of : {A : Type 0} (s : List ℕ) (rest : ℕ → List ℕ → Answer A) {a : A} → Bytes s → readValue s rest ≡ accepted a → Value-of s rest a
+value-of s rest {a} b e = by (valueOf s) refl e
+  where
+    by : (v : Answer Value) → valueOf s ≡ v → handOn v s rest ≡ accepted a → Value-of s rest a
+    by (accepted v) q e′ =
+        record {
+          value = v .value;
+          after = drop (v .size) s;
+          bytes = same 3 s b q .bytes;
+          after-bytes = λ k. subst (λ (x : ℕ). x < 256) (sym (getD-drop (v .size) s k 0)) (b (v .size + k));
+          go-on = e′;
+        }
+    by (refused k) q e′ = absurd (let z : _≡_ {A = ℕ} 0 1 = cc in omega arith)
+
+of-value : {A : Type 0} (x : ℕ) (s : List ℕ) (rest : ℕ → List ℕ → Answer A) → x < 2097152 → readValue (encode x ++ s) rest ≡ rest x s
+of-value x s rest h = rw (read-written x s h, drop-append-seam (encode x) s)
+
+-- From bytes to a zone and back.
+record Zone-of {A : Type 0} (s : List ℕ) (rest : Zone → List ℕ → Answer A) (a : A) : Type 0 where
+  zone : Zone
+  after : List ℕ
+  bytes : (t : List ℕ) → after ≡ t → zoneBytes zone ++ t ≡ s
+  after-bytes : Bytes after
+  go-on : rest zone after ≡ accepted a
+
+zone-of : {A : Type 0} (s : List ℕ) (rest : Zone → List ℕ → Answer A) {a : A} → Bytes s → readZone s rest ≡ accepted a → Zone-of s rest a
+unfolding zoneBytes
+zone-of s rest {a} b e =
+    let m = value-of s (λ mode s₁. readValue s₁ (λ cell s₂. readValue s₂ (λ slots s₃. rest (record { mode = mode; cell = cell; slots = slots }) s₃))) b e in
+    let c = value-of (m .after) (λ cell s₂. readValue s₂ (λ slots s₃. rest (record { mode = m .value; cell = cell; slots = slots }) s₃)) (m .after-bytes) (m .go-on) in
+    let l = value-of (c .after) (λ slots s₃. rest (record { mode = m .value; cell = c .value; slots = slots }) s₃) (c .after-bytes) (c .go-on) in
+    record {
+      zone = record { mode = m .value; cell = c .value; slots = l .value };
+      after = l .after;
+      bytes = λ t q. simp (append-assoc, ← q, l .bytes, c .bytes, m .bytes);
+      after-bytes = l .after-bytes;
+      go-on = l .go-on;
+    }
+
+of-zone : {A : Type 0} {z : Zone} (s : List ℕ) (rest : Zone → List ℕ → Answer A) → Small z → readZone (zoneBytes z ++ s) rest ≡ rest z s
+unfolding zoneBytes
+of-zone {z = z} s rest h =
+    simp append-assoc
+    (of-value (z .mode) _ _ (h .mode-most) ∙ of-value (z .cell) _ _ (h .cell-most) ∙ of-value (z .slots) _ _ (h .slots-most))
+
+-- From bytes to zones and back.
+record Zones-of {A : Type 0} (n size : ℕ) (before : Before) (s : List ℕ) (rest : List Zone → List ℕ → Answer A) (a : A) : Type 0 where
+  zones : List Zone
+  after : List ℕ
+  count : length zones ≡ n
+  bytes : zonesBytes zones ++ after ≡ s
+  judged : Judged size before zones
+  go-on : rest zones after ≡ accepted a
+
+zones-of : {A : Type 0} (n size : ℕ) (before : Before) (s : List ℕ) (rest : List Zone → List ℕ → Answer A) {a : A} → Bytes s → readZones n size before s rest ≡ accepted a → Zones-of n size before s rest a
+unfolding readZones zonesBytes
+zones-of zero size before s rest b e = record { zones = []; after = s; count = refl; bytes = refl; judged = none; go-on = e }
+zones-of {A} (suc n) size before s rest {a} b e =
+    let h = zone-of s (λ zone s₁. askZone size before zone (further zone s₁)) b e in
+    let p = zone-yes size before (h .zone) (further (h .zone) (h .after)) (h .go-on) in
+    more h (p .0) (zones-of n size (After (h .zone .mode)) (h .after) (λ zones s₂. rest (h .zone ∷ zones) s₂) (h .after-bytes) (p .1))
+  where
+    further : Zone → List ℕ → Answer A
+    further zone s₁ = readZones n size (After (zone .mode)) s₁ (λ zones s₂. rest (zone ∷ zones) s₂)
+
+    more : (h : Zone-of s (λ zone s₁. askZone size before zone (further zone s₁)) a) → Passed size before (h .zone) → Zones-of n size (After (h .zone .mode)) (h .after) (λ zones s₂. rest (h .zone ∷ zones) s₂) a → Zones-of (suc n) size before s rest a
+    more h p t =
+        record {
+          zones = h .zone ∷ t .zones;
+          after = t .after;
+          count = ap suc (t .count);
+          bytes = rw append-assoc (h .bytes (zonesBytes (t .zones) ++ t .after) (sym (t .bytes)));
+          judged = then p (t .judged);
+          go-on = t .go-on;
+        }
+
+of-zones : {A : Type 0} {size : ℕ} {before : Before} {zones : List Zone} (s : List ℕ) (rest : List Zone → List ℕ → Answer A) → Judged size before zones → readZones (length zones) size before (zonesBytes zones ++ s) rest ≡ rest zones s
+unfolding readZones zonesBytes
+of-zones s rest none = refl
+of-zones {size = size} s rest (then {before = before} {z = z} {zones = zones} p j) =
+    rw append-assoc
+    (of-zone (zonesBytes zones ++ s) (λ z₁ s₁. askZone size before z₁ (readZones (length zones) size (After (z₁ .mode)) s₁ (λ zones₁ s₂. rest (z₁ ∷ zones₁) s₂))) (small p)
+    ∙ zone-passes size before z _ p
+    ∙ of-zones s (λ zones₁ s₁. rest (z ∷ zones₁) s₁) j)
+
+-- a plan that every question lets pass
+pub record Fit (p : Plan) : Type 0 where
+  pub count-is : isCount (p .count) ≡ true
+  pub unused-are : areUnused (drop (p .count) (p .zones)) ≡ true
+  pub size-is : isFourSizes (p .size) ≡ true
+  pub judged : Judged (p .size) First (usedZones p)
+
+pub plan-yes : {A : Type 0} (p : Plan) (rest : Answer A) {a : A} → askPlan p rest ≡ accepted a → Fit p × (rest ≡ accepted a)
+plan-yes p rest e =
+    let e₁ = ask-yes (isCount (p .count)) 12 (ask (areUnused (drop (p .count) (p .zones))) 12 (ask (isFourSizes (p .size)) 2 (askZones (p .size) First (usedZones p) rest))) e in
+    let e₂ = ask-yes (areUnused (drop (p .count) (p .zones))) 12 (ask (isFourSizes (p .size)) 2 (askZones (p .size) First (usedZones p) rest)) (e₁ .1) in
+    let e₃ = ask-yes (isFourSizes (p .size)) 2 (askZones (p .size) First (usedZones p) rest) (e₂ .1) in
+    let e₄ = zones-yes (p .size) First (usedZones p) rest (e₃ .1) in
+    (record { count-is = e₁ .0; unused-are = e₂ .0; size-is = e₃ .0; judged = e₄ .0 }, e₄ .1)
+
+pub plan-passes : {A : Type 0} {p : Plan} (rest : Answer A) → Fit p → askPlan p rest ≡ rest
+plan-passes rest f = rw (f .count-is, f .unused-are, f .size-is) (zones-pass rest (f .judged))
+
+-- A plan that was read is fit, and its bytes are those that were read.
+record Plan-of (s : List ℕ) (p : Plan) : Type 0 where
+  fit : Fit p
+  bytes : planBytes p ≡ s
+
+count-most : (n : ℕ) → isCount n ≡ true → n ≤ 8
+unfolding isCount
+count-most n e = leb-true n 8 (both-true (ltb 0 n) (leb n 8) e .1)
+
+made : (size : ℕ) (zones : List Zone) → isCount (length zones) ≡ true → isFourSizes size ≡ true → Judged size First zones → Plan-of (encode (length zones) ++ (encode size ++ zonesBytes zones)) (planWith (length zones) size zones)
+unfolding planBytes
+made size zones c z j =
+    let m = count-most (length zones) c in
+    let used = take-places 8 zones m in
+    record {
+      fit = record { count-is = c; unused-are = drop-places 8 zones m; size-is = z; judged = rw used j };
+      bytes = rw used;
+    }
+
+empty : (s : List ℕ) → length s ≡ 0 → s ≡ []
+empty [] e = refl
+empty (x ∷ s) e = absurd (omega arith)
+
+after-size : (n size : ℕ) (s : List ℕ) {p : Plan} → Bytes s → isCount n ≡ true → afterSize n size s ≡ accepted p → Plan-of (encode n ++ (encode size ++ s)) p
+unfolding afterSize finish
+after-size n size s {p} b c e =
+    let e₁ = ask-yes (isFourSizes size) 2 (readZones n size First s (finish n size)) e in
+    whole (e₁ .0) (zones-of n size First s (finish n size) b (e₁ .1))
+  where
+    whole : isFourSizes size ≡ true → Zones-of n size First s (finish n size) p → Plan-of (encode n ++ (encode size ++ s)) p
+    whole z t =
+        let e₂ = ask-yes (eqb (length (t .after)) 0) 15 (accepted (planWith n size (t .zones))) (t .go-on) in
+        let end = empty (t .after) (eqb-true (length (t .after)) 0 (e₂ .0)) in
+        let bytes : zonesBytes (t .zones) ≡ s = sym (append-nil (zonesBytes (t .zones))) ∙ ap (λ l. zonesBytes (t .zones) ++ l) (sym end) ∙ t .bytes in
+        rw (← same-accepted (e₂ .1), ← bytes, ← t .count) (made size (t .zones) (rw (t .count) c) z (t .judged))
+
+after-count : (n : ℕ) (s : List ℕ) {p : Plan} → Bytes s → afterCount n s ≡ accepted p → Plan-of (encode n ++ s) p
+unfolding afterCount
+after-count n s b e =
+    let e₁ = ask-yes (isCount n) 12 (readValue s (afterSize n)) e in
+    let z = value-of s (afterSize n) b (e₁ .1) in
+    rw (z .bytes) at (after-size n (z .value) (z .after) (z .after-bytes) (e₁ .0) (z .go-on))
+
+plan-of : (s : List ℕ) {p : Plan} → Bytes s → planOf s ≡ accepted p → Plan-of s p
+unfolding planOf
+plan-of s b e =
+    let c = value-of s afterCount b e in
+    rw (c .bytes) at (after-count (c .value) (c .after) (c .after-bytes) (c .go-on))
+
+-- A fit plan's bytes are read as that plan.
+size-small : (size : ℕ) → isFourSizes size ≡ true → size ≤ 2048
+unfolding isSize
+size-small z e = size-most (record { mode = 2; size = z; cell = 0 }) e
+
+all-zones : {A : Type 0} {size n : ℕ} {zones : List Zone} (rest : List Zone → List ℕ → Answer A) → length zones ≡ n → Judged size First zones → readZones n size First (zonesBytes zones) rest ≡ rest zones []
+all-zones {size = size} {zones = zones} rest e j =
+    ap (λ k. readZones k size First (zonesBytes zones) rest) (sym e)
+    ∙ ap (λ s. readZones (length zones) size First s rest) (sym (append-nil (zonesBytes zones)))
+    ∙ of-zones [] rest j
+
+of-size : (p : Plan) → length (p .zones) ≡ 8 → Fit p → afterSize (p .count) (p .size) (zonesBytes (usedZones p)) ≡ accepted p
+unfolding afterSize finish
+of-size p l f =
+    rw (f .size-is)
+    (all-zones (finish (p .count) (p .size)) (length-take-le (p .count) (p .zones) (omega (arith, count-most (p .count) (f .count-is)))) (f .judged)
+    ∙ ap (λ places. accepted (record { count = p .count; size = p .size; zones = places })) (places-of 8 (p .count) (p .zones) l (f .unused-are)))
+
+of-plan : (p : Plan) → length (p .zones) ≡ 8 → Fit p → planOf (planBytes p) ≡ accepted p
+unfolding planOf planBytes afterCount
+of-plan p l f =
+    of-value (p .count) (encode (p .size) ++ zonesBytes (usedZones p)) afterCount (omega (arith, count-most (p .count) (f .count-is)))
+    ∙ rw (f .count-is)
+    (of-value (p .size) (zonesBytes (usedZones p)) (afterSize (p .count)) (omega (arith, size-small (p .size) (f .size-is)))
+    ∙ of-size p l f)
+
+-- An accepted plan written again is the same bytes, where the destination is long enough; further bytes stay.
+pub same-bytes : (s : List ℕ) (p : Plan) (d : List ℕ) → Bytes s → planOf s ≡ accepted p → length s ≤ length d → writeOf p d ≡ record { answer = accepted (length s); dest = over s d }
+unfolding writeOf
+same-bytes s p d b e h =
+    let t = plan-of s b e in
+    rw (plan-passes (ask (leb (length (planBytes p)) (length d)) 16 (accepted (planBytes p))) (t .fit), t .bytes, le-leb (length s) (length d) h)
+
+-- What a write that is accepted leaves begins with the plan's bytes.
+record Laid (a : Answer (List ℕ)) (n : ℕ) (after : List ℕ) : Type 0 where
+  bytes : List ℕ
+  answer-is : a ≡ accepted bytes
+  front : take n after ≡ bytes
+
+laid-of : (a : Answer (List ℕ)) (d : List ℕ) {n : ℕ} {after : List ℕ} → laid a d ≡ record { answer = accepted n; dest = after } → Laid a n after
+laid-of (accepted bytes₁) d e =
+    record {
+      bytes = bytes₁;
+      answer-is = refl;
+      front = rw (← same-accepted (ap (λ (o : Outcome). o .answer) e), ← ap (λ (o : Outcome). o .dest) e) (take-append-seam bytes₁ (drop (length bytes₁) d));
+    }
+laid-of (refused k) d e = absurd (let q = ap (λ (o : Outcome). o .answer) e in let z : _≡_ {A = ℕ} 0 1 = cc in omega arith)
+
+-- A written plan read again is the same plan.
+pub same-plan : (p : Plan) (d after : List ℕ) (n : ℕ) → length (p .zones) ≡ 8 → writeOf p d ≡ record { answer = accepted n; dest = after } → planOf (take n after) ≡ accepted p
+unfolding writeOf
+same-plan p d after n l e =
+    let t = laid-of (askPlan p (ask (leb (length (planBytes p)) (length d)) 16 (accepted (planBytes p)))) d e in
+    let h = plan-yes p (ask (leb (length (planBytes p)) (length d)) 16 (accepted (planBytes p))) (t .answer-is) in
+    let k = ask-yes (leb (length (planBytes p)) (length d)) 16 (accepted (planBytes p)) (h .1) in
+    rw (t .front, ← same-accepted (k .1)) (of-plan p l (h .0))
+
+-- So no two accepted byte strings are one plan,
+pub one-string : (s t : List ℕ) (p : Plan) → Bytes s → Bytes t → planOf s ≡ accepted p → planOf t ≡ accepted p → s ≡ t
+one-string s t p b c e q = sym (plan-of s b e .bytes) ∙ plan-of t c q .bytes
+
+-- and no two plans one byte string.
+pub one-plan : (p q : Plan) (d₁ d₂ after₁ after₂ : List ℕ) (n₁ n₂ : ℕ) → length (p .zones) ≡ 8 → length (q .zones) ≡ 8 → writeOf p d₁ ≡ record { answer = accepted n₁; dest = after₁ } → writeOf q d₂ ≡ record { answer = accepted n₂; dest = after₂ } → take n₁ after₁ ≡ take n₂ after₂ → p ≡ q
+one-plan p q d₁ d₂ after₁ after₂ n₁ n₂ l m e g h = same-accepted (sym (same-plan p d₁ after₁ n₁ l e) ∙ ap planOf h ∙ same-plan q d₂ after₂ n₂ m g)
