@@ -1,4 +1,6 @@
 pub mod Points
 pub mod Places
+pub mod Number
+pub mod Step
 pub mod Judge
 pub mod Round

@@ -19,7 +19,7 @@ use Rattle.plan.specs.declared.Plan.{Plan}
 use Rattle.plan.specs.declared.Before.{Before}
 use Rattle.plan.specs.declared.Before.the-variants.{First, After}
 use Rattle.plan.specs.Zone.{askZone, isCount, inPlaces}
-use Rattle.plan.specs.Read.{handOn, readValue, readZone, readZones, planWith, finish, afterSize, afterCount, planOf}
+use Rattle.plan.specs.Read.{handOn, readValue, Taken, afterCell, afterMode, zoneOf, handZone, readZone, readZones, planWith, finish, zonesOf, afterSize, afterCount, planOf}
 use Rattle.plan.specs.Write.{areUnused, usedZones, askZones, askPlan, zoneBytes, zonesBytes, planBytes, Outcome, over, laid, writeOf}
 use Rattle.plan.proofs.Places.{both-true, take-places, drop-places, places-of}
 use Rattle.plan.proofs.Judge.{Passed, zone-yes, zone-passes, Judged, none, then, zones-yes, zones-pass, Small, small}
@@ -53,29 +53,38 @@ of-value x s rest h = rw (read-written x s h, drop-append-seam (encode x) s)
 record Zone-of {A : Type 0} (s : List ℕ) (rest : Zone → List ℕ → Answer A) (a : A) : Type 0 where
   zone : Zone
   after : List ℕ
-  bytes : (t : List ℕ) → after ≡ t → zoneBytes zone ++ t ≡ s
+  bytes : zoneBytes zone ++ after ≡ s
   after-bytes : Bytes after
   go-on : rest zone after ≡ accepted a
 
 zone-of : {A : Type 0} (s : List ℕ) (rest : Zone → List ℕ → Answer A) {a : A} → Bytes s → readZone s rest ≡ accepted a → Zone-of s rest a
-unfolding zoneBytes
-zone-of s rest {a} b e =
-    let m = value-of s (λ mode s₁. readValue s₁ (λ cell s₂. readValue s₂ (λ slots s₃. rest (record { mode = mode; cell = cell; slots = slots }) s₃))) b e in
-    let c = value-of (m .after) (λ cell s₂. readValue s₂ (λ slots s₃. rest (record { mode = m .value; cell = cell; slots = slots }) s₃)) (m .after-bytes) (m .go-on) in
-    let l = value-of (c .after) (λ slots s₃. rest (record { mode = m .value; cell = c .value; slots = slots }) s₃) (c .after-bytes) (c .go-on) in
-    record {
-      zone = record { mode = m .value; cell = c .value; slots = l .value };
-      after = l .after;
-      bytes = λ t q. simp (append-assoc, ← q, l .bytes, c .bytes, m .bytes);
-      after-bytes = l .after-bytes;
-      go-on = l .go-on;
-    }
+unfolding zoneOf afterMode afterCell zoneBytes
+zone-of s rest {a} b e = by (zoneOf s) refl e
+  where
+    by : (t : Answer Taken) → zoneOf s ≡ t → handZone t rest ≡ accepted a → Zone-of s rest a
+    by (refused k) q e′ = absurd (let z : _≡_ {A = ℕ} 0 1 = cc in omega arith)
+    by (accepted t) q e′ =
+        let m = value-of s afterMode b q in
+        let c = value-of (m .after) (afterCell (m .value)) (m .after-bytes) (m .go-on) in
+        let l = value-of (c .after) (λ n s₁. accepted (record { zone = record { mode = m .value; cell = c .value; slots = n }; rest = s₁ })) (c .after-bytes) (c .go-on) in
+        let is = same-accepted (l .go-on) in
+        record {
+          zone = t .zone;
+          after = t .rest;
+          bytes = rw (← is) (simp (append-assoc, l .bytes, c .bytes, m .bytes));
+          after-bytes = rw (← is) (l .after-bytes);
+          go-on = e′;
+        }
 
 of-zone : {A : Type 0} {z : Zone} (s : List ℕ) (rest : Zone → List ℕ → Answer A) → Small z → readZone (zoneBytes z ++ s) rest ≡ rest z s
-unfolding zoneBytes
+unfolding zoneOf afterMode afterCell zoneBytes
 of-zone {z = z} s rest h =
+    let is : zoneOf (zoneBytes z ++ s) ≡ accepted (record { zone = z; rest = s }) =
     simp append-assoc
-    (of-value (z .mode) _ _ (h .mode-most) ∙ of-value (z .cell) _ _ (h .cell-most) ∙ of-value (z .slots) _ _ (h .slots-most))
+    (of-value (z .mode) (encode (z .cell) ++ (encode (z .slots) ++ s)) afterMode (h .mode-most)
+    ∙ of-value (z .cell) (encode (z .slots) ++ s) (afterCell (z .mode)) (h .cell-most)
+    ∙ of-value (z .slots) s (λ n s₁. accepted (record { zone = record { mode = z .mode; cell = z .cell; slots = n }; rest = s₁ })) (h .slots-most)) in
+    ap (λ t. handZone t rest) is
 
 -- From bytes to zones and back.
 record Zones-of {A : Type 0} (n size : ℕ) (before : Before) (s : List ℕ) (rest : List Zone → List ℕ → Answer A) (a : A) : Type 0 where
@@ -103,7 +112,7 @@ zones-of {A} (suc n) size before s rest {a} b e =
           zones = h .zone ∷ t .zones;
           after = t .after;
           count = ap suc (t .count);
-          bytes = rw append-assoc (h .bytes (zonesBytes (t .zones) ++ t .after) (sym (t .bytes)));
+          bytes = rw (append-assoc, t .bytes) (h .bytes);
           judged = then p (t .judged);
           go-on = t .go-on;
         }
@@ -159,7 +168,7 @@ empty [] e = refl
 empty (x ∷ s) e = absurd (omega arith)
 
 after-size : (n size : ℕ) (s : List ℕ) {p : Plan} → Bytes s → isCount n ≡ true → afterSize n size s ≡ accepted p → Plan-of (encode n ++ (encode size ++ s)) p
-unfolding afterSize finish
+unfolding afterSize zonesOf finish
 after-size n size s {p} b c e =
     let e₁ = ask-yes (isFourSizes size) 2 (readZones n size First s (finish n size)) e in
     whole (e₁ .0) (zones-of n size First s (finish n size) b (e₁ .1))
@@ -196,7 +205,7 @@ all-zones {size = size} {zones = zones} rest e j =
     ∙ of-zones [] rest j
 
 of-size : (p : Plan) → length (p .zones) ≡ 8 → Fit p → afterSize (p .count) (p .size) (zonesBytes (usedZones p)) ≡ accepted p
-unfolding afterSize finish
+unfolding afterSize zonesOf finish
 of-size p l f =
     rw (f .size-is)
     (all-zones (finish (p .count) (p .size)) (length-take-le (p .count) (p .zones) (omega (arith, count-most (p .count) (f .count-is)))) (f .judged)

@@ -23,12 +23,26 @@ handOn (refused k) s rest = refused k
 abbrev pub readValue : {A : Type 0} → List ℕ → (ℕ → List ℕ → Answer A) → Answer A
 readValue s rest = handOn (valueOf s) s rest
 
+-- Mode, cell and slots: a zone that was read, and the bytes after it.
+pub record Taken : Type 0 where
+  pub zone : Zone
+  pub rest : List ℕ
+
+unfoldable pub afterCell : ℕ → ℕ → List ℕ → Answer Taken
+afterCell m c s = readValue s (λ n s₁. accepted (record { zone = record { mode = m; cell = c; slots = n }; rest = s₁ }))
+
+unfoldable pub afterMode : ℕ → List ℕ → Answer Taken
+afterMode mode s = readValue s (afterCell mode)
+
+unfoldable pub zoneOf : List ℕ → Answer Taken
+zoneOf s = readValue s afterMode
+
+abbrev pub handZone : {A : Type 0} → Answer Taken → (Zone → List ℕ → Answer A) → Answer A
+handZone (accepted t) rest = rest (t .zone) (t .rest)
+handZone (refused k) rest = refused k
+
 abbrev pub readZone : {A : Type 0} → List ℕ → (Zone → List ℕ → Answer A) → Answer A
-readZone s rest =
-    readValue s (λ mode s₁.
-    readValue s₁ (λ cell s₂.
-    readValue s₂ (λ slots s₃.
-    rest (record { mode = mode; cell = cell; slots = slots }) s₃)))
+readZone s rest = handZone (zoneOf s) rest
 
 -- So many zones, each judged after its three values.
 unfoldable pub readZones : {A : Type 0} → ℕ → ℕ → Before → List ℕ → (List Zone → List ℕ → Answer A) → Answer A
@@ -46,9 +60,12 @@ planWith n z list = record { count = n; size = z; zones = inPlaces 8 list }
 unfoldable pub finish : ℕ → ℕ → List Zone → List ℕ → Answer Plan
 finish count size zones s = ask (eqb (length s) 0) 15 (accepted (planWith count size zones))
 
+unfoldable pub zonesOf : ℕ → ℕ → List ℕ → Answer Plan
+zonesOf count size s = readZones count size First s (finish count size)
+
 -- Directly after the count: 12 Is it 1..8? Directly after the size: 2 Is it one of four?
 unfoldable pub afterSize : ℕ → ℕ → List ℕ → Answer Plan
-afterSize count size s = ask (isFourSizes size) 2 (readZones count size First s (finish count size))
+afterSize count size s = ask (isFourSizes size) 2 (zonesOf count size s)
 
 unfoldable pub afterCount : ℕ → List ℕ → Answer Plan
 afterCount count s = ask (isCount count) 12 (readValue s (afterSize count))
@@ -61,15 +78,7 @@ abbrev pub answered : Answer Plan → ReadPlan
 answered (accepted p) = record { refusal = 0; plan = p }
 answered (refused k) = record { refusal = k; plan = planWith 0 0 [] }
 
--- a zone that was read, and the bytes after it
-pub record Taken : Type 0 where
-  pub zone : Zone
-  pub rest : List ℕ
-
-unfoldable pub zoneOf : List ℕ → Answer Taken
-zoneOf s = readZone s (λ z s₁. accepted (record { zone = z; rest = s₁ }))
-
--- what an answer of `zone` says, of the bytes that it was read from
+-- what an answer of `zone_at` says, of the bytes that it was read from
 abbrev pub zoneFound : List ℕ → ZoneFound → Answer Taken
 zoneFound s (Found z next) = accepted (record { zone = z; rest = drop next s })
 zoneFound s (Refused k) = refused k

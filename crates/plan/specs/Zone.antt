@@ -48,7 +48,13 @@ isOrder (After mode) size zone = isFollowing mode zone
 abbrev pub askZone : {A : Type 0} → ℕ → Before → Zone → Answer A → Answer A
 askZone size before zone rest = askOwn size zone (ask (isOrder before size zone) 14 rest)
 
--- the number of the first of them that is answered no, 0 where none is
+-- the numbers of the first of them that is answered no, 0 where none is
+unfoldable pub slotsNumber : ℕ → ℕ
+slotsNumber slots = number (ask {A = Unit {0}} (isSlots slots) 13 (accepted tt))
+
+unfoldable pub ownNumber : ℕ → Zone → ℕ
+ownNumber size zone = number (askOwn {A = Unit {0}} size zone (accepted tt))
+
 unfoldable pub zoneNumber : ℕ → Before → Zone → ℕ
 zoneNumber size before zone = number (askZone {A = Unit {0}} size before zone (accepted tt))
 

@@ -1,4 +1,12 @@
-// The zone plan: reading and writing its bytes, judging it.
+// The zone plan: judging a plan, reading and writing its bytes.
+use map::Setup;
+use value::Found;
+ghost use mathlib.Core.Path.{_≡_};
+ghost use Prim.Native.Nat.{_≤_};
+ghost use lib.ListN.{length, drop};
+ghost use Rattle.base.specs.Answer.{refused as no};
+ghost use Rattle.plan.specs.Zone.{isOpening, isFollowing, isOrder, slotsNumber, ownNumber, zoneNumber};
+ghost use Rattle.plan.specs.Read.{zoneFound, zoneOf, afterMode, afterCell, zonesOf, readValue, afterSize, planOf, answered};
 
 // One zone: mode, cell and how many slots.
 pub struct Zone {
@@ -36,4 +44,205 @@ pub enum Before {
 pub enum ZoneFound {
     Found { zone: Zone, next: usize },
     Refused(u8),
+}
+
+fn slots_refusal(slots: usize) -> u8
+    ensures { λ r. ⌜ r ≡ slotsNumber slots ⌝ }
+{
+    if slots == 0 {
+        return 13;
+    }
+    if 512 < slots {
+        return 13;
+    }
+    0
+}
+
+// The number of the first of a zone's own questions that is answered no, or 0.
+pub fn own_refusal(size: usize, zone: Zone) -> u8
+    ensures { λ r. ⌜ r ≡ ownNumber size zone ⌝ }
+{
+    if zone.mode == 1 {
+        return 1;
+    }
+    let setup = map::refusal(Setup {
+        mode: zone.mode,
+        size: size,
+        cell: zone.cell,
+    });
+    let slots = slots_refusal(zone.slots);
+    if setup != 0 {
+        return setup;
+    }
+    slots
+}
+
+fn is_opening(size: usize, zone: Zone) -> bool
+    ensures { λ r. ⌜ r ≡ isOpening size zone ⌝ }
+{
+    if size != 2048 {
+        return true;
+    }
+    if zone.mode != 0 {
+        return false;
+    }
+    zone.cell == 0
+}
+
+fn is_following(mode: usize, zone: Zone) -> bool
+    ensures { λ r. ⌜ r ≡ isFollowing mode zone ⌝ }
+{
+    if mode != 3 {
+        return true;
+    }
+    zone.mode == 3
+}
+
+fn is_order(size: usize, prior: Before, zone: Zone) -> bool
+    ensures { λ r. ⌜ r ≡ isOrder prior size zone ⌝ }
+{
+    match prior {
+        Before::First => is_opening(size, zone),
+        Before::After(mode) => is_following(mode, zone),
+    }
+}
+
+// The number of the first question put to a zone in its plan that is answered no, or 0.
+fn zone_refusal(size: usize, prior: Before, zone: Zone) -> u8
+    ensures { λ r. ⌜ r ≡ zoneNumber size prior zone ⌝ }
+{
+    let own = own_refusal(size, zone);
+    if own != 0 {
+        return own;
+    }
+    if is_order(size, prior, zone) {
+        return 0;
+    }
+    14
+}
+
+fn refused(number: u8) -> ReadPlan
+    ensures { λ r. ⌜ r ≡ answered (no number) ⌝ }
+{
+    ReadPlan {
+        refusal: number,
+        plan: Plan {
+            count: 0,
+            size: 0,
+            zones: [Zone {
+                mode: 0,
+                cell: 0,
+                slots: 0,
+            }; 8],
+        },
+    }
+}
+
+// The zone whose first byte stands at a place.
+fn zone_at(bytes: &[u8], at: usize) -> ZoneFound
+    ensures { λ r. ⌜ zoneFound (now (bytes .entry)) r ≡ zoneOf (drop at (now (bytes .entry))) ⌝ }
+{
+    match value::read(bytes, at) {
+        Found::Refused(number) => ZoneFound::Refused(number),
+        Found::Value { value, size } => cell_at(bytes, at + size, value),
+    }
+}
+
+fn cell_at(bytes: &[u8], at: usize, mode: usize) -> ZoneFound
+    ensures { λ r. ⌜ zoneFound (now (bytes .entry)) r ≡ afterMode mode (drop at (now (bytes .entry))) ⌝ }
+{
+    match value::read(bytes, at) {
+        Found::Refused(number) => ZoneFound::Refused(number),
+        Found::Value { value, size } => slots_at(bytes, at + size, mode, value),
+    }
+}
+
+fn slots_at(bytes: &[u8], at: usize, mode: usize, cell: usize) -> ZoneFound
+    ensures { λ r. ⌜ zoneFound (now (bytes .entry)) r ≡ afterCell mode cell (drop at (now (bytes .entry))) ⌝ }
+{
+    match value::read(bytes, at) {
+        Found::Refused(number) => ZoneFound::Refused(number),
+        Found::Value { value, size } => ZoneFound::Found {
+            zone: Zone {
+                mode: mode,
+                cell: cell,
+                slots: value,
+            },
+            next: at + size,
+        },
+    }
+}
+
+// The zones whose first byte stands at a place, to the end of the bytes.
+fn zones_at(bytes: &[u8], at: usize, count: usize, size: usize) -> ReadPlan
+    requires { ⌜ count ≤ 8 ⌝ }
+    ensures { λ r. ⌜ r ≡ answered (zonesOf count size (drop at (now (bytes .entry)))) ⌝ }
+{
+    let mut zones = [Zone {
+        mode: 0,
+        cell: 0,
+        slots: 0,
+    }; 8];
+    let mut prior = Before::First;
+    let mut next = at;
+    let mut k = 0;
+    while k < count {
+        match zone_at(bytes, next) {
+            ZoneFound::Refused(number) => return refused(number),
+            ZoneFound::Found { zone, next: after } => {
+                let number = zone_refusal(size, prior, zone);
+                if number != 0 {
+                    return refused(number);
+                }
+                zones[k] = zone;
+                prior = Before::After(zone.mode);
+                next = after;
+                k += 1;
+            }
+        }
+    }
+    if next < bytes.len() {
+        return refused(15);
+    }
+    ReadPlan {
+        refusal: 0,
+        plan: Plan {
+            count: count,
+            size: size,
+            zones: zones,
+        },
+    }
+}
+
+fn size_at(bytes: &[u8], at: usize, count: usize) -> ReadPlan
+    requires { ⌜ count ≤ 8 ⌝ }
+    ensures { λ r. ⌜ r ≡ answered (readValue (drop at (now (bytes .entry))) (afterSize count)) ⌝ }
+{
+    match value::read(bytes, at) {
+        Found::Refused(number) => refused(number),
+        Found::Value { value, size } => {
+            if !map::is_four_sizes(value) {
+                return refused(2);
+            }
+            zones_at(bytes, at + size, count, value)
+        }
+    }
+}
+
+// The plan that the bytes are, or the first refusal.
+pub fn read(bytes: &[u8]) -> ReadPlan
+    ensures { λ r. ⌜ r ≡ answered (planOf (now (bytes .entry))) ⌝ }
+{
+    match value::read(bytes, 0) {
+        Found::Refused(number) => refused(number),
+        Found::Value { value, size } => {
+            if value == 0 {
+                return refused(12);
+            }
+            if 8 < value {
+                return refused(12);
+            }
+            size_at(bytes, size, value)
+        }
+    }
 }

@@ -5,7 +5,7 @@ use mathlib.Core.List.{List, [], _∷_, _++_}
 use Prim.Native.Nat.{ℕ, zero, suc, _+_, _*_, _/_, _%_, _<_, _≤_}
 use native.Mathlib.Omega.{arith}
 use lib.Dec.{ltb}
-use lib.ListN.{length, take, drop, getD}
+use lib.ListN.{length, take, drop, getD, length-drop, drop-of-length-le}
 use lib.Seq.{drop-at, length-take-le}
 use borrow.Author.Tests.{ltb-true, ltb-false, lt-ltb, le-ltb}
 use Rattle.base.specs.Answer.{Answer, accepted, refused, ask}
@@ -102,6 +102,28 @@ followed a (accepted w) e =
     let yes′ = ask-yes (ltb 0 (w .value)) 11 (accepted (record { value = a % 128 + 128 * w .value; size = suc (w .size) })) e in
     record { further = w; rest-is = refl; worth = ltb-true 0 (w .value) (yes′ .0); value-is = sym (same-accepted (yes′ .1)) }
 followed a (refused k) e = absurd (let z : _≡_ {A = ℕ} 0 1 = cc in omega arith)
+
+-- A value that was read lies within the bytes.
+size-within : (g : ℕ) (s : List ℕ) {v : Value} → valueIn g s ≡ accepted v → v .size ≤ length s
+unfolding valueIn
+size-within zero s e = absurd (let z : _≡_ {A = ℕ} 0 1 = cc in omega arith)
+size-within (suc g) [] e = absurd (let z : _≡_ {A = ℕ} 0 1 = cc in omega arith)
+size-within (suc g) (a ∷ s) {v} e =
+    cases (ltb a 128)
+    (λ l. let q = same-accepted (sym (last g a s (ltb-true a 128 l)) ∙ e) in rw (← q) (omega arith))
+    (λ m. let f = followed a (valueIn g s) (sym (follow g a s (ltb-false a 128 m)) ∙ e) in
+    let h = size-within g s (f .rest-is) in
+    rw (f .value-is) (omega arith))
+
+pub within : (s : List ℕ) (at : ℕ) {v : Value} → valueOf (drop at s) ≡ accepted v → at + v .size ≤ length s
+unfolding valueIn
+within s at e =
+    cases (ltb at (length s))
+    (λ l. omega (arith, ltb-true at (length s) l, rw length-drop at (size-within 3 (drop at s) e)))
+    (λ m. absurd (none (rw (drop-of-length-le s (ltb-false at (length s) m)) at e)))
+  where
+    none : {w : Value} → valueOf [] ≡ accepted w → ⊥
+    none q = let z : _≡_ {A = ℕ} 0 1 = cc in omega arith
 
 more-byte : (g a x : ℕ) → a < 256 → 128 ≤ a → 0 < x → encodeIn (suc g) (a % 128 + 128 * x) ≡ a ∷ encodeIn g x
 unfolding encodeIn
