@@ -1,26 +1,29 @@
 -- The questions put to zones, and what a yes to all of them says. Assumes nothing.
 use mathlib.Core.Path.{_≡_, refl, _∙_}
-use mathlib.Core.Bool.{Bool, true, false}
+use mathlib.Core.Bool.{true}
 use mathlib.Core.List.{List, [], _∷_}
-use Prim.Native.Nat.{ℕ, _*_, _/_, _<_, _≤_}
+use Prim.Native.Nat.{ℕ, zero, suc, _*_, _/_, _<_, _≤_}
 use native.Mathlib.Nat.{mul-le-mul}
 use native.Mathlib.Omega.{arith}
 use lib.Dec.{eqb, ltb, leb}
+use lib.ListN.{length, drop, getD}
+use lib.Seq.{getD-take, length-take-le}
 use borrow.Author.Tests.{eqb-true, ltb-true, leb-true}
-use Rattle.base.specs.Choice.{pick}
 use Rattle.base.specs.Answer.{Answer, accepted, ask}
 use Rattle.base.proofs.Chain.{ask-yes}
 use Rattle.base.proofs.Test.{cases}
 use Rattle.map.specs.declared.Setup.{Setup}
 use Rattle.map.specs.Mode.{cells, width}
-use Rattle.map.specs.Question.{isSize, isCell}
+use Rattle.map.specs.Question.{isFourSizes, isSize, isCell}
 use Rattle.map.proofs.Accept.{size-most}
 use Rattle.plan.specs.declared.Zone.{Zone}
+use Rattle.plan.specs.declared.Plan.{Plan}
 use Rattle.plan.specs.declared.Before.{Before}
 use Rattle.plan.specs.declared.Before.the-variants.{First, After}
-use Rattle.plan.specs.Zone.{isZoneMode, setupOf, isSlots, isOrder, askZone}
-use Rattle.plan.specs.Write.{askZones}
+use Rattle.plan.specs.Zone.{isCount, isZoneMode, setupOf, isSlots, isOrder, askZone, unused}
+use Rattle.plan.specs.Write.{areUnused, usedZones, askZones, askPlan, planNumber, Small}
 use Rattle.plan.proofs.Places.{both-true}
+use Rattle.plan.proofs.Number.{yes-all, plan-by}
 
 -- a zone that every question lets pass
 pub record Passed (size : ℕ) (before : Before) (z : Zone) : Type 0 where
@@ -62,11 +65,6 @@ zones-pass rest none = refl
 zones-pass rest (then {before = before} {z = z} {zones = zones} p j) = zone-passes _ before z (askZones _ (After (z .mode)) zones rest) p ∙ zones-pass rest j
 
 -- the values of such a zone are small
-pub record Small (z : Zone) : Type 0 where
-  pub mode-most : z .mode < 2097152
-  pub cell-most : z .cell < 2097152
-  pub slots-most : z .slots < 2097152
-
 mode-small : (m : ℕ) → isZoneMode m ≡ true → m < 4
 unfolding isZoneMode
 mode-small m e =
@@ -100,3 +98,46 @@ small {size} {before} {z} p =
       cell-most = omega (arith, ltb-true (z .cell) (cells (setupOf size z)) (p .cell-is), cells-small (setupOf size z) (size-most (setupOf size z) (p .size-is)));
       slots-most = omega (arith, leb-true (z .slots) 512 (s .1));
     }
+
+zones-small : {size : ℕ} {before : Before} (zones : List Zone) (k : ℕ) → Judged size before zones → k < length zones → Small (getD zones k unused)
+zones-small [] k none h = absurd (omega arith)
+zones-small (z ∷ zones) zero (then p j) h = small p
+zones-small (z ∷ zones) (suc k) (then p j) h = zones-small zones k j (omega arith)
+
+-- a plan that every question lets pass
+pub record Fit (p : Plan) : Type 0 where
+  pub count-is : isCount (p .count) ≡ true
+  pub unused-are : areUnused (drop (p .count) (p .zones)) ≡ true
+  pub size-is : isFourSizes (p .size) ≡ true
+  pub judged : Judged (p .size) First (usedZones p)
+
+pub plan-yes : {A : Type 0} (p : Plan) (rest : Answer A) {a : A} → askPlan p rest ≡ accepted a → Fit p × (rest ≡ accepted a)
+plan-yes p rest e =
+    let e₁ = ask-yes (isCount (p .count)) 12 (ask (areUnused (drop (p .count) (p .zones))) 12 (ask (isFourSizes (p .size)) 2 (askZones (p .size) First (usedZones p) rest))) e in
+    let e₂ = ask-yes (areUnused (drop (p .count) (p .zones))) 12 (ask (isFourSizes (p .size)) 2 (askZones (p .size) First (usedZones p) rest)) (e₁ .1) in
+    let e₃ = ask-yes (isFourSizes (p .size)) 2 (askZones (p .size) First (usedZones p) rest) (e₂ .1) in
+    let e₄ = zones-yes (p .size) First (usedZones p) rest (e₃ .1) in
+    (record { count-is = e₁ .0; unused-are = e₂ .0; size-is = e₃ .0; judged = e₄ .0 }, e₄ .1)
+
+pub plan-passes : {A : Type 0} {p : Plan} (rest : Answer A) → Fit p → askPlan p rest ≡ rest
+plan-passes rest f = rw (f .count-is, f .unused-are, f .size-is) (zones-pass rest (f .judged))
+
+pub count-most : (n : ℕ) → isCount n ≡ true → n ≤ 8
+unfolding isCount
+count-most n e = leb-true n 8 (both-true (ltb 0 n) (leb n 8) e .1)
+
+pub size-small : (size : ℕ) → isFourSizes size ≡ true → size ≤ 2048
+unfolding isSize
+size-small z e = size-most (record { mode = 2; size = z; cell = 0 }) e
+
+-- a plan whose number is 0 is such a plan, and its zones' values are small
+pub fit-of : (p : Plan) → planNumber p ≡ 0 → Fit p
+fit-of p e =
+    let end : Answer (Unit {0}) = accepted tt in
+    plan-yes p end {a = tt} (plan-by p end ∙ yes-all (planNumber p) end e) .0
+
+pub used-small : (p : Plan) (k : ℕ) → Fit p → length (p .zones) ≡ 8 → k < p .count → Small (getD (p .zones) k unused)
+used-small p k f e h =
+    let most = count-most (p .count) (f .count-is) in
+    rw (getD-take (p .count) (p .zones) k unused h) at
+    (zones-small (usedZones p) k (f .judged) (rw (length-take-le (p .count) (p .zones) (omega arith)) h))

@@ -2,17 +2,22 @@
 use mathlib.Core.Path.{_≡_, refl, sym, ap, _∙_}
 use mathlib.Core.Bool.{Bool, true, false}
 use mathlib.Core.List.{List, [], _∷_}
-use Prim.Native.Nat.{ℕ, zero, suc, _<_, _≤_}
+use Prim.Native.Nat.{ℕ, zero, suc, _+_, _<_, _≤_}
 use native.Mathlib.Omega.{arith}
 use lib.Dec.{eqb, ltb}
-use borrow.Author.Tests.{eq-eqb, ne-eqb, eqb-true, lt-ltb, le-ltb, le-leb, lt-leb}
+use lib.ListN.{length, take, drop, getD}
+use borrow.Author.Tests.{eq-eqb, ne-eqb, lt-ltb, le-ltb, le-leb, lt-leb}
 use Rattle.base.specs.Choice.{pick}
 use Rattle.base.specs.Answer.{Answer, accepted, refused, ask, number}
 use Rattle.base.proofs.Test.{cases}
-use Rattle.map.specs.Question.{isMode, isSize, isCell, setupNumber}
+use Rattle.map.specs.Question.{isMode, isFourSizes, isSize, isCell, setupNumber}
 use Rattle.plan.specs.declared.Zone.{Zone}
+use Rattle.plan.specs.declared.Plan.{Plan}
 use Rattle.plan.specs.declared.Before.{Before}
-use Rattle.plan.specs.Zone.{isCount, isZoneMode, setupOf, isSlots, isOrder, askOwn, askZone, slotsNumber, ownNumber, zoneNumber}
+use Rattle.plan.specs.declared.Before.the-variants.{First, After}
+use Rattle.plan.specs.Zone.{isCount, isZoneMode, setupOf, isSlots, isOrder, askZone, slotsNumber, ownNumber, zoneNumber, unused}
+use Rattle.plan.specs.Write.{areUnused, usedZones, askZones, askPlan, zonesNumber, planNumber}
+use Rattle.plan.proofs.Places.{used-next, used-none}
 
 -- what a chain of this number gives, before the rest
 abbrev pub numbered : {A : Type 0} → ℕ → Answer A → Answer A
@@ -24,6 +29,10 @@ module _ {A : Type 0} (n : ℕ) (rest : Answer A) where
 
   pub no-first : (n ≡ 0 → ⊥) → numbered n rest ≡ refused n
   no-first h = rw (ne-eqb n 0 h)
+
+-- one chain after another
+twice : {A : Type 0} (n m : ℕ) (rest : Answer A) → numbered n (numbered m rest) ≡ numbered (pick (eqb n 0) m n) rest
+twice n m rest = cases (eqb n 0) (λ e. rw e) (λ e. rw (e, e))
 
 -- slots
 module _ (slots : ℕ) where
@@ -118,3 +127,62 @@ module _ (size : ℕ) (before : Before) (z : Zone) where
 
     pub zone-order : r ≡ 0 → (b : Bool) → b ≡ isOrder before size z → pick b 0 14 ≡ zoneNumber size before z
     zone-order h b q = rw (own-first, ← e, eq-eqb r 0 h, q)
+
+-- the zones one after the other
+pub zones-cons : (size : ℕ) (before : Before) (z : Zone) (zones : List Zone) → zonesNumber size before (z ∷ zones) ≡ pick (eqb (zoneNumber size before z) 0) (zonesNumber size (After (z .mode)) zones) (zoneNumber size before z)
+unfolding zonesNumber askZones
+zones-cons size before z zones = ap number (zone-by size before z (askZones size (After (z .mode)) zones (accepted tt))) ∙ through (eqb (zoneNumber size before z) 0)
+  where
+    through : (b : Bool) → number (pick b (askZones {A = Unit {0}} size (After (z .mode)) zones (accepted tt)) (refused (zoneNumber size before z))) ≡ pick b (number (askZones {A = Unit {0}} size (After (z .mode)) zones (accepted tt))) (zoneNumber size before z)
+    through true = refl
+    through false = refl
+
+module _ (size : ℕ) (before : Before) (zones : List Zone) (count k n : ℕ) (h : k < count) (m : count ≤ length zones) (e : n ≡ zoneNumber size before (getD zones k unused)) where
+  pub zones-no : (n ≡ 0 → ⊥) → n ≡ zonesNumber size before (drop k (take count zones))
+  zones-no f = rw (used-next zones count k h m, zones-cons, ← e, ne-eqb n 0 f)
+
+  pub zones-next : n ≡ 0 → zonesNumber size (After (getD zones k unused .mode)) (drop (k + 1) (take count zones)) ≡ zonesNumber size before (drop k (take count zones))
+  zones-next z = rw (used-next zones count k h m, zones-cons, ← e, eq-eqb n 0 z)
+
+pub zones-end : (size : ℕ) (before : Before) (zones : List Zone) (count k : ℕ) → count ≤ k → count ≤ length zones → 0 ≡ zonesNumber size before (drop k (take count zones))
+unfolding zonesNumber askZones
+zones-end size before zones count k h m = rw (used-none zones count k h m)
+
+pub zones-by : {A : Type 0} (size : ℕ) (before : Before) (zones : List Zone) (rest : Answer A) → askZones size before zones rest ≡ numbered (zonesNumber size before zones) rest
+unfolding zonesNumber askZones
+zones-by size before [] rest = refl
+zones-by size before (z ∷ zones) rest =
+    zone-by size before z (askZones size (After (z .mode)) zones rest)
+    ∙ ap (numbered (zoneNumber size before z)) (zones-by size (After (z .mode)) zones rest)
+    ∙ twice (zoneNumber size before z) (zonesNumber size (After (z .mode)) zones) rest
+    ∙ ap (λ n. numbered n rest) (sym (zones-cons size before z zones))
+
+-- the plan
+pub plan-by : {A : Type 0} (p : Plan) (rest : Answer A) → askPlan p rest ≡ numbered (planNumber p) rest
+unfolding planNumber zonesNumber
+plan-by p rest = three (isCount (p .count)) (areUnused (drop (p .count) (p .zones))) (isFourSizes (p .size))
+  where
+    three : (a b d : Bool) → ask a 12 (ask b 12 (ask d 2 (askZones (p .size) First (usedZones p) rest))) ≡ numbered (number (ask a 12 (ask b 12 (ask d 2 (askZones {A = Unit {0}} (p .size) First (usedZones p) (accepted tt)))))) rest
+    three false b d = refl
+    three true false d = refl
+    three true true false = refl
+    three true true true = zones-by (p .size) First (usedZones p) rest
+
+module _ (p : Plan) where
+  pub plan-count : isCount (p .count) ≡ false → 12 ≡ planNumber p
+  unfolding planNumber
+  plan-count e = rw e
+
+  module _ (c : isCount (p .count) ≡ true) where
+    pub plan-places : areUnused (drop (p .count) (p .zones)) ≡ false → 12 ≡ planNumber p
+    unfolding planNumber
+    plan-places e = rw (c, e)
+
+    module _ (u : areUnused (drop (p .count) (p .zones)) ≡ true) where
+      pub plan-size : isFourSizes (p .size) ≡ false → 2 ≡ planNumber p
+      unfolding planNumber
+      plan-size e = rw (c, u, e)
+
+      pub plan-zones : isFourSizes (p .size) ≡ true → zonesNumber (p .size) First (usedZones p) ≡ planNumber p
+      unfolding planNumber zonesNumber
+      plan-zones e = rw (c, u, e)

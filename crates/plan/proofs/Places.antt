@@ -1,23 +1,31 @@
 -- The laws of a plan's places. Assumes nothing.
-use mathlib.Core.Path.{_≡_, refl, ap, ap₂}
+use mathlib.Core.Path.{_≡_, refl, sym, ap, ap₂, _∙_}
 use mathlib.Core.Bool.{Bool, true, false}
-use mathlib.Core.List.{List, [], _∷_, _++_}
-use Prim.Native.Nat.{ℕ, zero, suc, _<_, _≤_}
+use mathlib.Core.List.{List, [], _∷_, _++_, map}
+use Prim.Native.Nat.{ℕ, zero, suc, _+_, _<_, _≤_}
 use native.Mathlib.Omega.{arith}
 use lib.Dec.{eqb}
-use lib.ListN.{length, take, drop, set}
+use native.Mathlib.Numerals.{add-one}
+use lib.ListN.{length, take, drop, getD, set, length-map, drop-of-length-le}
+use lib.Seq.{drop-cons, getD-take, length-take-le}
 use borrow.Author.Tests.{eqb-true}
 use Rattle.base.specs.Choice.{pick}
 use Rattle.plan.specs.declared.Zone.{Zone}
 use Rattle.plan.specs.Zone.{unused, inPlaces}
 use Rattle.plan.specs.Write.{isUnused, areUnused}
 
--- so many places there are
-pub length-places : (n : ℕ) (zones : List Zone) → length (inPlaces n zones) ≡ n
-unfolding inPlaces
-length-places zero zones = refl
-length-places (suc n) [] = ap suc (length-places n [])
-length-places (suc n) (z ∷ zones) = ap suc (length-places n zones)
+-- what owning an array of structs tells of its length
+pub length-mapped : (X Y : Type 0) (f : X → Y) (l : List X) (n : ℕ) → length (map f l) ≡ n → length l ≡ n
+length-mapped X Y f l n e = sym (length-map l f) ∙ e
+
+-- the used places from the k-th on
+pub used-next : (zones : List Zone) (count k : ℕ) → k < count → count ≤ length zones → drop k (take count zones) ≡ getD zones k unused ∷ drop (k + 1) (take count zones)
+used-next zones count k h m =
+    rw (add-one, ← getD-take count zones k unused h)
+    (drop-cons (take count zones) k unused (rw (length-take-le count zones m) h))
+
+pub used-none : (zones : List Zone) (count k : ℕ) → count ≤ k → count ≤ length zones → drop k (take count zones) ≡ []
+used-none zones count k h m = drop-of-length-le (take count zones) {i = k} (rw (length-take-le count zones m) h)
 
 -- a zone more, put into the first unused place
 pub set-places : (n : ℕ) (zones : List Zone) (z : Zone) → length zones < n → set (inPlaces n zones) (length zones) z ≡ inPlaces n (zones ++ z ∷ [])
@@ -51,6 +59,24 @@ unused-is z e =
     let h = both-true (eqb (z .mode) 0) (pick (eqb (z .cell) 0) (eqb (z .slots) 0) false) e in
     let k = both-true (eqb (z .cell) 0) (eqb (z .slots) 0) (h .1) in
     rw (eqb-true (z .mode) 0 (h .0), eqb-true (z .cell) 0 (k .0), eqb-true (z .slots) 0 (k .1))
+
+-- the places from the k-th on are unused where the k-th is, and those after it
+module _ (zones : List Zone) (k : ℕ) (e : length zones ≡ 8) where
+  module _ (h : k < 8) where
+    next : drop k zones ≡ getD zones k unused ∷ drop (k + 1) zones
+    next = rw add-one (drop-cons zones k unused (omega arith))
+
+    pub unused-next : isUnused (getD zones k unused) ≡ true → areUnused (drop (k + 1) zones) ≡ areUnused (drop k zones)
+    unfolding areUnused
+    unused-next f = rw (next, f)
+
+    pub unused-no : isUnused (getD zones k unused) ≡ false → areUnused (drop k zones) ≡ false
+    unfolding areUnused
+    unused-no f = rw (next, f)
+
+  pub unused-end : 8 ≤ k → areUnused (drop k zones) ≡ true
+  unfolding areUnused
+  unused-end h = rw (drop-of-length-le zones {i = k} (omega arith))
 
 -- places of which those past the k-th are unused hold just the zones before it
 pub places-of : (n k : ℕ) (zones : List Zone) → length zones ≡ n → areUnused (drop k zones) ≡ true → inPlaces n (take k zones) ≡ zones

@@ -1,6 +1,6 @@
 -- The plans that document 01 names, and others that show which question comes first. Assumes nothing.
 use mathlib.Core.Path.{_≡_, refl}
-use mathlib.Core.List.{List, [], _∷_}
+use mathlib.Core.List.{[], _∷_}
 use Prim.Native.Nat.{ℕ}
 use Rattle.base.specs.Answer.{accepted, refused}
 use Rattle.map.specs.Question.{isSize, isCell, isFourSizes}

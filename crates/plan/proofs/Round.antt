@@ -1,28 +1,27 @@
 -- Reading and writing undo each other. Assumes nothing.
 use mathlib.Core.Path.{_≡_, refl, sym, ap, _∙_, subst}
-use mathlib.Core.Bool.{Bool, true, false}
+use mathlib.Core.Bool.{true}
 use mathlib.Core.List.{List, [], _∷_, _++_, append-assoc, append-nil}
 use Prim.Native.Nat.{ℕ, zero, suc, _+_, _<_, _≤_}
 use native.Mathlib.Omega.{arith}
-use lib.Dec.{eqb, ltb, leb}
-use lib.ListN.{length, take, drop, getD, length-append, length-drop}
+use lib.Dec.{eqb, leb}
+use lib.ListN.{length, take, drop}
 use lib.Seq.{drop-append-seam, take-append-seam, getD-drop, length-take-le}
-use borrow.Author.Tests.{eqb-true, leb-true, le-leb}
+use borrow.Author.Tests.{eqb-true, le-leb}
 use Rattle.base.specs.Answer.{Answer, accepted, refused, ask}
 use Rattle.base.proofs.Chain.{ask-yes, same-accepted}
-use Rattle.map.specs.Question.{isFourSizes, isSize}
-use Rattle.map.proofs.Accept.{size-most}
+use Rattle.map.specs.Question.{isFourSizes}
 use Rattle.value.specs.Value.{Value, valueOf, encode}
 use Rattle.value.proofs.Laws.{Bytes, read-written, same}
 use Rattle.plan.specs.declared.Zone.{Zone}
 use Rattle.plan.specs.declared.Plan.{Plan}
 use Rattle.plan.specs.declared.Before.{Before}
 use Rattle.plan.specs.declared.Before.the-variants.{First, After}
-use Rattle.plan.specs.Zone.{askZone, isCount, inPlaces}
+use Rattle.plan.specs.Zone.{askZone, isCount}
 use Rattle.plan.specs.Read.{handOn, readValue, Taken, afterCell, afterMode, zoneOf, handZone, readZone, readZones, planWith, finish, zonesOf, afterSize, afterCount, planOf}
-use Rattle.plan.specs.Write.{areUnused, usedZones, askZones, askPlan, zoneBytes, zonesBytes, planBytes, Outcome, over, laid, writeOf}
-use Rattle.plan.proofs.Places.{both-true, take-places, drop-places, places-of}
-use Rattle.plan.proofs.Judge.{Passed, zone-yes, zone-passes, Judged, none, then, zones-yes, zones-pass, Small, small}
+use Rattle.plan.specs.Write.{Small, usedZones, askPlan, zoneBytes, zonesBytes, planBytes, Outcome, over, laid, writeOf}
+use Rattle.plan.proofs.Places.{take-places, drop-places, places-of}
+use Rattle.plan.proofs.Judge.{Passed, zone-yes, zone-passes, Judged, none, then, small, Fit, plan-yes, plan-passes, count-most, size-small}
 
 -- From bytes to a value and back.
 record Value-of {A : Type 0} (s : List ℕ) (rest : ℕ → List ℕ → Answer A) (a : A) : Type 0 where
@@ -126,32 +125,10 @@ of-zones {size = size} s rest (then {before = before} {z = z} {zones = zones} p 
     ∙ zone-passes size before z _ p
     ∙ of-zones s (λ zones₁ s₁. rest (z ∷ zones₁) s₁) j)
 
--- a plan that every question lets pass
-pub record Fit (p : Plan) : Type 0 where
-  pub count-is : isCount (p .count) ≡ true
-  pub unused-are : areUnused (drop (p .count) (p .zones)) ≡ true
-  pub size-is : isFourSizes (p .size) ≡ true
-  pub judged : Judged (p .size) First (usedZones p)
-
-pub plan-yes : {A : Type 0} (p : Plan) (rest : Answer A) {a : A} → askPlan p rest ≡ accepted a → Fit p × (rest ≡ accepted a)
-plan-yes p rest e =
-    let e₁ = ask-yes (isCount (p .count)) 12 (ask (areUnused (drop (p .count) (p .zones))) 12 (ask (isFourSizes (p .size)) 2 (askZones (p .size) First (usedZones p) rest))) e in
-    let e₂ = ask-yes (areUnused (drop (p .count) (p .zones))) 12 (ask (isFourSizes (p .size)) 2 (askZones (p .size) First (usedZones p) rest)) (e₁ .1) in
-    let e₃ = ask-yes (isFourSizes (p .size)) 2 (askZones (p .size) First (usedZones p) rest) (e₂ .1) in
-    let e₄ = zones-yes (p .size) First (usedZones p) rest (e₃ .1) in
-    (record { count-is = e₁ .0; unused-are = e₂ .0; size-is = e₃ .0; judged = e₄ .0 }, e₄ .1)
-
-pub plan-passes : {A : Type 0} {p : Plan} (rest : Answer A) → Fit p → askPlan p rest ≡ rest
-plan-passes rest f = rw (f .count-is, f .unused-are, f .size-is) (zones-pass rest (f .judged))
-
 -- A plan that was read is fit, and its bytes are those that were read.
 record Plan-of (s : List ℕ) (p : Plan) : Type 0 where
   fit : Fit p
   bytes : planBytes p ≡ s
-
-count-most : (n : ℕ) → isCount n ≡ true → n ≤ 8
-unfolding isCount
-count-most n e = leb-true n 8 (both-true (ltb 0 n) (leb n 8) e .1)
 
 made : (size : ℕ) (zones : List Zone) → isCount (length zones) ≡ true → isFourSizes size ≡ true → Judged size First zones → Plan-of (encode (length zones) ++ (encode size ++ zonesBytes zones)) (planWith (length zones) size zones)
 unfolding planBytes
@@ -194,10 +171,6 @@ plan-of s b e =
     rw (c .bytes) at (after-count (c .value) (c .after) (c .after-bytes) (c .go-on))
 
 -- A fit plan's bytes are read as that plan.
-size-small : (size : ℕ) → isFourSizes size ≡ true → size ≤ 2048
-unfolding isSize
-size-small z e = size-most (record { mode = 2; size = z; cell = 0 }) e
-
 all-zones : {A : Type 0} {size n : ℕ} {zones : List Zone} (rest : List Zone → List ℕ → Answer A) → length zones ≡ n → Judged size First zones → readZones n size First (zonesBytes zones) rest ≡ rest zones []
 all-zones {size = size} {zones = zones} rest e j =
     ap (λ k. readZones k size First (zonesBytes zones) rest) (sym e)

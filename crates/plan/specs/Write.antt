@@ -1,7 +1,7 @@
 -- Writing a plan. Document 01: writing puts 12, 2, for each zone in turn 1, 2, 3, 13, 14, then 16.
 use mathlib.Core.Bool.{Bool, true, false}
 use mathlib.Core.List.{List, [], _∷_, _++_}
-use Prim.Native.Nat.{ℕ}
+use Prim.Native.Nat.{ℕ, _<_}
 use lib.Dec.{eqb, leb}
 use lib.ListN.{length, take, drop}
 use Rattle.base.specs.Choice.{pick}
@@ -46,6 +46,12 @@ zonesNumber size before zones = number (askZones {A = Unit {0}} size before zone
 unfoldable pub planNumber : Plan → ℕ
 planNumber p = number (askPlan {A = Unit {0}} p (accepted tt))
 
+-- a zone whose three values can be written
+pub record Small (z : Zone) : Type 0 where
+  pub mode-most : z .mode < 2097152
+  pub cell-most : z .cell < 2097152
+  pub slots-most : z .slots < 2097152
+
 -- count of zones, size, then mode, cell and slots of each
 unfoldable pub zoneBytes : Zone → List ℕ
 zoneBytes zone = encode (zone .mode) ++ (encode (zone .cell) ++ encode (zone .slots))
@@ -75,7 +81,7 @@ laid (refused k) d = record { answer = refused k; dest = d }
 unfoldable pub writeOf : Plan → List ℕ → Outcome
 writeOf p d = laid (askPlan p (ask (leb (length (planBytes p)) (length d)) 16 (accepted (planBytes p)))) d
 
--- what an answer of `write` says
-abbrev pub written : Written → Answer ℕ
-written (Bytes n) = accepted n
-written (Refused k) = refused k
+-- what an answer of `write` says, with the destination that it leaves
+abbrev pub outcome : Written → List ℕ → Outcome
+outcome (Bytes n) d = record { answer = accepted n; dest = d }
+outcome (Refused k) d = record { answer = refused k; dest = d }

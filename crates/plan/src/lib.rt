@@ -2,10 +2,12 @@
 use map::Setup;
 use value::Found;
 ghost use mathlib.Core.Path.{_≡_};
-ghost use Prim.Native.Nat.{_≤_};
+ghost use Prim.Native.Nat.{_+_, _≤_};
 ghost use lib.ListN.{length, drop};
+ghost use Rattle.value.specs.Value.{Put};
 ghost use Rattle.base.specs.Answer.{refused as no};
 ghost use Rattle.plan.specs.Zone.{isOpening, isFollowing, isOrder, slotsNumber, ownNumber, zoneNumber};
+ghost use Rattle.plan.specs.Write.{isUnused, areUnused, usedZones, zonesNumber, planNumber, Small, zoneBytes, planBytes, outcome, writeOf};
 ghost use Rattle.plan.specs.Read.{zoneFound, zoneOf, afterMode, afterCell, zonesOf, readValue, afterSize, planOf, answered};
 
 // One zone: mode, cell and how many slots.
@@ -245,4 +247,138 @@ pub fn read(bytes: &[u8]) -> ReadPlan
             size_at(bytes, size, value)
         }
     }
+}
+
+fn is_unused(zone: Zone) -> bool
+    ensures { λ r. ⌜ r ≡ isUnused zone ⌝ }
+{
+    if zone.mode != 0 {
+        return false;
+    }
+    if zone.cell != 0 {
+        return false;
+    }
+    zone.slots == 0
+}
+
+// Is every place from the count on unused?
+fn are_unused(plan: Plan) -> bool
+    ensures { λ r. ⌜ r ≡ areUnused (drop (plan .count) (plan .zones)) ⌝ }
+{
+    let count = plan.count;
+    let zones = plan.zones;
+    let mut k = count;
+    while k < 8 {
+        if !is_unused(zones[k]) {
+            return false;
+        }
+        k += 1;
+    }
+    true
+}
+
+// The number of the first question that a zone of the plan answers no, or 0.
+fn zones_refusal(plan: Plan) -> u8
+    requires { ⌜ plan .count ≤ 8 ⌝ }
+    ensures { λ r. ⌜ r ≡ zonesNumber (plan .size) Before.First (usedZones plan) ⌝ }
+{
+    let count = plan.count;
+    let size = plan.size;
+    let zones = plan.zones;
+    let mut prior = Before::First;
+    let mut k = 0;
+    while k < count {
+        let zone = zones[k];
+        let number = zone_refusal(size, prior, zone);
+        if number != 0 {
+            return number;
+        }
+        prior = Before::After(zone.mode);
+        k += 1;
+    }
+    0
+}
+
+// The number of the first of a plan's questions that is answered no, or 0.
+fn plan_refusal(plan: Plan) -> u8
+    ensures { λ r. ⌜ r ≡ planNumber plan ⌝ }
+{
+    if plan.count == 0 {
+        return 12;
+    }
+    if 8 < plan.count {
+        return 12;
+    }
+    if !are_unused(plan) {
+        return 12;
+    }
+    if !map::is_four_sizes(plan.size) {
+        return 2;
+    }
+    zones_refusal(plan)
+}
+
+// How many bytes a zone takes.
+fn zone_size(zone: Zone) -> usize
+    requires { ⌜ Small zone ⌝ }
+    ensures { λ r. ⌜ r ≡ length (zoneBytes zone) ⌝ }
+{
+    value::size(zone.mode) + (value::size(zone.cell) + value::size(zone.slots))
+}
+
+// How many bytes an accepted plan takes.
+fn plan_size(plan: Plan) -> usize
+    requires { ⌜ planNumber plan ≡ 0 ⌝ }
+    ensures { λ r. ⌜ r ≡ length (planBytes plan) ⌝ }
+{
+    let count = plan.count;
+    let zones = plan.zones;
+    let mut n = value::size(count) + value::size(plan.size);
+    let mut k = 0;
+    while k < count {
+        n += zone_size(zones[k]);
+        k += 1;
+    }
+    n
+}
+
+// Puts a zone at a place where it fits; answers the place after it.
+fn put_zone(dest: &mut [u8], at: usize, zone: Zone) -> usize
+    requires { ⌜ Small zone × (at + length (zoneBytes zone) ≤ length (now dest)) ⌝ }
+    ensures { λ r. ⌜ Put (now (dest .entry)) at (zoneBytes zone) r (now (dest .exit)) ⌝ }
+{
+    let cell = value::write(dest, at, zone.mode);
+    let slots = value::write(dest, cell, zone.cell);
+    value::write(dest, slots, zone.slots)
+}
+
+// Puts an accepted plan where it fits; answers how many bytes it takes.
+fn put_plan(dest: &mut [u8], plan: Plan) -> usize
+    requires { ⌜ (planNumber plan ≡ 0) × (length (planBytes plan) ≤ length (now dest)) ⌝ }
+    ensures { λ r. ⌜ Put (now (dest .entry)) 0 (planBytes plan) r (now (dest .exit)) ⌝ }
+{
+    let used = plan.count;
+    let zones = plan.zones;
+    let size = value::write(dest, 0, used);
+    let mut at = value::write(dest, size, plan.size);
+    let mut k = 0;
+    while k < used {
+        at = put_zone(dest, at, zones[k]);
+        k += 1;
+    }
+    at
+}
+
+// Writes a plan at the destination's start: how many bytes, or the first refusal.
+pub fn write(plan: Plan, dest: &mut [u8]) -> Written
+    ensures { λ r. ⌜ outcome r (now (dest .exit)) ≡ writeOf plan (now (dest .entry)) ⌝ }
+{
+    let number = plan_refusal(plan);
+    if number != 0 {
+        return Written::Refused(number);
+    }
+    if dest.len() < plan_size(plan) {
+        return Written::Refused(16);
+    }
+    Written::Bytes(put_plan(dest, plan))
 }

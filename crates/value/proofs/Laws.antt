@@ -1,17 +1,16 @@
 -- The laws of the values of a plan file. Assumes nothing.
 use mathlib.Core.Path.{_≡_, refl, sym, ap, _∙_}
-use mathlib.Core.Bool.{true, false}
-use mathlib.Core.List.{List, [], _∷_, _++_}
+use mathlib.Core.List.{List, [], _∷_, _++_, append-assoc}
 use Prim.Native.Nat.{ℕ, zero, suc, _+_, _*_, _/_, _%_, _<_, _≤_}
 use native.Mathlib.Omega.{arith}
 use lib.Dec.{ltb}
-use lib.ListN.{length, take, drop, getD, length-drop, drop-of-length-le}
-use lib.Seq.{drop-at, length-take-le}
+use lib.ListN.{length, take, drop, getD, length-append, length-drop, drop-of-length-le}
+use lib.Seq.{take-at, drop-at, drop-drop, length-take-le}
 use borrow.Author.Tests.{ltb-true, ltb-false, lt-ltb, le-ltb}
-use Rattle.base.specs.Answer.{Answer, accepted, refused, ask}
+use Rattle.base.specs.Answer.{Answer, accepted, refused}
 use Rattle.base.proofs.Chain.{ask-yes, same-accepted}
 use Rattle.base.proofs.Test.{cases}
-use Rattle.value.specs.Value.{Value, more, valueIn, valueOf, encodeIn, encode, putAt}
+use Rattle.value.specs.Value.{Value, more, valueIn, valueOf, encodeIn, encode, putAt, Put}
 
 -- A first byte that is the last one, and one that more follow, whose further groups are worth something or nothing.
 module _ (g a : ℕ) (s : List ℕ) where
@@ -80,6 +79,43 @@ module _ (x : ℕ) where
 
   pub size-3 : 16384 ≤ x → x < 2097152 → 3 ≡ length (encode x)
   size-3 m h = rw (encode-3 x m h)
+
+most : (g x : ℕ) → length (encodeIn g x) ≤ g
+unfolding encodeIn
+most zero x = omega arith
+most (suc g) x = cases (ltb x 128) (λ e. rw e (omega arith)) (λ e. let h = most g (x / 128) in rw e (omega arith))
+
+pub size-most : (x : ℕ) → length (encode x) ≤ 3
+size-most x = most 3 x
+
+-- Bytes put after those that were put before are put with them.
+pub put-put : (d : List ℕ) (at : ℕ) (a b : List ℕ) → at + length a ≤ length d → putAt (putAt d at a) (at + length a) b ≡ putAt d at (a ++ b)
+put-put d at a b h =
+    rw (← append-assoc (take at d) a (drop (at + length a) d), take-at (take at d ++ a) (drop (at + length a) d) (at + length a) front, ← drop-drop (length b) (at + length a), drop-at (take at d ++ a) (drop (at + length a) d) (at + length a) front, drop-drop, length-append, ← total)
+    (simp append-assoc)
+  where
+    total : at + length a + length b ≡ at + (length a + length b)
+    total = omega arith
+
+    front : length (take at d ++ a) ≡ at + length a
+    front = length-append (take at d) a ∙ ap (λ n. n + length a) (length-take-le at d (omega arith))
+
+pub put-next : {d d₁ d₂ : List ℕ} {at q r : ℕ} (a b : List ℕ) → at + length a ≤ length d → Put d at a q d₁ → Put d₁ q b r d₂ → Put d at (a ++ b) r d₂
+put-next {d} {at = at} a b h p q =
+    record {
+      next-is = rw length-append (omega (arith, p .next-is, q .next-is));
+      after-is = rw (q .after-is, p .after-is, p .next-is) (put-put d at a b h);
+    }
+
+pub put-three : {d d₁ d₂ d₃ : List ℕ} {at p q r : ℕ} (a b c : List ℕ) → at + length (a ++ (b ++ c)) ≤ length d → Put d at a p d₁ → Put d₁ p b q d₂ → Put d₂ q c r d₃ → Put d at (a ++ (b ++ c)) r d₃
+put-three a b c h x y z =
+    let l = length-append a (b ++ c) in
+    let m = length-append b c in
+    rw (← append-assoc a b c)
+    (put-next (a ++ b) c (rw length-append (omega arith)) (put-next a b (omega arith) x y) z)
+
+pub put-length : (d : List ℕ) (at : ℕ) (bytes : List ℕ) → at + length bytes ≤ length d → length (putAt d at bytes) ≡ length d
+put-length d at bytes h = rw (length-append, length-append, length-take-le at d (omega arith), length-drop) (omega arith)
 
 -- bytes are numbers below 256
 abbrev pub Bytes : List ℕ → Type 0

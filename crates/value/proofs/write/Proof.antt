@@ -1,6 +1,6 @@
 -- `value::write` meets its contract: the stores put the value's bytes. Assumes nothing.
-use mathlib.Core.Path.{_≡_, refl, _∙_, ap}
-use mathlib.Core.List.{List, [], _∷_, _++_, append-assoc}
+use mathlib.Core.Path.{_≡_, refl, _∙_}
+use mathlib.Core.List.{List, [], _∷_, append-assoc}
 use Prim.Native.Nat.{ℕ, suc, _+_, _/_, _%_, _<_, _≤_}
 use native.Mathlib.Omega.{arith}
 use native.Mathlib.Numerals.{add-one}
@@ -10,7 +10,7 @@ use borrow.Author.Needs.{needs}
 use lib.Dec.{ltb}
 use borrow.Author.Tests.{le-ltb}
 use Rattle.base.proofs.Test.{cases}
-use Rattle.value.specs.Value.{encodeIn, encode, putAt}
+use Rattle.value.specs.Value.{encodeIn, encode, putAt, Put}
 use Rattle.value.proofs.Laws.{encode-1, encode-2, encode-3}
 use Rattle.value.proofs.write.Statement.{statement}
 use Rattle.value.proofs.write.Tie as tie
@@ -32,8 +32,8 @@ longer g x m = rw (le-ltb x 128 m)
 
 module _ (d : List ℕ) (at x : ℕ) (fits : at + length (encode x) ≤ length d) where
   -- the value's bytes, their number, and so room for each
-  written : (bytes : List ℕ) → encode x ≡ bytes → (at + length bytes ≡ at + length (encode x)) × (sets d at bytes ≡ putAt d at (encode x))
-  written bytes e = rw e (refl, stored bytes d at (rw e at fits))
+  written : (bytes : List ℕ) → encode x ≡ bytes → Put d at (encode x) (at + length bytes) (sets d at bytes)
+  written bytes e = rw e (record { next-is = refl; after-is = stored bytes d at (rw e at fits) })
 
   room-1 : at < length d
   room-1 = omega (arith, nonempty 2 x)
@@ -44,13 +44,13 @@ module _ (d : List ℕ) (at x : ℕ) (fits : at + length (encode x) ≤ length d
   room-3 : 16384 ≤ x → at + 2 < length d
   room-3 m = omega (arith, longer 2 x (omega arith), longer 1 (x / 128) (omega arith), nonempty 0 (x / 128 / 128))
 
-  put-1 : x < 128 → (at + 1 ≡ at + length (encode x)) × (set d at x ≡ putAt d at (encode x))
+  put-1 : x < 128 → Put d at (encode x) (at + 1) (set d at x)
   put-1 h = written (x ∷ []) (encode-1 x h)
 
-  put-2 : 128 ≤ x → x < 16384 → (at + 2 ≡ at + length (encode x)) × (set (set d at (x % 128 + 128)) (at + 1) (x / 128) ≡ putAt d at (encode x))
+  put-2 : 128 ≤ x → x < 16384 → Put d at (encode x) (at + 2) (set (set d at (x % 128 + 128)) (at + 1) (x / 128))
   put-2 m h = rw add-one (written ((x % 128 + 128) ∷ x / 128 ∷ []) (encode-2 x m h))
 
-  put-3 : 16384 ≤ x → x < 2097152 → (at + 3 ≡ at + length (encode x)) × (set (set (set d at (x % 128 + 128)) (at + 1) (x / 128 % 128 + 128)) (at + 2) (x / 16384) ≡ putAt d at (encode x))
+  put-3 : 16384 ≤ x → x < 2097152 → Put d at (encode x) (at + 3) (set (set (set d at (x % 128 + 128)) (at + 1) (x / 128 % 128 + 128)) (at + 2) (x / 16384))
   put-3 m h = rw (add-one, add-two at) (written ((x % 128 + 128) ∷ (x / 128 % 128 + 128) ∷ x / 16384 ∷ []) (encode-3 x m h))
 
 cast-dest : tie.Need-cast-dest
