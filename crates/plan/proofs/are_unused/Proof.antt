@@ -18,23 +18,11 @@ abbrev μ-loop : tie.MeasureT-loop
 loop-holds : tie.Need-loop-holds Inv-loop μ-loop
 loop-holds c = (search (length-mapped, needs) depth 8, refl)
 
-mul-is-unused : tie.Need-mul-is-unused Inv-loop μ-loop
-mul-is-unused c = search needs
-
-array-copy-out-is-unused : tie.Need-array-copy-out-is-unused Inv-loop μ-loop
-array-copy-out-is-unused c = search needs
-
 returns : tie.Need-returns Inv-loop μ-loop
 returns c =
     let inv = c .before .before .before .before .loop .inv in
     let used = sym (c .before .is-unused .ensures) ∙ not-true _ (c .if1 .taken) in
     sym (unused-no _ _ (inv .0) (c .before .before .before .loop-test .taken) used) ∙ inv .1
-
-add-k : tie.Need-add-k Inv-loop μ-loop
-add-k c = search needs
-
-loop-less : tie.Need-loop-less Inv-loop μ-loop
-loop-less c = search needs
 
 loop-again : tie.Need-loop-again Inv-loop μ-loop
 loop-again c =
@@ -50,4 +38,4 @@ returns-2 c =
 pub are-unused-spec : {M : Type 1} → statement M
 are-unused-spec =
     tie.close
-    (tie.spec Inv-loop μ-loop loop-holds mul-is-unused array-copy-out-is-unused (λ c κs. search needs) returns add-k loop-less loop-again returns-2)
+    (tie.spec Inv-loop μ-loop loop-holds (λ c. search needs) (λ c. search needs) (λ c κs. search needs) returns (λ c. search needs) (λ c. search needs) loop-again returns-2)

@@ -34,12 +34,6 @@ loop-holds c =
     let p = c .before .before .before .args .plan in
     (search (length-mapped, needs) depth 8, count-most _ (fit-of _ (c .before .before .before .pre) .count-is), omega arith, omega (arith, c .size2 .ensures, c .before .size .ensures, size-most (p .count), size-most (p .size)), omega (arith, ap length (no-zones (p .zones))))
 
-mul-zone-size : tie.Need-mul-zone-size Inv-loop μ-loop
-mul-zone-size c = search needs
-
-array-copy-out-zone-size : tie.Need-array-copy-out-zone-size Inv-loop μ-loop
-array-copy-out-zone-size c = search needs
-
 zone-size-requires : tie.Need-zone-size-requires Inv-loop μ-loop
 zone-size-requires c κs = used-small _ _ (fit-of _ (c .before .before .before .before .before .before .pre)) (c .before .before .loop .inv .0) (c .before .loop-test .taken)
 
@@ -49,12 +43,6 @@ add-n-2 c =
     let k = c .before .before .before .loop .k in
     let zones = c .before .before .before .before .before .before .before .args .plan .zones in
     omega (arith, c .zone-size .ensures, zones-longer zones k (omega arith), zones-bound zones (k + 1) (omega arith))
-
-add-k : tie.Need-add-k Inv-loop μ-loop
-add-k c = search needs
-
-loop-less : tie.Need-loop-less Inv-loop μ-loop
-loop-less c = search needs
 
 loop-again : tie.Need-loop-again Inv-loop μ-loop
 loop-again c =
@@ -73,4 +61,4 @@ returns c =
 pub plan-size-spec : {M : Type 1} → statement M
 plan-size-spec =
     tie.close
-    (tie.spec Inv-loop μ-loop size-requires size-requires-2 add-n loop-holds mul-zone-size array-copy-out-zone-size zone-size-requires add-n-2 add-k loop-less loop-again returns)
+    (tie.spec Inv-loop μ-loop size-requires size-requires-2 add-n loop-holds (λ c. search needs) (λ c. search needs) zone-size-requires add-n-2 (λ c. search needs) (λ c. search needs) loop-again returns)

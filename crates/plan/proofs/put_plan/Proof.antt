@@ -38,23 +38,11 @@ loop-holds c =
     let w₂ = c .before .before .write2 in
     put-begin _ _ _ _ (search (length-mapped, needs) depth 8) (count-most _ (fit-of p (start .pre .0) .count-is)) (omega (arith, plan-length p, w₁ .ensures .next-is, w₁ .kept .0, w₂ .ensures .next-is, w₂ .kept .0))
 
-mul-put-zone : tie.Need-mul-put-zone Inv-loop μ-loop
-mul-put-zone c = search needs
-
-array-copy-out-put-zone : tie.Need-array-copy-out-put-zone Inv-loop μ-loop
-array-copy-out-put-zone c = search needs
-
 put-zone-requires : tie.Need-put-zone-requires Inv-loop μ-loop
 put-zone-requires c κs =
     let start = c .before .before .before .before .before .before .before .before .before .before .before .before .before .before in
     let inv = c .before .before .before .loop .inv in
     (used-small (start .args .plan) _ (fit-of _ (start .pre .0)) (inv .places) (c .before .before .loop-test .taken), room-next inv (c .before .before .loop-test .taken))
-
-add-k : tie.Need-add-k Inv-loop μ-loop
-add-k c = search needs
-
-loop-less : tie.Need-loop-less Inv-loop μ-loop
-loop-less c = search needs
 
 loop-again : tie.Need-loop-again Inv-loop μ-loop
 loop-again c = put-again (c .before .before .before .before .before .before .loop .inv) (c .before .before .before .before .before .loop-test .taken) (c .before .before .put-zone .ensures)
@@ -72,4 +60,4 @@ returns c =
 pub put-plan-spec : {M : Type 1} → statement M
 put-plan-spec =
     tie.close
-    (tie.spec Inv-loop μ-loop write-requires write-requires-2 loop-holds mul-put-zone array-copy-out-put-zone put-zone-requires add-k loop-less loop-again same-length returns)
+    (tie.spec Inv-loop μ-loop write-requires write-requires-2 loop-holds (λ c. search needs) (λ c. search needs) put-zone-requires (λ c. search needs) (λ c. search needs) loop-again same-length returns)

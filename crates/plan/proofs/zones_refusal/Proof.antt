@@ -20,22 +20,10 @@ abbrev μ-loop : tie.MeasureT-loop
 loop-holds : tie.Need-loop-holds Inv-loop μ-loop
 loop-holds c = (search (length-mapped, needs) depth 8, c .before .pre, refl)
 
-mul-zone : tie.Need-mul-zone Inv-loop μ-loop
-mul-zone c = search needs
-
-array-copy-out-zone : tie.Need-array-copy-out-zone Inv-loop μ-loop
-array-copy-out-zone c = search needs
-
 returns : tie.Need-returns Inv-loop μ-loop
 returns c =
     let inv = c .before .before .before .before .loop .inv in
     zones-no _ _ _ _ _ _ (c .before .before .before .loop-test .taken) (omega (arith, inv .0, inv .1)) (c .before .zone-refusal .ensures) (c .if1 .taken) ∙ inv .2
-
-add-k : tie.Need-add-k Inv-loop μ-loop
-add-k c = search needs
-
-loop-less : tie.Need-loop-less Inv-loop μ-loop
-loop-less c = search needs
 
 loop-again : tie.Need-loop-again Inv-loop μ-loop
 loop-again c =
@@ -50,4 +38,4 @@ returns-2 c =
 pub zones-refusal-spec : {M : Type 1} → statement M
 zones-refusal-spec =
     tie.close
-    (tie.spec Inv-loop μ-loop loop-holds mul-zone array-copy-out-zone (λ c κs. search needs) returns add-k loop-less loop-again returns-2)
+    (tie.spec Inv-loop μ-loop loop-holds (λ c. search needs) (λ c. search needs) (λ c κs. search needs) returns (λ c. search needs) (λ c. search needs) loop-again returns-2)

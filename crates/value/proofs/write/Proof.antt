@@ -3,7 +3,7 @@ use mathlib.Core.Path.{_≡_, refl, _∙_}
 use mathlib.Core.List.{List, [], _∷_, append-assoc}
 use Prim.Native.Nat.{ℕ, suc, _+_, _/_, _%_, _<_, _≤_}
 use native.Mathlib.Omega.{arith}
-use native.Mathlib.Numerals.{add-one}
+use native.Mathlib.Numerals.{add-one, add-two}
 use lib.ListN.{length, drop, take, set}
 use lib.Seq.{sets, sets-eq}
 use borrow.Author.Needs.{needs}
@@ -18,9 +18,6 @@ use Rattle.value.proofs.write.Tie as tie
 -- a run of stores puts the bytes
 stored : (bytes d : List ℕ) (at : ℕ) → at + length bytes ≤ length d → sets d at bytes ≡ putAt d at bytes
 stored bytes d at h = sets-eq bytes d at h ∙ append-assoc (take at d) bytes (drop (at + length bytes) d)
-
-add-two : (n : ℕ) → n + 2 ≡ suc (suc n)
-add-two n = omega arith
 
 nonempty : (g x : ℕ) → 0 < length (encodeIn (suc g) x)
 unfolding encodeIn
@@ -51,76 +48,28 @@ module _ (d : List ℕ) (at x : ℕ) (fits : at + length (encode x) ≤ length d
   put-2 m h = rw add-one (written ((x % 128 + 128) ∷ x / 128 ∷ []) (encode-2 x m h))
 
   put-3 : 16384 ≤ x → x < 2097152 → Put d at (encode x) (at + 3) (set (set (set d at (x % 128 + 128)) (at + 1) (x / 128 % 128 + 128)) (at + 2) (x / 16384))
-  put-3 m h = rw (add-one, add-two at) (written ((x % 128 + 128) ∷ (x / 128 % 128 + 128) ∷ x / 16384 ∷ []) (encode-3 x m h))
-
-cast-dest : tie.Need-cast-dest
-cast-dest c = search needs
+  put-3 m h = rw (add-one, add-two) (written ((x % 128 + 128) ∷ (x / 128 % 128 + 128) ∷ x / 16384 ∷ []) (encode-3 x m h))
 
 slice-write-dest : tie.Need-slice-write-dest
 slice-write-dest c = search (room-1, needs)
 
-add-result : tie.Need-add-result
-add-result c = search needs
-
-same-length : tie.Need-same-length
-same-length c = search needs
-
 returns : tie.Need-returns
 returns c = put-1 (c .before .args .dest .now) (c .before .args .at) (c .before .args .x) (c .before .pre .1) (c .if1 .taken)
-
-add-dest : tie.Need-add-dest
-add-dest c = search needs
-
-cast-dest-2 : tie.Need-cast-dest-2
-cast-dest-2 c = search needs
 
 slice-write-dest-2 : tie.Need-slice-write-dest-2
 slice-write-dest-2 c = search (room-1, needs)
 
-cast-dest-3 : tie.Need-cast-dest-3
-cast-dest-3 c = search needs
-
-add-dest-2 : tie.Need-add-dest-2
-add-dest-2 c = search needs
-
 slice-write-dest-3 : tie.Need-slice-write-dest-3
 slice-write-dest-3 c = search (room-2, needs)
-
-add-result-2 : tie.Need-add-result-2
-add-result-2 c = search needs
-
-same-length-2 : tie.Need-same-length-2
-same-length-2 c = search needs
 
 returns-2 : tie.Need-returns-2
 returns-2 c = put-2 (c .before .before .args .dest .now) (c .before .before .args .at) (c .before .before .args .x) (c .before .before .pre .1) (c .before .if1 .left) (c .if2 .taken)
 
-add-dest-3 : tie.Need-add-dest-3
-add-dest-3 c = search needs
-
-cast-dest-4 : tie.Need-cast-dest-4
-cast-dest-4 c = search needs
-
-add-dest-4 : tie.Need-add-dest-4
-add-dest-4 c = search needs
-
 slice-write-dest-4 : tie.Need-slice-write-dest-4
 slice-write-dest-4 c = search (room-2, needs)
 
-cast-dest-5 : tie.Need-cast-dest-5
-cast-dest-5 c = search needs
-
-add-dest-5 : tie.Need-add-dest-5
-add-dest-5 c = search needs
-
 slice-write-dest-5 : tie.Need-slice-write-dest-5
 slice-write-dest-5 c = search (room-3, needs)
-
-add-result-3 : tie.Need-add-result-3
-add-result-3 c = search needs
-
-same-length-3 : tie.Need-same-length-3
-same-length-3 c = search needs
 
 returns-3 : tie.Need-returns-3
 returns-3 c = put-3 (c .before .before .args .dest .now) (c .before .before .args .at) (c .before .before .args .x) (c .before .before .pre .1) (c .if2 .left) (c .before .before .pre .0)
@@ -129,27 +78,27 @@ pub write-spec : {M : Type 1} → statement M
 write-spec =
     tie.close
     (tie.spec
-    cast-dest
+    (λ c. search needs)
     slice-write-dest
-    add-result
-    same-length
+    (λ c. search needs)
+    (λ c. search needs)
     returns
-    add-dest
-    cast-dest-2
+    (λ c. search needs)
+    (λ c. search needs)
     slice-write-dest-2
-    cast-dest-3
-    add-dest-2
+    (λ c. search needs)
+    (λ c. search needs)
     slice-write-dest-3
-    add-result-2
-    same-length-2
+    (λ c. search needs)
+    (λ c. search needs)
     returns-2
-    add-dest-3
-    cast-dest-4
-    add-dest-4
+    (λ c. search needs)
+    (λ c. search needs)
+    (λ c. search needs)
     slice-write-dest-4
-    cast-dest-5
-    add-dest-5
+    (λ c. search needs)
+    (λ c. search needs)
     slice-write-dest-5
-    add-result-3
-    same-length-3
+    (λ c. search needs)
+    (λ c. search needs)
     returns-3)
