@@ -1,9 +1,10 @@
 -- The sequence P against its rule: document 004's list holds the powers of 22, they are the 48 elements other than zero, and `positions` says where each stands. Each a test computed over the whole table. Assumes nothing.
-use mathlib.Core.Path.{_≡_, subst}
-use Prim.Native.Nat.{ℕ, _+_, _-_, _/_, _%_, _<_}
+use mathlib.Core.Path.{_≡_, refl, subst}
+use Prim.Native.Nat.{ℕ, _*_, _+_, _-_, _/_, _%_, _<_}
 use native.Mathlib.Omega.{arith}
 use lib.Dec.{eqb, ltb, eqb→eq, ltb→lt}
 use Rattle.base.specs.Steps.{entry}
+use Rattle.base.specs.Tabulate.{tabulate}
 use Rattle.base.proofs.Table.{all-at}
 use Rattle.amc.specs.declared.Element.{Element}
 use Rattle.amc.specs.Table.{sequenceDigits, positions}
@@ -13,6 +14,11 @@ use Rattle.amc.proofs.Digit.{same-number, number-lt}
 -- an entry as document 004 prints it, two digits
 abbrev pub printed : ℕ → Element
 printed i = element (entry sequenceDigits i / 10) (entry sequenceDigits i % 10)
+
+-- document 004's list is the powers of 22, and no more
+pub printed-list : sequenceDigits ≡ tabulate 48 (λ i. sequence i .high * 10 + sequence i .low)
+unfolding tabulate times sequence
+printed-list = refl
 
 -- what is tested at entry i: document 004's digits are those of the power of 22, proper and not zero, and its position is i
 pub record Power (i : ℕ) : Type 0 where

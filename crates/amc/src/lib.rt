@@ -174,10 +174,12 @@ fn off(cell: usize) -> Element
 }
 
 // The sum of an entry of P and off, or off itself where that sum is zero.
-fn zero_rule(o: Element, sum: Element) -> Element
-    requires { ⌜ Proper sum ⌝ }
-    ensures { λ r. ⌜ r ≡ zeroRule o sum ⌝ }
+fn zero_rule(o: Element, p: Element) -> Element
+    requires { ⌜ Proper o ⌝ }
+    requires { ⌜ Proper p ⌝ }
+    ensures { λ r. ⌜ r ≡ zeroRule o (Add p o) ⌝ }
 {
+    let sum = add(p, o);
     if number(sum) == 0 { o } else { sum }
 }
 
@@ -196,8 +198,8 @@ pub fn traffic(cell: usize, j: usize) -> usize
     ensures { λ r. ⌜ r ≡ Traffic cell j ⌝ }
 {
     let o = off(cell);
-    let sum = add(sequence((j + cell % 48) % 48), o);
-    number(zero_rule(o, sum)) - 1
+    let p = sequence((j + cell % 48) % 48);
+    number(zero_rule(o, p)) - 1
 }
 
 fn index(cell: usize, v: usize) -> usize

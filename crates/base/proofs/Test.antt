@@ -1,6 +1,6 @@
 -- Tests that are computed, and facts from them. Assumes nothing.
 use mathlib.Core.Path.{_≡_, refl}
-use mathlib.Core.Bool.{Bool, true, false}
+use mathlib.Core.Bool.{Bool, true, false, not}
 use lib.Dec.{T}
 
 abbrev pub both : Bool → Bool → Bool
@@ -19,3 +19,7 @@ both-right false b t = absurd t
 pub cases : {A : Type 0} (b : Bool) → (b ≡ true → A) → (b ≡ false → A) → A
 cases true f g = f refl
 cases false f g = g refl
+
+pub failed : (b : Bool) → T (not b) → b ≡ false
+failed true t = absurd t
+failed false t = refl

@@ -1,19 +1,27 @@
 // The steps that the permutations are made of.
 ghost use mathlib.Core.Path.{_≡_};
-ghost use Prim.Native.Nat.{_<_};
-ghost use Rattle.base.specs.Steps.{skip as Skip, unskip as Unskip, unrotate as Unrotate};
+ghost use Prim.Native.Nat.{_+_, _≤_, _<_};
+ghost use Rattle.base.specs.Steps.{rotate as Rotate, unrotate as Unrotate, skip as Skip, unskip as Unskip};
 
 // An entry of a table, as a number to count with.
 pub fn wide(x: u8) -> usize
-    ensures { λ r. ⌜ r ≡ x ⌝ }
+    ensures { λ r. ⌜ (r ≡ x) × (r < 256) ⌝ }
 {
     x as usize
+}
+
+// x moved on by c, modulo n.
+pub fn rotate(n: usize, c: usize, x: usize) -> usize
+    requires { ⌜ (0 < n) × (c < 65536) × (x < 65536) ⌝ }
+    ensures { λ r. ⌜ (r ≡ Rotate n c x) × (r < n) ⌝ }
+{
+    (x + c) % n
 }
 
 // y moved back by c, modulo n.
 pub fn unrotate(n: usize, c: usize, y: usize) -> usize
     requires { ⌜ (0 < n) × (n < 65536) × (y < 65536) ⌝ }
-    ensures { λ r. ⌜ r ≡ Unrotate n c y ⌝ }
+    ensures { λ r. ⌜ (r ≡ Unrotate n c y) × (r < n) ⌝ }
 {
     (y + (n - c % n)) % n
 }
@@ -21,14 +29,14 @@ pub fn unrotate(n: usize, c: usize, y: usize) -> usize
 // The place of the number r when the place p is left out.
 pub fn skip(p: usize, r: usize) -> usize
     requires { ⌜ r < 65536 ⌝ }
-    ensures { λ x. ⌜ x ≡ Skip p r ⌝ }
+    ensures { λ x. ⌜ (x ≡ Skip p r) × (x ≤ r + 1) ⌝ }
 {
     if r < p { r } else { r + 1 }
 }
 
 // The number of a place other than p.
 pub fn unskip(p: usize, place: usize) -> usize
-    ensures { λ x. ⌜ x ≡ Unskip p place ⌝ }
+    ensures { λ x. ⌜ (x ≡ Unskip p place) × (x ≤ place) ⌝ }
 {
     if place <= p { place } else { place - 1 }
 }

@@ -1,20 +1,37 @@
+-- The known points hold: each by computing both sides; in line 10 all that is asked of the cell is that it is below 32. Assumes nothing.
 use mathlib.Core.Path.{refl}
+use Prim.Native.Nat.{ℕ, _<_}
+use borrow.Author.Tests.{lt-ltb}
 use Rattle.base.specs.Steps.{skip, unskip}
+use Rattle.base.specs.Tabulate.{tabulate}
 use Rattle.map.specs.Place.{placeOf, locateOf, placeAt, contentOf, pointAt}
-use Rattle.known.specs.Table.{Known}
-use Rattle.map.specs.Mode as m
-use Rattle.map.specs.Question as q
-use Rattle.carriers.specs.Band as b
-use Rattle.carriers.specs.Bin as n
+use Rattle.known.specs.Table.{Known, AnyCell}
+use Rattle.carriers.specs.Band as band
+use Rattle.carriers.specs.Bin as bin
 use Rattle.pusc_dl.specs.Map as dl
-use Rattle.pusc_dl.specs.Group as dg
-use Rattle.pusc_dl.specs.Cluster as dc
+use Rattle.pusc_dl.specs.Group as group
+use Rattle.pusc_dl.specs.Cluster as cluster
 use Rattle.pusc_ul.specs.Map as ul
-use Rattle.pusc_ul.specs.Tile as ut
-use Rattle.ofusc.specs.Map as of
-use Rattle.ofusc.specs.Field as ff
-use Rattle.amc.specs.Map as am
+use Rattle.pusc_ul.specs.Tile as tile
+use Rattle.ofusc.specs.Map as ofusc
+use Rattle.ofusc.specs.Field as field
+use Rattle.map.specs.Mode as mode
+use Rattle.map.specs.Question as question
+
+any-cell : (cell : ℕ) → cell < 32 → AnyCell cell
+unfolding skip unskip locateOf contentOf pointAt mode.cells mode.symbols mode.band mode.isPilot question.isMode question.isSize question.isCell question.isSymbol question.isCarrier band.usedOf band.isGuard band.isDc cluster.isClusterPilot cluster.firstPilot cluster.secondPilot
+any-cell cell h =
+    let e = lt-ltb cell 32 h in
+    record { data-in-symbol-0 = rw e; pilot-in-symbol-1 = rw e; guard-below = λ y l. rw (e, lt-ltb y 1024 l); dc-in-the-middle = λ y l. rw (e, lt-ltb y 1024 l) }
 
 pub known : Known
-unfolding placeOf locateOf placeAt contentOf pointAt skip unskip m.width m.cells m.subchannels m.symbols m.band m.isPilot m.spotOf m.addressOf q.isMode q.isFourSizes q.isSize q.isCell q.isSlot q.isSymbol q.isSubchannel q.isIndex q.isCarrier b.carrierOf b.usedOf b.isGuard b.isDc n.binPilotPlace n.isBinPilot n.usedOfData n.dataOfUsed dl.groupUsed dl.spotOf dl.logicalOf dl.usedGroup dl.usedData dl.addressOf dg.groupIn dg.groupSize dg.baseOf dg.baseInverse dg.groupData dg.groupSubchannel dg.groupIndex dc.renumber dc.unrenumber dc.firstPilot dc.secondPilot dc.isClusterPilot dc.clusterPlace dc.clusterData ul.spotOf ul.addressOf ut.tileOf ut.tileSubchannel ut.isTilePilot ut.placeSymbol ut.placeTile ut.placeCarrier ut.dataPlace of.groupOf of.term of.mask of.dataNumber of.addressOf ff.modulus ff.coefficient ff.product ff.remainder ff.times ff.power ff.p1 ff.p2
-known = record { k1 = refl; k1b = refl; k2 = refl; d1 = refl; d2 = refl; u1 = refl; tiles = refl; a1 = refl; a2 = refl; a3 = refl }
+unfolding tabulate skip placeOf placeAt mode.width mode.cells mode.subchannels mode.symbols mode.band mode.spotOf question.isMode question.isFourSizes question.isSize question.isCell question.isSlot question.isSubchannel question.isIndex band.carrierOf bin.binPilotPlace bin.usedOfData dl.groupUsed dl.spotOf group.groupIn group.groupSize group.baseOf group.groupData cluster.unrenumber cluster.firstPilot cluster.secondPilot cluster.clusterPlace ul.spotOf tile.tileOf tile.placeSymbol tile.placeTile tile.placeCarrier ofusc.groupOf ofusc.term ofusc.mask ofusc.dataNumber field.modulus field.coefficient field.product field.remainder field.times field.power field.p1 field.p2
+known =
+    record {
+      line-1 = (refl, refl);
+      line-2 = refl;
+      line-7 = (refl, refl);
+      line-8 = refl;
+      line-9 = refl;
+      line-10 = any-cell;
+    }

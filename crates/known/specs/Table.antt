@@ -1,25 +1,45 @@
+-- Document 01, "Known points": the starred lines, in its order, as one statement. A line's number is its place among the eleven; those on collisions (3 to 6) and on plans (11) come with their calls.
 use mathlib.Core.Path.{_≡_}
-use mathlib.Core.List.{[], _∷_}
-use Prim.Native.Nat.{ℕ}
-use Rattle.base.specs.Answer.{Answer, accepted}
-use Rattle.map.specs.declared.Setup.{Setup}
-use Rattle.map.specs.Place.{Place, guard, dc, pilot, placeOf, locateOf}
+use mathlib.Core.Bool.{Bool, true, false}
+use mathlib.Core.List.{List, [], _∷_}
+use Prim.Native.Nat.{ℕ, _<_}
+use Rattle.base.specs.Answer.{Answer, accepted, refused}
+use Rattle.base.specs.Tabulate.{tabulate}
 use Rattle.pusc_ul.specs.Tile.{tileOf}
+use Rattle.map.specs.Valid.{setup}
+use Rattle.map.specs.Place.{Place, Content, guard, dc, pilot, point, placeOf, locateOf}
 
-abbrev setup : ℕ → ℕ → ℕ → Setup
-setup m n c = record { mode = m; size = n; cell = c }
-
-abbrev at : ℕ → ℕ → Answer Place
+abbrev pub at : ℕ → ℕ → Answer Place
 at y k = accepted (record { symbol = y; carrier = k })
 
+abbrev pub isPoint : Answer Content → Bool
+isPoint (accepted guard) = false
+isPoint (accepted dc) = false
+isPoint (accepted pilot) = false
+isPoint (accepted (point slot subchannel index)) = true
+isPoint (refused number) = false
+
+-- the tiles of line 9
+abbrev pub tiles : List ℕ
+tiles = 1 ∷ 83 ∷ 166 ∷ 256 ∷ 324 ∷ 380 ∷ []
+
+-- what a carrier holds under any PUSC downlink cell
+pub record AnyCell (cell : ℕ) : Type 0 where
+  pub data-in-symbol-0 : isPoint (locateOf (setup 0 2048 cell) 0 184) ≡ true
+  pub pilot-in-symbol-1 : locateOf (setup 0 2048 cell) 1 184 ≡ accepted pilot
+  pub guard-below : (symbol : ℕ) → symbol < 1024 → locateOf (setup 0 2048 cell) symbol 183 ≡ accepted guard
+  pub dc-in-the-middle : (symbol : ℕ) → symbol < 1024 → locateOf (setup 0 2048 cell) symbol 1024 ≡ accepted dc
+
 pub record Known : Type 0 where
-  pub k1 : placeOf (setup 2 1024 0) 0 3 5 ≡ at 0 553
-  pub k1b : placeOf (setup 2 1024 0) 1 3 5 ≡ at 1 552
-  pub k2 : placeOf (setup 2 1024 17) 0 0 0 ≡ at 0 87
-  pub d1 : placeOf (setup 0 2048 0) 0 1 11 ≡ at 0 1862
-  pub d2 : placeOf (setup 0 2048 0) 0 1 35 ≡ at 1 1861
-  pub u1 : placeOf (setup 1 2048 0) 0 1 0 ≡ at 1 377
-  pub tiles : tileOf 0 5 0 ∷ tileOf 0 5 1 ∷ tileOf 0 5 2 ∷ tileOf 0 5 3 ∷ tileOf 0 5 4 ∷ tileOf 0 5 5 ∷ [] ≡ 1 ∷ 83 ∷ 166 ∷ 256 ∷ 324 ∷ 380 ∷ []
-  pub a1 : locateOf (setup 0 2048 7) 1 184 ≡ accepted pilot
-  pub a2 : locateOf (setup 0 2048 7) 1 183 ≡ accepted guard
-  pub a3 : locateOf (setup 0 2048 7) 1 1024 ≡ accepted dc
+  -- Spread 1024, cell 0, subchannel 3, index 5: carrier 553 in slot 0, 552 in slot 1.
+  pub line-1 : (placeOf (setup 2 1024 0) 0 3 5 ≡ at 0 553) × (placeOf (setup 2 1024 0) 1 3 5 ≡ at 1 552)
+  -- Spread 1024, cell 17, subchannel 0, index 0, slot 0: carrier 87.
+  pub line-2 : placeOf (setup 2 1024 17) 0 0 0 ≡ at 0 87
+  -- Down, cell 0, subchannel 1, slot 0: index 11 on symbol 0 carrier 1862, index 35 on symbol 1 carrier 1861.
+  pub line-7 : (placeOf (setup 0 2048 0) 0 1 11 ≡ at 0 1862) × (placeOf (setup 0 2048 0) 0 1 35 ≡ at 1 1861)
+  -- Up, cell 0, subchannel 1, index 0, slot 0: symbol 1, carrier 377.
+  pub line-8 : placeOf (setup 1 2048 0) 0 1 0 ≡ at 1 377
+  -- Up, cell 0, subchannel 5: tiles 1, 83, 166, 256, 324, 380.
+  pub line-9 : tabulate 6 (tileOf 0 5) ≡ tiles
+  -- Down, any cell, carrier 184: data in symbol 0, pilot in symbol 1; 183 guard, 1024 DC.
+  pub line-10 : (cell : ℕ) → cell < 32 → AnyCell cell

@@ -129,6 +129,19 @@ slot-few v slot n h e =
     let r = symbols-range v in
     mul-le-mul {n₁ = slot} {m₁ = n} {n₂ = 512} {m₂ = 3} (omega arith) (omega arith)
 
+pub size-few : {c : Setup} → Valid c → c .size ≤ 2048
+size-few (pusc-dl h) = omega arith
+size-few (pusc-ul h) = omega arith
+size-few (ofusc w h) = omega (arith, size w .most)
+size-few (amc w h) = omega (arith, size w .most)
+
+pub subchannels-few : {c : Setup} → Valid c → subchannels c ≤ 70
+unfolding subchannels width
+subchannels-few (pusc-dl h) = omega arith
+subchannels-few (pusc-ul h) = omega arith
+subchannels-few (ofusc w h) = omega (arith, size w .most)
+subchannels-few (amc w h) = omega (arith, size w .most)
+
 pub left-few : {c : Setup} → Valid c → band c .left ≤ 184
 unfolding band width
 left-few (pusc-dl h) = omega arith

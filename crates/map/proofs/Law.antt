@@ -20,7 +20,7 @@ use Rattle.map.specs.Question.{askSetup, isMode, isSize, isCell, isSlot,
 use Rattle.map.specs.Place.{Place, Content, point, placeAt, placeOf, pointAt, contentOf, locateOf}
 use Rattle.map.specs.Valid.{Valid}
 use Rattle.map.proofs.Accept.{valid, passes}
-use Rattle.map.proofs.ByMode.{symbols-range}
+use Rattle.map.proofs.ByMode.{symbols-range, size-few, subchannels-few}
 use Rattle.map.proofs.Slot.{LawOf, slot-law, band-law}
 
 -- what an accepted setup is
@@ -73,7 +73,7 @@ locating c y k e =
       content-is = same-accepted (q₇ .1);
     }
 
--- and back: fields in range are accepted
+-- FIELDS IN RANGE ARE ACCEPTED, so what is said below of accepted requests is said of every valid setup.
 pub place-accepts : (c : Setup) (slot s m : ℕ) → Valid c → slot < 512 → s < subchannels c → m < 48
     → placeOf c slot s m ≡ accepted (placeAt c slot (spotOf c slot s m))
 unfolding placeOf isSlot isSubchannel isIndex
@@ -181,10 +181,29 @@ one-address c slot s m slot′ s′ m′ {p} e e′ =
     let h : point slot s m ≡ point slot′ s′ m′ = same-accepted (sym (located-where-placed c slot s m e) ∙ located-where-placed c slot′ s′ m′ e′) in
     ((cc), (cc), (cc))
 
+-- The point lies in a symbol of its own slot.
+pub in-own-slot : (c : Setup) (slot s m : ℕ) {p : Place} → placeOf c slot s m ≡ accepted p → p .symbol / symbols c ≡ slot
+unfolding placeAt
+in-own-slot c slot s m e =
+    let q = placing c slot s m e in
+    ap (λ (t : Place). t .symbol / symbols c) (sym (q .place-is))
+    ∙ digits-div slot (slot-law (q .is-valid) slot .lies s m (q .subchannel-lt) (q .index-lt) .offset-lt)
+
 -- And nothing is left over: a carrier of an accepted symbol that is no guard, not DC and no pilot is the place of a point.
-pub data-elsewhere : (c : Setup) (y k : ℕ) {w : Content} → locateOf c y k ≡ accepted w
+pub every-data-carrier-is-placed : (c : Setup) (y k : ℕ) {w : Content} → locateOf c y k ≡ accepted w
     → isGuard (band c) (c .size) k ≡ false → isDc (band c) k ≡ false → isPilot c y (usedOf (band c) k) ≡ false
     → (slot : ℕ) × (s : ℕ) × (m : ℕ) × (placeOf c slot s m ≡ accepted (record { symbol = y; carrier = k }))
-data-elsewhere c y k e g d np =
+every-data-carrier-is-placed c y k e g d np =
     let q = locating c y k e in
     (y / symbols c, a c (q .is-valid) y k g d np .subchannel, a c (q .is-valid) y k g d np .index, data-placed c (q .is-valid) y k g d np (q .symbol-lt))
+
+-- the numbers of an accepted answer are small
+pub place-small : (c : Setup) (slot s m : ℕ) {p : Place} → placeOf c slot s m ≡ accepted p → (p .symbol < 1536) × (p .carrier < 2048)
+place-small c slot s m e =
+    let q = locating c _ _ (located-where-placed c slot s m e) in
+    omega (arith, q .symbol-lt, q .carrier-below, symbols-range (q .is-valid), size-few (q .is-valid))
+
+pub point-small : (c : Setup) (y k slot s m : ℕ) → locateOf c y k ≡ accepted (point slot s m) → (slot < 512) × (s < 70) × (m < 48)
+point-small c y k slot s m e =
+    let q = placing c slot s m (placed-where-located c y k slot s m e) in
+    omega (arith, q .slot-lt, q .subchannel-lt, q .index-lt, subchannels-few (q .is-valid))

@@ -1,4 +1,4 @@
--- Document 01, "Modes and their ranges": one row of the table a definition, modes 0 to 3 in order.
+-- Document 01, "Modes and their ranges": one column of the table a definition, modes 0 to 3 in order.
 use mathlib.Core.Bool.{Bool}
 use Prim.Native.Nat.{ℕ, _*_, _/_, _%_}
 use lib.Dec.{eqb}
@@ -20,7 +20,7 @@ use Rattle.amc.specs.Map as amc
 abbrev pub byMode : {A : Type 0} → ℕ → A → A → A → A → A
 byMode mode a₀ a₁ a₂ a₃ = pick (eqb mode 0) a₀ (pick (eqb mode 1) a₁ (pick (eqb mode 2) a₂ a₃))
 
--- N: the size is 64N
+-- N, the number of subchannels of modes 2 and 3: the size is 64N
 unfoldable pub width : Setup → ℕ
 width c = c .size / 64
 
@@ -41,7 +41,7 @@ band c = byMode (c .mode) puscBand puscBand (binBand (width c)) (binBand (width 
 unfoldable pub isPilot : Setup → ℕ → ℕ → Bool
 isPilot c y u = byMode (c .mode) (isClusterPilot y u) (isTilePilot (y % 3) u) (isBinPilot y u) (isBinPilot y u)
 
--- where index m of a subchannel lies in a slot, and whose point a used number that is no pilot holds in symbol y of the zone
+-- Where index m of a subchannel lies in a slot (in modes 2 and 3 the slot is the zone's symbol), and whose point a used number that is no pilot holds in symbol y of the zone
 unfoldable pub spotOf : Setup → ℕ → ℕ → ℕ → Spot
 spotOf c slot s m =
     byMode (c .mode)

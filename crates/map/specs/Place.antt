@@ -9,7 +9,7 @@ use Rattle.map.specs.declared.Setup.{Setup}
 use Rattle.map.specs.declared.Placed.{Placed}
 use Rattle.map.specs.declared.Placed.the-variants.{At, Refused}
 use Rattle.map.specs.declared.Located.{Located}
-use Rattle.map.specs.declared.Located.the-variants.{Guard, Dc, Pilot, Data, Refused as Turned}
+use Rattle.map.specs.declared.Located.the-variants.{Guard, Dc, Pilot, Data, Refused as RefusedToLocate}
 use Rattle.map.specs.Mode.{symbols, band, isPilot, spotOf, addressOf}
 use Rattle.map.specs.Question.{askSetup, isSlot, isSymbol, isSubchannel, isIndex, isCarrier}
 
@@ -45,6 +45,7 @@ pub data Content : Type 0 where
 unfoldable pub pointAt : Setup → ℕ → Address → Content
 pointAt c y a = point (y / symbols c) (a .subchannel) (a .index)
 
+-- guard and DC by the carrier, pilot by its used number in symbol y of the zone; else the point that lies there
 unfoldable pub contentOf : Setup → ℕ → ℕ → Content
 contentOf c y carrier =
     let u = usedOf (band c) carrier in
@@ -67,4 +68,4 @@ located Guard = accepted guard
 located Dc = accepted dc
 located Pilot = accepted pilot
 located (Data slot subchannel index) = accepted (point slot subchannel index)
-located (Turned number) = refused number
+located (RefusedToLocate number) = refused number

@@ -11,12 +11,12 @@ modulus n = pick (eqb n 4) 7 (pick (eqb n 8) 11 (pick (eqb n 16) 19 37))
 unfoldable pub coefficient : ℕ → ℕ → ℕ
 coefficient p i = p / 2 ^ i % 2
 
--- the product of two polynomials, from the lowest `terms` coefficients of the second
+-- the product of two polynomials, from the lowest i coefficients of the second
 unfoldable pub product : ℕ → ℕ → ℕ → ℕ
 product zero a b = 0
 product (suc i) a b = bitXor (product i a b) (pick (eqb (coefficient b i) 1) (a * 2 ^ i) 0)
 
--- the remainder of p by the modulus of N, which has degree log N: its multiples by the powers i = steps-1 down to 0 are taken off where p has a coefficient to match
+-- the remainder of p by the modulus of N, which has degree log N: its multiples by 2^(i-1) down to 2^0 are taken off, each where p has the coefficient of its degree
 unfoldable pub remainder : ℕ → ℕ → ℕ → ℕ
 remainder zero n p = p
 remainder (suc i) n p = remainder i n (pick (eqb (p / (n * 2 ^ i) % 2) 1) (bitXor p (modulus n * 2 ^ i)) p)

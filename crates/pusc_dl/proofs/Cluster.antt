@@ -1,5 +1,5 @@
 -- Data numbers and data places of a cluster are the same, one for one, in each of the two symbols of a slot; and logical and physical clusters are. Assumes nothing.
-use mathlib.Core.Path.{_≡_, refl}
+use mathlib.Core.Path.{_≡_}
 use mathlib.Core.Bool.{Bool, true, false, not}
 use Prim.Native.Nat.{ℕ, _*_, _%_, _<_}
 use native.Mathlib.Omega.{arith}
@@ -7,6 +7,7 @@ use lib.Dec.{T, eqb, ltb, eqb→eq, ltb→lt, lit<}
 use Rattle.base.specs.Choice.{pick}
 use Rattle.base.specs.Steps.{skip, unskip, rotate, unrotate, entry}
 use Rattle.base.proofs.Perm.{Perm, rotation, compose}
+use Rattle.base.proofs.Test.{failed}
 use Rattle.base.proofs.Table.{all, all-at}
 use Rattle.pusc_dl.specs.Table.{renumbering, renumberingInverse}
 use Rattle.pusc_dl.specs.Cluster.{isClusterPilot, firstPilot, secondPilot, clusterPlace, clusterData}
@@ -34,10 +35,6 @@ on-place y r hy hr =
       no-pilot = failed _ (at (λ y r. not (isClusterPilot y (clusterPlace y r))) 12 tt y r hy hr);
       back = eqb→eq _ _ (at (λ y r. eqb (clusterData y (clusterPlace y r)) r) 12 tt y r hy hr);
     }
-  where
-    failed : (b : Bool) → T (not b) → b ≡ false
-    failed true t = absurd t
-    failed false t = refl
 
 -- a data place has a data number, which knows it
 pub record OnData (y w : ℕ) : Type 0 where

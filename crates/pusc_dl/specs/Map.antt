@@ -14,7 +14,7 @@ groupUsed cell y g d =
     let logical : Logical = record { 0 = entry clusterStarts g + d / 12 } in
     unrenumber cell logical .0 * 14 + clusterPlace y (d % 12)
 
--- Indices 0..23 are on the first symbol, 24..47 on the second.
+-- Indices 0..23 are on the first symbol, 24..47 on the second. (The offset in the slot has the parity of the symbol's number in the zone.)
 unfoldable pub spotOf : ℕ → ℕ → ℕ → Spot
 spotOf cell subchannel index =
     let g = groupIn subchannelStarts subchannel in

@@ -1,4 +1,9 @@
 // PUSC downlink: clusters, their renumbering, major groups and the inner permutation.
+use base::rotate;
+use base::skip;
+use base::unrotate;
+use base::unskip;
+use base::wide;
 use carriers::Address;
 use carriers::Spot;
 ghost use mathlib.Core.Path.{_≡_};
@@ -6,7 +11,7 @@ ghost use mathlib.Core.Bool.{false};
 ghost use Prim.Native.Nat.{_+_, _*_, _<_, _≤_};
 ghost use lib.Dec.{eqb};
 ghost use Rattle.base.specs.Choice.{pick};
-ghost use Rattle.base.specs.Steps.{entry, rotate, unrotate, skip, unskip};
+ghost use Rattle.base.specs.Steps.{entry};
 ghost use Rattle.pusc_dl.specs.Cluster as cluster;
 ghost use Rattle.pusc_dl.specs.Cluster.{firstPilot, secondPilot, isClusterPilot, clusterPlace, clusterData};
 ghost use Rattle.pusc_dl.specs.Group.{groupIn, groupSize, groupData, groupSubchannel, groupIndex};
@@ -278,34 +283,12 @@ const CLUSTER_STARTS: [usize; 6] = [0, 24, 40, 64, 80, 104];
 
 const SUBCHANNEL_STARTS: [usize; 6] = [0, 12, 20, 32, 40, 52];
 
-// An entry of a table, as a number.
-fn wide(x: u8) -> usize
-    ensures { λ r. ⌜ (r ≡ x) × (r < 256) ⌝ }
-{
-    x as usize
-}
-
-// x moved on by c modulo n, and y moved back.
-fn turn(n: usize, c: usize, x: usize) -> usize
-    requires { ⌜ (0 < n) × (c < 512) × (x < 256) ⌝ }
-    ensures { λ r. ⌜ (r ≡ rotate n c x) × (r < n) ⌝ }
-{
-    (x + c) % n
-}
-
-fn turn_back(n: usize, c: usize, y: usize) -> usize
-    requires { ⌜ (0 < n) × (n < 256) × (y < 256) ⌝ }
-    ensures { λ r. ⌜ (r ≡ unrotate n c y) × (r < n) ⌝ }
-{
-    (y + (n - c % n)) % n
-}
-
 // The only passage between the two numbers of a cluster.
 fn renumber(cell: usize, p: Physical) -> Logical
     requires { ⌜ (cell < 32) × (p .0 < 120) ⌝ }
     ensures { λ r. ⌜ (r ≡ cluster.renumber cell p) × (r .0 < 120) ⌝ }
 {
-    let i = turn(120, 13 * cell, p.0);
+    let i = rotate(120, 13 * cell, p.0);
     Logical(wide(RENUMBERING[i]))
 }
 
@@ -314,7 +297,7 @@ fn unrenumber(cell: usize, l: Logical) -> Physical
     ensures { λ r. ⌜ (r ≡ cluster.unrenumber cell l) × (r .0 < 120) ⌝ }
 {
     let i = l.0;
-    Physical(turn_back(120, 13 * cell, wide(RENUMBERING_INVERSE[i])))
+    Physical(unrotate(120, 13 * cell, wide(RENUMBERING_INVERSE[i])))
 }
 
 // The two pilots of a cluster.
@@ -351,27 +334,13 @@ pub fn is_pilot(symbol: usize, used: usize) -> bool
     place == p.second
 }
 
-// The count r with the place p left out, and the count of a place other than p.
-fn leave_out(p: usize, r: usize) -> usize
-    requires { ⌜ r < 14 ⌝ }
-    ensures { λ q. ⌜ (q ≡ skip p r) × (q < r + 2) ⌝ }
-{
-    if p <= r { r + 1 } else { r }
-}
-
-fn put_back(p: usize, place: usize) -> usize
-    ensures { λ r. ⌜ (r ≡ unskip p place) × (r ≤ place) ⌝ }
-{
-    if p < place { place - 1 } else { place }
-}
-
 // The place of data number r of a cluster, and the data number of a place that is no pilot.
 fn cluster_place(symbol: usize, r: usize) -> usize
     requires { ⌜ r < 12 ⌝ }
     ensures { λ q. ⌜ (q ≡ clusterPlace symbol r) × (q < 14) ⌝ }
 {
     let p = pilots(symbol);
-    leave_out(p.second, leave_out(p.first, r))
+    skip(p.second, skip(p.first, r))
 }
 
 fn cluster_data(symbol: usize, place: usize) -> usize
@@ -379,7 +348,7 @@ fn cluster_data(symbol: usize, place: usize) -> usize
     ensures { λ r. ⌜ (r ≡ clusterData symbol place) × (r < 12) ⌝ }
 {
     let p = pilots(symbol);
-    put_back(p.first, put_back(p.second, place))
+    unskip(p.first, unskip(p.second, place))
 }
 
 // The group whose run of numbers holds x.
@@ -429,9 +398,9 @@ fn group_data(g: usize, cell: usize, s: usize, k: usize) -> usize
     ensures { λ d. ⌜ (d ≡ groupData (groupSize g) cell s k) × (d < 24 * groupSize g) ⌝ }
 {
     let m = group_size(g);
-    let n = turn(24, 13 * s, k);
-    let base = of_size(g, BASE_12, BASE_8, turn(m, n, s));
-    n * m + turn(m, cell, base)
+    let n = rotate(24, 13 * s, k);
+    let base = of_size(g, BASE_12, BASE_8, rotate(m, n, s));
+    n * m + rotate(m, cell, base)
 }
 
 // The reverse: the subchannel, counted in the group, and the index, below 24, of a group data number.
@@ -442,16 +411,11 @@ fn group_address(g: usize, cell: usize, d: usize) -> Address
 {
     let m = group_size(g);
     let n = d / m;
-    let i = of_size(
-        g,
-        BASE_12_INVERSE,
-        BASE_8_INVERSE,
-        turn_back(m, cell, d % m),
-    );
-    let s = turn_back(m, n, i);
+    let i = of_size(g, BASE_12_INVERSE, BASE_8_INVERSE, unrotate(m, cell, d % m));
+    let s = unrotate(m, n, i);
     Address {
         subchannel: s,
-        index: turn_back(24, 13 * s, n),
+        index: unrotate(24, 13 * s, n),
     }
 }
 

@@ -1,9 +1,10 @@
 -- The data places of a slot and the data carriers of a subchannel's six tiles are the same, one for one: tests over all 48 places, and over all carriers of six tiles. Assumes nothing.
-use mathlib.Core.Path.{_≡_, refl}
+use mathlib.Core.Path.{_≡_}
 use mathlib.Core.Bool.{Bool, true, false, not}
 use Prim.Native.Nat.{ℕ, _<_}
 use lib.Dec.{T, eqb, ltb, eqb→eq, ltb→lt}
 use Rattle.base.specs.Choice.{pick}
+use Rattle.base.proofs.Test.{failed}
 use Rattle.base.proofs.Table.{all, all-at}
 use Rattle.pusc_ul.specs.Tile.{isTilePilot, placeSymbol, placeTile, placeCarrier, dataPlace}
 
@@ -25,10 +26,6 @@ on-carrier q h =
       no-pilot = failed _ (all-at (λ q. not (isTilePilot (placeSymbol q) (placeCarrier q))) 48 tt q h);
       back = eqb→eq _ _ (all-at (λ q. eqb (dataPlace (placeSymbol q) (placeTile q) (placeCarrier q)) q) 48 tt q h);
     }
-  where
-    failed : (b : Bool) → T (not b) → b ≡ false
-    failed true t = absurd t
-    failed false t = refl
 
 -- a test at each data carrier c of tile t in symbol o of the slot
 module _ (f : ℕ → ℕ → ℕ → Bool) where

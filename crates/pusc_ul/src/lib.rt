@@ -1,4 +1,5 @@
 // PUSC uplink: tiles, their permutation, and the data places of a slot.
+use base::wide;
 use carriers::Address;
 use carriers::Spot;
 ghost use mathlib.Core.Path.{_≡_};
@@ -153,13 +154,6 @@ const TILE_PERMUTATION_INVERSE: [u8; 70] = [
     40,
     34,
 ];
-
-// An entry of a table, as a number.
-fn wide(x: u8) -> usize
-    ensures { λ r. ⌜ (r ≡ x) × (r < 256) ⌝ }
-{
-    x as usize
-}
 
 // Tile t of a subchannel.
 fn tile(cell: usize, subchannel: usize, t: usize) -> usize

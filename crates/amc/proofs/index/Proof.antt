@@ -39,11 +39,11 @@ wide-requires : tie.Need-wide-requires
 wide-requires c κs = search needs
 
 unrotate-requires : tie.Need-unrotate-requires
-unrotate-requires c κs = let l = position-lt (c .before .number .result) (array-read-wide (c .before)) in omega (arith, c .wide .ensures)
+unrotate-requires c κs = let l = position-lt (c .before .number .result) (array-read-wide (c .before)) in omega (arith, c .wide .ensures .0)
 
 returns : tie.Need-returns
 unfolding indexOf
-returns c = rw (c .unrotate .ensures, c .before .wide .ensures, c .before .before .number .ensures, c .before .before .before .subtract .ensures, sum-is (c .before .before .before .before), c .before .before .before .before .before .before .off .ensures)
+returns c = rw (c .unrotate .ensures .0, c .before .wide .ensures .0, c .before .before .number .ensures, c .before .before .before .subtract .ensures, sum-is (c .before .before .before .before), c .before .before .before .before .before .before .off .ensures)
 
 pub index-spec : {M : Type 1} → statement M
 index-spec =

@@ -11,7 +11,7 @@ wide-requires : tie.Need-wide-requires
 wide-requires c κs = search needs
 
 returns : tie.Need-returns
-returns c = rw (c .wide .ensures) (powers (c .before .args .i) (c .before .pre) .printed-is)
+returns c = rw (c .wide .ensures .0) (powers (c .before .args .i) (c .before .pre) .printed-is)
 
 pub sequence-spec : {M : Type 1} → statement M
 sequence-spec = tie.close (tie.spec array-read-wide wide-requires returns)

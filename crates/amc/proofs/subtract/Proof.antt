@@ -12,7 +12,7 @@ unrotate-requires-2 c κs = search needs
 
 returns : tie.Need-returns
 unfolding subtract
-returns c = rw (c .before .unrotate .ensures, c .unrotate2 .ensures)
+returns c = rw (c .before .unrotate .ensures .0, c .unrotate2 .ensures .0)
 
 pub subtract-spec : {M : Type 1} → statement M
 subtract-spec = tie.close (tie.spec unrotate-requires unrotate-requires-2 returns)

@@ -4,18 +4,17 @@ use native.Mathlib.Omega.{arith}
 use mathlib.Core.Path.{_≡_, ap, _∙_, subst⁻¹}
 use Rattle.amc.proofs.Law.{off-proper, turn-lt, element-proper, traffic-number}
 use Rattle.amc.proofs.Tables.{powers}
-use Rattle.amc.proofs.Digit.{add-proper}
 use Rattle.amc.specs.Element.{Proper, number}
 use Rattle.amc.specs.Map.{off, elementOf, traffic}
 use borrow.Author.Needs.{needs}
 use Rattle.amc.proofs.traffic.Statement.{statement}
 use Rattle.amc.proofs.traffic.Tie as tie
 
-value : (c : tie.After-zero-rule) → c .zero-rule .result ≡ elementOf (c .before .before .before .before .args .cell) (c .before .before .before .before .args .j)
+value : (c : tie.After-zero-rule) → c .zero-rule .result ≡ elementOf (c .before .before .before .args .cell) (c .before .before .before .args .j)
 unfolding elementOf
-value c = rw (c .zero-rule .ensures, c .before .add .ensures, c .before .before .sequence .ensures, c .before .before .before .off .ensures)
+value c = rw (c .zero-rule .ensures, c .before .sequence .ensures, c .before .before .off .ensures)
 
-number-is : (c : tie.After-number) → c .number .result ≡ number (elementOf (c .before .before .before .before .before .args .cell) (c .before .before .before .before .before .args .j))
+number-is : (c : tie.After-number) → c .number .result ≡ number (elementOf (c .before .before .before .before .args .cell) (c .before .before .before .before .args .j))
 number-is c = c .number .ensures ∙ ap number (value (c .before))
 
 off-requires : tie.Need-off-requires
@@ -27,17 +26,14 @@ add-sequence c = search needs
 sequence-requires : tie.Need-sequence-requires
 sequence-requires c κs = search needs
 
-add-requires : tie.Need-add-requires
-add-requires c κs = (rw (c .sequence .ensures) (powers _ (turn-lt _ (c .before .before .pre .0) (c .before .before .args .j)) .proper), rw (c .before .off .ensures) (off-proper _ (c .before .before .pre .0)))
-
 zero-rule-requires : tie.Need-zero-rule-requires
-zero-rule-requires c κs = rw (c .add .ensures) (add-proper _ _)
+zero-rule-requires c κs = (rw (c .before .off .ensures) (off-proper _ (c .before .before .pre .0)), rw (c .sequence .ensures) (powers _ (turn-lt _ (c .before .before .pre .0) (c .before .before .args .j)) .proper))
 
 number-requires : tie.Need-number-requires
-number-requires c κs = subst⁻¹ Proper (value c) (element-proper _ (c .before .before .before .before .pre .0) _)
+number-requires c κs = subst⁻¹ Proper (value c) (element-proper _ (c .before .before .before .pre .0) _)
 
 sub-result : tie.Need-sub-result
-sub-result c = omega (arith, number-is c, traffic-number _ (c .before .before .before .before .before .pre .0) (c .before .before .before .before .before .args .j))
+sub-result c = omega (arith, number-is c, traffic-number _ (c .before .before .before .before .pre .0) (c .before .before .before .before .args .j))
 
 returns : tie.Need-returns
 unfolding traffic
@@ -50,7 +46,6 @@ traffic-spec =
     off-requires
     add-sequence
     sequence-requires
-    add-requires
     zero-rule-requires
     number-requires
     sub-result

@@ -1,4 +1,5 @@
 -- `base::skip` meets its contract. Assumes nothing.
+use native.Mathlib.Omega.{arith}
 use mathlib.Core.Path.{sym}
 use Rattle.base.proofs.LeaveOut.{skip-below, skip-above}
 use borrow.Author.Needs.{needs}
@@ -9,10 +10,10 @@ add-result : tie.Need-add-result
 add-result c = search needs
 
 returns : tie.Need-returns
-returns c = sym (skip-below _ _ (c .if1 .taken))
+returns c = (sym (skip-below _ _ (c .if1 .taken)), omega arith)
 
 returns-2 : tie.Need-returns-2
-returns-2 c = sym (skip-above _ _ (c .if1 .left))
+returns-2 c = (sym (skip-above _ _ (c .if1 .left)), omega arith)
 
 pub skip-spec : {M : Type 1} → statement M
 skip-spec = tie.close (tie.spec add-result returns returns-2)

@@ -1,4 +1,5 @@
 -- `base::unrotate` meets its contract. Assumes nothing.
+use mathlib.Core.Path.{refl}
 use native.Mathlib.Omega.{arith}
 use native.Mathlib.Nat.{mod-lt}
 use borrow.Author.Needs.{needs}
@@ -18,7 +19,7 @@ rem-result-2 : tie.Need-rem-result-2
 rem-result-2 c = search needs
 
 returns : tie.Need-returns
-returns c = search needs
+returns c = (refl, mod-lt _ (c .pre .0))
 
 pub unrotate-spec : {M : Type 1} → statement M
 unrotate-spec = tie.close (tie.spec rem-result sub-result add-result rem-result-2 returns)

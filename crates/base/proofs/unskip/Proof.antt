@@ -1,4 +1,5 @@
 -- `base::unskip` meets its contract. Assumes nothing.
+use native.Mathlib.Omega.{arith}
 use mathlib.Core.Path.{sym}
 use Rattle.base.proofs.LeaveOut.{unskip-below, unskip-above}
 use borrow.Author.Needs.{needs}
@@ -9,10 +10,10 @@ sub-result : tie.Need-sub-result
 sub-result c = search needs
 
 returns : tie.Need-returns
-returns c = sym (unskip-below _ _ (c .if1 .taken))
+returns c = (sym (unskip-below _ _ (c .if1 .taken)), omega arith)
 
 returns-2 : tie.Need-returns-2
-returns-2 c = sym (unskip-above _ _ (c .if1 .left))
+returns-2 c = (sym (unskip-above _ _ (c .if1 .left)), omega arith)
 
 pub unskip-spec : {M : Type 1} → statement M
 unskip-spec = tie.close (tie.spec sub-result returns returns-2)

@@ -21,7 +21,7 @@ add-result c = omega (arith, unskip-le (c .before .bin-pilot-place .result) (c .
 
 returns : tie.Need-returns
 unfolding dataOfUsed
-returns c = rw (c .unskip .ensures, c .before .bin-pilot-place .ensures)
+returns c = rw (c .unskip .ensures .0, c .before .bin-pilot-place .ensures)
 
 pub data-of-used-spec : {M : Type 1} → statement M
 data-of-used-spec =

@@ -21,7 +21,7 @@ add-result c = omega (arith, skip-le (c .before .bin-pilot-place .result) (c .be
 
 returns : tie.Need-returns
 unfolding usedOfData
-returns c = rw (c .skip .ensures, c .before .bin-pilot-place .ensures)
+returns c = rw (c .skip .ensures .0, c .before .bin-pilot-place .ensures)
 
 pub used-of-data-spec : {M : Type 1} → statement M
 used-of-data-spec =

@@ -30,7 +30,7 @@ unrotate-requires c κs = omega (arith, div-lt-iff-lt-mul (pos (c .before .pre .
 
 returns : tie.Need-returns
 unfolding addressOf
-returns c = rw (c .unrotate .ensures, c .before .mask .ensures)
+returns c = rw (c .unrotate .ensures .0, c .before .mask .ensures)
 
 pub address-spec : {M : Type 1} → statement M
 address-spec =

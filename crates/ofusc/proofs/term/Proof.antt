@@ -43,11 +43,11 @@ wide-requires-2 : tie.Need-wide-requires-2
 wide-requires-2 c κs = search needs
 
 returns-2 : tie.Need-returns-2
-returns-2 c = rw (c .wide .ensures, c .before .if2 .taken)
+returns-2 c = rw (c .wide .ensures .0, c .before .if2 .taken)
     (rows2-are (c .before .before .before .pre .0) _ (mod-lt _ (turn-pos (c .before .before .before .pre .0))) ∙ sym (term-entry _ _ _ _ (c .before .before .if1 .left)))
 
 returns-3 : tie.Need-returns-3
-returns-3 c = rw (c .wide2 .ensures, c .before .if2 .left)
+returns-3 c = rw (c .wide2 .ensures .0, c .before .if2 .left)
     (rows1-are (c .before .before .before .pre .0) _ (mod-lt _ (turn-pos (c .before .before .before .pre .0))) ∙ sym (term-entry _ _ _ _ (c .before .before .if1 .left)))
 
 pub term-spec : {M : Type 1} → statement M

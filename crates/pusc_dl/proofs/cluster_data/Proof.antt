@@ -16,7 +16,7 @@ unfolding clusterData
 returns c =
     let p = c .before .before .pilots .ensures in
     bounded _ _ _ (search needs) (search needs) (search needs)
-    (rw (c .put-back2 .ensures .0, c .before .put-back .ensures .0, p .0, p .1))
+    (rw (c .unskip2 .ensures .0, c .before .unskip .ensures .0, p .0, p .1))
 
 pub cluster-data-spec : {M : Type 1} → statement M
 cluster-data-spec = tie.close (tie.spec (λ c κs. search needs) (λ c κs. search needs) (λ c κs. search needs) returns)

@@ -8,7 +8,7 @@ returns : tie.Need-returns
 unfolding clusterPlace
 returns c =
     let p = c .before .before .pilots .ensures in
-    (rw (c .leave-out2 .ensures .0, c .before .leave-out .ensures .0, p .0, p .1), search needs)
+    (rw (c .skip2 .ensures .0, c .before .skip .ensures .0, p .0, p .1), search needs)
 
 pub cluster-place-spec : {M : Type 1} → statement M
 cluster-place-spec = tie.close (tie.spec (λ c κs. search needs) (λ c κs. search needs) (λ c κs. search needs) returns)

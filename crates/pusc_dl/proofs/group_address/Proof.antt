@@ -8,23 +8,23 @@ use Rattle.pusc_dl.specs.Group.{groupSize, groupSubchannel, groupIndex, 
 use Rattle.pusc_dl.proofs.group_address.Statement.{statement}
 use Rattle.pusc_dl.proofs.group_address.Tie as tie
 
-quotient : (g d m : ℕ) → m ≡ groupSize g → 0 < m → d < 24 * groupSize g → d / m < 256
+quotient : (g d m : ℕ) → m ≡ groupSize g → 0 < m → d < 24 * groupSize g → d / m < 65536
 quotient g d m e pos h = let l : d / m < 24 = div-lt-iff-lt-mul pos .1 (rw e h) in omega arith
 
-turn-back-requires : tie.Need-turn-back-requires
-turn-back-requires c κs = (search needs, search needs, omega (arith, mod-lt (c .before .args .d) (c .group-size .ensures .1)))
+unrotate-requires : tie.Need-unrotate-requires
+unrotate-requires c κs = (search needs, search needs, omega (arith, mod-lt (c .before .args .d) (c .group-size .ensures .1)))
 
-turn-back-requires-3 : tie.Need-turn-back-requires-3
-turn-back-requires-3 c κs = search (quotient, needs)
+unrotate-requires-3 : tie.Need-unrotate-requires-3
+unrotate-requires-3 c κs = search (quotient, needs)
 
 returns : tie.Need-returns
 unfolding groupSubchannel groupIndex baseInverse
 returns c =
     let m = c .before .before .before .before .group-size .ensures .0 in
-    let x = c .before .before .before .turn-back .ensures .0 in
+    let x = c .before .before .before .unrotate .ensures .0 in
     let i = c .before .before .of-size .ensures .0 in
-    let s = c .before .turn-back2 .ensures .0 in
-    ((rw (s, i, x, m), rw (c .turn-back3 .ensures .0, s, i, x, m)), (search needs, search needs))
+    let s = c .before .unrotate2 .ensures .0 in
+    ((rw (s, i, x, m), rw (c .unrotate3 .ensures .0, s, i, x, m)), (search needs, search needs))
 
 pub group-address-spec : {M : Type 1} → statement M
 group-address-spec =
@@ -33,9 +33,9 @@ group-address-spec =
     (λ c κs. search needs)
     (λ c. search needs)
     (λ c. search needs)
-    turn-back-requires
+    unrotate-requires
     (λ c κs. search needs)
     (λ c κs. search needs)
     (λ c. search needs)
-    turn-back-requires-3
+    unrotate-requires-3
     returns)

@@ -9,7 +9,7 @@ use Rattle.pusc_dl.proofs.renumber.Tie as tie
 returns : tie.Need-returns
 unfolding renumber
 returns c =
-    let i = c .before .turn .ensures in
+    let i = c .before .rotate .ensures in
     (rw (c .wide .ensures .0, i .0), omega (arith, r-perm .to-lt _ (i .1)))
 
 pub renumber-spec : {M : Type 1} → statement M

@@ -6,7 +6,7 @@ use Rattle.pusc_dl.proofs.unrenumber.Tie as tie
 
 returns : tie.Need-returns
 unfolding unrenumber
-returns c = (rw (c .turn-back .ensures .0, c .before .wide .ensures .0), search needs)
+returns c = (rw (c .unrotate .ensures .0, c .before .wide .ensures .0), search needs)
 
 pub unrenumber-spec : {M : Type 1} → statement M
 unrenumber-spec =

@@ -1,0 +1,94 @@
+// The C interface: thin functions over the engine. Each returns 0, or document 01's refusal number; on a refusal nothing is written.
+use map::Located;
+use map::Placed;
+use map::Setup;
+ghost use mathlib.Core.Path.{_≡_};
+ghost use Prim.Native.Nat.{ℕ};
+ghost use Rattle.map.specs.declared.Setup.{Setup};
+ghost use Rattle.map.specs.Place.{placeOf, locateOf};
+ghost use Rattle.capi.specs.Map.{PlaceOut, placeOut, LocateOut, locateOut};
+
+fn setup(mode: u32, size: u32, cell: u32) -> Setup
+    ensures { λ r. ⌜ r ≡ record { mode = mode; size = size; cell = cell } ⌝ }
+{
+    Setup {
+        mode: mode as usize,
+        size: size as usize,
+        cell: cell as usize,
+    }
+}
+
+#[no_mangle]
+pub extern "C" fn bp_place(
+    mode: u32,
+    size: u32,
+    cell: u32,
+    slot: u32,
+    subchannel: u32,
+    index: u32,
+    symbol: &mut u32,
+    carrier: &mut u32,
+) -> u32
+    ensures { λ r. ⌜ record { number = r; symbol = now (symbol .exit); carrier = now (carrier .exit) } ≡ placeOut (placeOf (record { mode = mode; size = size; cell = cell }) slot subchannel index) (now (symbol .entry)) (now (carrier .entry)) ⌝ }
+{
+    let answer = map::place(
+        setup(mode, size, cell),
+        slot as usize,
+        subchannel as usize,
+        index as usize,
+    );
+    match answer {
+        Placed::At {
+            symbol: y,
+            carrier: k,
+        } => {
+            *symbol = y as u32;
+            *carrier = k as u32;
+            0
+        }
+        Placed::Refused(number) => number as u32,
+    }
+}
+
+#[no_mangle]
+pub extern "C" fn bp_locate(
+    mode: u32,
+    size: u32,
+    cell: u32,
+    symbol: u32,
+    carrier: u32,
+    kind: &mut u32,
+    slot: &mut u32,
+    subchannel: &mut u32,
+    index: &mut u32,
+) -> u32
+    ensures { λ r. ⌜ record { number = r; kind = now (kind .exit); slot = now (slot .exit); subchannel = now (subchannel .exit); index = now (index .exit) } ≡ locateOut (locateOf (record { mode = mode; size = size; cell = cell }) symbol carrier) (now (kind .entry)) (now (slot .entry)) (now (subchannel .entry)) (now (index .entry)) ⌝ }
+{
+    let answer = map::locate(setup(mode, size, cell), symbol as usize, carrier as usize);
+    match answer {
+        Located::Guard => {
+            *kind = 0;
+            0
+        }
+        Located::Dc => {
+            *kind = 1;
+            0
+        }
+        Located::Pilot => {
+            *kind = 2;
+            0
+        }
+        Located::Data {
+            slot: a,
+            subchannel: s,
+            index: m,
+        } => {
+            *kind = 3;
+            *slot = a as u32;
+            *subchannel = s as u32;
+            *index = m as u32;
+            0
+        }
+        Located::Refused(number) => number as u32,
+    }
+}

@@ -1,0 +1,36 @@
+/* Where a point is placed, and what the engine finds there: point MODE SIZE CELL SLOT SUBCHANNEL INDEX */
+#include <stdio.h>
+#include <stdlib.h>
+
+#include "bellpulsar.h"
+
+/* A field's number; one that 32 bits do not hold is as far out of range as they can say. */
+static uint32_t field(const char *word)
+{
+    unsigned long long n = strtoull(word, NULL, 10);
+    return n > UINT32_MAX ? UINT32_MAX : (uint32_t)n;
+}
+
+int main(int argc, char **argv)
+{
+    if (argc != 7) {
+        fprintf(stderr, "usage: point MODE SIZE CELL SLOT SUBCHANNEL INDEX\n");
+        return 2;
+    }
+    uint32_t f[6];
+    for (int i = 0; i < 6; i++)
+        f[i] = field(argv[i + 1]);
+
+    uint32_t symbol, carrier, kind, slot, subchannel, index;
+    uint32_t refused = bp_place(f[0], f[1], f[2], f[3], f[4], f[5], &symbol, &carrier);
+    if (refused == 0)
+        refused = bp_locate(f[0], f[1], f[2], symbol, carrier, &kind, &slot, &subchannel, &index);
+    if (refused != 0) {
+        printf("refused %u\n", refused);
+        return 1;
+    }
+    printf("symbol %u carrier %u\n", symbol, carrier);
+    if (kind == 3)
+        printf("holds slot %u subchannel %u index %u\n", slot, subchannel, index);
+    return 0;
+}
