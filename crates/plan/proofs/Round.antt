@@ -214,7 +214,7 @@ laid-of (accepted bytes₁) d e =
     }
 laid-of (refused k) d e = absurd (let q = ap (λ (o : Outcome). o .answer) e in let z : _≡_ {A = ℕ} 0 1 = cc in omega arith)
 
--- A written plan read again is the same plan.
+-- A written plan, an array of eight places in it, read again is the same plan.
 pub same-plan : (p : Plan) (d after : List ℕ) (n : ℕ) → length (p .zones) ≡ 8 → writeOf p d ≡ record { answer = accepted n; dest = after } → planOf (take n after) ≡ accepted p
 unfolding writeOf
 same-plan p d after n l e =

@@ -14,7 +14,7 @@ pub record Value : Type 0 where
   pub value : ℕ
   pub size : ℕ
 
--- A byte whose top bit is set, and what its further groups give. Shortest form: these are not worth zero.
+-- A byte whose top bit is set, and what the groups after it give. Shortest form: these are worth more than zero, so the last of several groups is not zero.
 abbrev pub more : ℕ → Answer Value → Answer Value
 more byte (accepted v) = ask (ltb 0 (v .value)) 11 (accepted (record { value = byte % 128 + 128 * v .value; size = suc (v .size) }))
 more byte (refused number) = refused number

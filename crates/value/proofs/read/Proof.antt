@@ -27,10 +27,10 @@ module _ (g : ℕ) (s : List ℕ) (at : ℕ) where
 
 -- a first byte that more follow, and a second one
 first : (c : tie.Else2) → valueOf (drop (c .before .before .before .before .before .args .at) (c .before .before .before .before .before .args .s .now)) ≡ more (c .before .wide .result) (valueIn 2 (drop (suc (c .before .before .before .before .before .args .at)) (c .before .before .before .before .before .args .s .now)))
-first c = follow-at 2 _ _ _ (c .before .wide .ensures) (c .before .before .before .if1 .left) (c .if2 .left)
+first c = follow-at 2 _ _ _ (c .before .wide .ensures .0) (c .before .before .before .if1 .left) (c .if2 .left)
 
 second-is : (c : tie.After-wide2) → c .wide2 .result ≡ getD (c .before .before .before .before .before .before .before .before .args .s .now) (suc (c .before .before .before .before .before .before .before .before .args .at)) 0
-second-is c = rw (← add-one) (c .wide2 .ensures)
+second-is c = rw (← add-one) (c .wide2 .ensures .0)
 
 second-last : (c : tie.After-wide2) → c .wide2 .result < 128 → valueOf (drop (c .before .before .before .before .before .before .before .before .args .at) (c .before .before .before .before .before .before .before .before .args .s .now)) ≡ more (c .before .before .before .before .wide .result) (accepted (record { value = c .wide2 .result; size = 1 }))
 second-last c l = first (c .before .before .before) ∙ ap (more (c .before .before .before .before .wide .result)) (last-at 1 (c .before .before .before .before .before .before .before .before .args .s .now) (suc (c .before .before .before .before .before .before .before .before .args .at)) _ (second-is c) (omega arith) l)
@@ -39,7 +39,7 @@ second : (c : tie.Else5) → valueOf (drop (c .before .before .before .before .b
 second c = first (c .before .before .before .before .before) ∙ ap (more (c .before .before .before .before .before .before .wide .result)) (follow-at 1 (c .before .before .before .before .before .before .before .before .before .before .args .s .now) (suc (c .before .before .before .before .before .before .before .before .before .before .args .at)) _ (second-is (c .before .before)) (omega arith) (c .if5 .left))
 
 third-is : (c : tie.After-wide3) → c .wide3 .result ≡ getD (c .before .before .before .before .before .before .before .before .before .before .before .before .before .args .s .now) (suc (suc (c .before .before .before .before .before .before .before .before .before .before .before .before .before .args .at))) 0
-third-is c = rw (← add-two) (c .wide3 .ensures)
+third-is c = rw (← add-two) (c .wide3 .ensures .0)
 
 third-last : (c : tie.After-wide3) → c .wide3 .result < 128 → valueOf (drop (c .before .before .before .before .before .before .before .before .before .before .before .before .before .args .at) (c .before .before .before .before .before .before .before .before .before .before .before .before .before .args .s .now)) ≡ more (c .before .before .before .before .before .before .before .before .before .wide .result) (more (c .before .before .before .before .before .wide2 .result) (accepted (record { value = c .wide3 .result; size = 1 })))
 third-last c l = second (c .before .before .before) ∙ ap (λ r. more (c .before .before .before .before .before .before .before .before .before .wide .result) (more (c .before .before .before .before .before .wide2 .result) r)) (last-at 0 (c .before .before .before .before .before .before .before .before .before .before .before .before .before .args .s .now) (suc (suc (c .before .before .before .before .before .before .before .before .before .before .before .before .before .args .at))) _ (third-is c) (omega arith) l)
@@ -48,7 +48,7 @@ returns : tie.Need-returns
 returns c = sym (none-at 2 _ _ (c .if1 .taken))
 
 returns-2 : tie.Need-returns-2
-returns-2 c = sym (last-at 2 _ _ _ (c .before .wide .ensures) (c .before .before .before .if1 .left) (c .if2 .taken))
+returns-2 c = sym (last-at 2 _ _ _ (c .before .wide .ensures .0) (c .before .before .before .if1 .left) (c .if2 .taken))
 
 returns-3 : tie.Need-returns-3
 returns-3 c = rw (first (c .before), none-at 1 (c .before .before .before .before .before .before .args .s .now) (suc (c .before .before .before .before .before .before .args .at)) (omega arith))
