@@ -17,13 +17,13 @@ pub two-zones : planOf (2 ∷ 0x80 ∷ 0x08 ∷ 2 ∷ 0x11 ∷ 3 ∷ 3 ∷ 0xB0 
 unfolding planOf afterCount afterSize zonesOf finish readZones zoneOf afterMode afterCell valueIn isZoneMode isSlots isOpening isFollowing inPlaces isCount isSize isCell isFourSizes cells width
 two-zones = refl
 
-pub one-zone : planOf (1 ∷ 0x80 ∷ 0x10 ∷ 0 ∷ 0 ∷ 0x0C ∷ []) ≡ accepted (planWith 1 2048 (zone 0 0 12 ∷ []))
+-- the starred plan line of document 01's known points
+pub starred : (planOf (1 ∷ 0x80 ∷ 0x10 ∷ 0 ∷ 0 ∷ 0x0C ∷ []) ≡ accepted (planWith 1 2048 (zone 0 0 12 ∷ []))) × (planOf (1 ∷ 0x80 ∷ 0x10 ∷ 2 ∷ 0 ∷ 0x0C ∷ []) ≡ refused 14)
 unfolding planOf afterCount afterSize zonesOf finish readZones zoneOf afterMode afterCell valueIn isZoneMode isSlots isOpening isFollowing inPlaces isCount isSize isCell isFourSizes cells width
-one-zone = refl
+starred = (refl, refl)
 
 pub first-refusals :
-    (planOf (1 ∷ 0x80 ∷ 0x10 ∷ 2 ∷ 0 ∷ 0x0C ∷ []) ≡ refused 14)
-    × (planOf (2 ∷ 0x80 ∷ 0x10 ∷ 2 ∷ 0 ∷ 1 ∷ []) ≡ refused 14)
+    (planOf (2 ∷ 0x80 ∷ 0x10 ∷ 2 ∷ 0 ∷ 1 ∷ []) ≡ refused 14)
     × (planOf (0x81 ∷ 0 ∷ []) ≡ refused 11)
     × (planOf [] ≡ refused 10)
     × (planOf (0x80 ∷ 0x80 ∷ []) ≡ refused 10)
@@ -32,4 +32,4 @@ pub first-refusals :
     × (planOf (1 ∷ 0 ∷ 0x80 ∷ []) ≡ refused 2)
     × (planOf (1 ∷ 0x80 ∷ 0x08 ∷ 1 ∷ 0 ∷ []) ≡ refused 10)
 unfolding planOf afterCount afterSize zonesOf finish readZones zoneOf afterMode afterCell valueIn isZoneMode isSlots isOpening isFollowing isCount isSize isCell isFourSizes cells width
-first-refusals = (refl, refl, refl, refl, refl, refl, refl, refl, refl)
+first-refusals = (refl, refl, refl, refl, refl, refl, refl, refl)
