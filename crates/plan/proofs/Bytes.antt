@@ -6,11 +6,13 @@ use native.Mathlib.Omega.{arith}
 use native.Mathlib.Numerals.{add-one}
 use lib.ListN.{length, take, drop, getD, length-append, take-append-drop}
 use lib.Seq.{take-suc, take-take, length-take-le}
-use native.Mathlib.Nat.{add-zero, zero-add}
+use native.Mathlib.Nat.{zero-add}
 use borrow.Author.Tests.{eq-eqb, ne-eqb, le-leb, lt-leb}
 use Rattle.base.specs.Answer.{accepted, refused}
-use Rattle.value.specs.Value.{encode, Put}
-use Rattle.value.proofs.Laws.{size-most, put-length, put-next}
+use Rattle.text.specs.Text.{put}
+use Rattle.text.specs.Laws.{put-none as text-none}
+use Rattle.value.specs.Value.{encode}
+use Rattle.value.proofs.Laws.{size-most, Put, put-length, put-next}
 use Rattle.plan.specs.declared.Zone.{Zone}
 use Rattle.plan.specs.declared.Plan.{Plan}
 use Rattle.plan.specs.Zone.{unused}
@@ -88,14 +90,14 @@ module _ {d : List ℕ} {count : ℕ} {zones : List Zone} {at : ℕ} {dest : Lis
           room = h .room;
           done =
               rw (zones-more zones k (omega (arith, h .places, h .count-is)))
-              (put-next (zonesBytes (take k zones)) (zoneBytes (getD zones k unused)) (omega (arith, h .room, zones-fewer zones k count (h .below))) (h .done) p);
+              (put-next (zonesBytes (take k zones)) (zoneBytes (getD zones k unused)) (omega (arith, h .room)) (h .done) p);
         }
 
   pub all-put : count ≤ k → Put d at (zonesBytes (take count zones)) next dest
   all-put l = let e : k ≡ count = omega (arith, h .below) in rw e at (h .done)
 
 put-none : (d : List ℕ) (at : ℕ) → Put d at [] at d
-put-none d at = record { next-is = omega arith; after-is = rw add-zero (sym (take-append-drop at d)) }
+put-none d at = record { next-is = omega arith; after-is = sym (text-none d at) }
 
 pub put-begin : (d : List ℕ) (count : ℕ) (zones : List Zone) (at : ℕ) → length zones ≡ 8 → count ≤ 8 → at + length (zonesBytes (take count zones)) ≤ length d → Putting d count zones at d at 0
 put-begin d count zones at p c r = record { places = p; count-is = c; below = omega arith; room = r; done = rw (no-zones zones) (put-none d at) }
@@ -112,5 +114,5 @@ module _ (p : Plan) (d : List ℕ) {n : ℕ} (e : n ≡ planNumber p) where
     write-short h = rw (plan-by p, ← e, eq-eqb n 0 z, ← l, lt-leb size (length d) h)
 
     pub write-done : {next : ℕ} {after : List ℕ} → size ≤ length d → Put d 0 (planBytes p) next after → record { answer = accepted next; dest = after } ≡ writeOf p d
-    unfolding writeOf
+    unfolding writeOf put
     write-done h w = rw (plan-by p, ← e, eq-eqb n 0 z, ← l, le-leb size (length d) h, w .next-is, w .after-is, zero-add)

@@ -4,7 +4,7 @@ use value::Found;
 ghost use mathlib.Core.Path.{_≡_};
 ghost use Prim.Native.Nat.{_+_, _≤_};
 ghost use lib.ListN.{length, drop};
-ghost use Rattle.value.specs.Value.{Put};
+ghost use Rattle.text.specs.Text.{written, wrote};
 ghost use Rattle.base.specs.Answer.{refused as no};
 ghost use Rattle.plan.specs.Zone.{isOpening, isFollowing, isOrder, slotsNumber, ownNumber, zoneNumber};
 ghost use Rattle.plan.specs.Write.{isUnused, areUnused, usedZones, zonesNumber, planNumber, Small, zoneBytes, planBytes, outcome, writeOf};
@@ -345,7 +345,7 @@ fn plan_size(plan: Plan) -> usize
 // Puts a zone at a place where it fits; answers the place after it.
 fn put_zone(dest: &mut [u8], at: usize, zone: Zone) -> usize
     requires { ⌜ Small zone × (at + length (zoneBytes zone) ≤ length (now dest)) ⌝ }
-    ensures { λ r. ⌜ Put (now (dest .entry)) at (zoneBytes zone) r (now (dest .exit)) ⌝ }
+    ensures { λ r. ⌜ written (now (dest .exit)) r ≡ wrote (now (dest .entry)) at (zoneBytes zone) ⌝ }
 {
     let cell = value::write(dest, at, zone.mode);
     let slots = value::write(dest, cell, zone.cell);
@@ -355,7 +355,7 @@ fn put_zone(dest: &mut [u8], at: usize, zone: Zone) -> usize
 // Puts an accepted plan where it fits; answers how many bytes it takes.
 fn put_plan(dest: &mut [u8], plan: Plan) -> usize
     requires { ⌜ (planNumber plan ≡ 0) × (length (planBytes plan) ≤ length (now dest)) ⌝ }
-    ensures { λ r. ⌜ Put (now (dest .entry)) 0 (planBytes plan) r (now (dest .exit)) ⌝ }
+    ensures { λ r. ⌜ written (now (dest .exit)) r ≡ wrote (now (dest .entry)) 0 (planBytes plan) ⌝ }
 {
     let used = plan.count;
     let zones = plan.zones;

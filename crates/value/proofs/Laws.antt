@@ -5,12 +5,14 @@ use Prim.Native.Nat.{ℕ, zero, suc, _+_, _*_, _/_, _%_, _<_, _≤_}
 use native.Mathlib.Omega.{arith}
 use lib.Dec.{ltb}
 use lib.ListN.{length, take, drop, getD, length-append, length-drop, drop-of-length-le}
-use lib.Seq.{take-at, drop-at, drop-drop, length-take-le}
+use lib.Seq.{drop-at, length-take-le}
 use borrow.Author.Tests.{ltb-true, ltb-false, lt-ltb, le-ltb}
+use Rattle.text.specs.Text.{written, put, wrote}
+use Rattle.text.specs.Laws.{wrote-next, wrote-bytes, wrote-more}
 use Rattle.base.specs.Answer.{Answer, accepted, refused}
 use Rattle.base.proofs.Chain.{ask-yes, same-accepted}
 use Rattle.base.proofs.Test.{cases}
-use Rattle.value.specs.Value.{Value, more, valueIn, valueOf, encodeIn, encode, putAt, Put}
+use Rattle.value.specs.Value.{Value, more, valueIn, valueOf, encodeIn, encode}
 
 -- A first byte that is the last one, and one that more follow, whose further groups are worth something or nothing.
 module _ (g a : ℕ) (s : List ℕ) where
@@ -66,8 +68,11 @@ read-written x rest h =
         (some (x % 128 + 128) ((x / 128 % 128 + 128) % 128 + 128 * (x / 16384)) 2 (λ z. omega arith) ∙ ap (λ y. accepted (record { value = y; size = 3 })) (omega arith))
 
 -- So it is where it was put into a buffer.
-pub read-put : (dest : List ℕ) (at x : ℕ) → x < 2097152 → at ≤ length dest → valueOf (drop at (putAt dest at (encode x))) ≡ accepted (record { value = x; size = length (encode x) })
-read-put dest at x h fits = rw (drop-at (take at dest) (encode x ++ drop (at + length (encode x)) dest) at (length-take-le at dest fits)) (read-written x (drop (at + length (encode x)) dest) h)
+pub read-put : (dest : List ℕ) (at x : ℕ) → x < 2097152 → at ≤ length dest → valueOf (drop at (put dest at (encode x))) ≡ accepted (record { value = x; size = length (encode x) })
+unfolding put
+read-put dest at x h fits =
+    rw (append-assoc (take at dest) (encode x) (drop (at + length (encode x)) dest), drop-at (take at dest) (encode x ++ drop (at + length (encode x)) dest) at (length-take-le at dest fits))
+    (read-written x (drop (at + length (encode x)) dest) h)
 
 -- how many bytes a value takes
 module _ (x : ℕ) where
@@ -88,33 +93,25 @@ most (suc g) x = cases (ltb x 128) (λ e. rw e (omega arith)) (λ e. let h = mos
 pub size-most : (x : ℕ) → length (encode x) ≤ 3
 size-most x = most 3 x
 
--- Bytes put after those that were put before are put with them.
-pub put-put : (d : List ℕ) (at : ℕ) (a b : List ℕ) → at + length a ≤ length d → putAt (putAt d at a) (at + length a) b ≡ putAt d at (a ++ b)
-put-put d at a b h =
-    rw (← append-assoc (take at d) a (drop (at + length a) d), take-at (take at d ++ a) (drop (at + length a) d) (at + length a) front, ← drop-drop (length b) (at + length a), drop-at (take at d ++ a) (drop (at + length a) d) (at + length a) front, drop-drop, length-append, ← total)
-    (simp append-assoc)
-  where
-    total : at + length a + length b ≡ at + (length a + length b)
-    total = omega arith
+-- Bytes that were put, taken apart: the place after them, and the buffer.
+pub record Put (d : List ℕ) (at : ℕ) (bytes : List ℕ) (next : ℕ) (after : List ℕ) : Type 0 where
+  pub next-is : next ≡ at + length bytes
+  pub after-is : after ≡ put d at bytes
 
-    front : length (take at d ++ a) ≡ at + length a
-    front = length-append (take at d) a ∙ ap (λ n. n + length a) (length-take-le at d (omega arith))
+pub put-of : (d : List ℕ) (at : ℕ) (bytes after : List ℕ) (next : ℕ) → written after next ≡ wrote d at bytes → Put d at bytes next after
+put-of d at bytes after next e = record { next-is = wrote-next d at bytes after next e; after-is = wrote-bytes d at bytes after next e }
 
-pub put-next : {d d₁ d₂ : List ℕ} {at q r : ℕ} (a b : List ℕ) → at + length a ≤ length d → Put d at a q d₁ → Put d₁ q b r d₂ → Put d at (a ++ b) r d₂
-put-next {d} {at = at} a b h p q =
-    record {
-      next-is = rw length-append (omega (arith, p .next-is, q .next-is));
-      after-is = rw (q .after-is, p .after-is, p .next-is) (put-put d at a b h);
-    }
+pub of-put : {d : List ℕ} {at : ℕ} {bytes after : List ℕ} {next : ℕ} → Put d at bytes next after → written after next ≡ wrote d at bytes
+of-put p = let e = p .next-is in let f = p .after-is in cc
 
-pub put-three : {d d₁ d₂ d₃ : List ℕ} {at p q r : ℕ} (a b c : List ℕ) → at + length (a ++ (b ++ c)) ≤ length d → Put d at a p d₁ → Put d₁ p b q d₂ → Put d₂ q c r d₃ → Put d at (a ++ (b ++ c)) r d₃
-put-three a b c h x y z =
-    let l = length-append a (b ++ c) in
-    let m = length-append b c in
-    rw (← append-assoc a b c)
-    (put-next (a ++ b) c (rw length-append (omega arith)) (put-next a b (omega arith) x y) z)
+pub put-next : {d d₁ d₂ : List ℕ} {at q r : ℕ} (a b : List ℕ) → at ≤ length d → Put d at a q d₁ → Put d₁ q b r d₂ → Put d at (a ++ b) r d₂
+put-next {d} {d₁} {d₂} {at} {q} {r} a b h x y = put-of d at (a ++ b) d₂ r (wrote-more d at a b d₁ d₂ q r h (of-put x) (of-put y))
 
-pub put-length : (d : List ℕ) (at : ℕ) (bytes : List ℕ) → at + length bytes ≤ length d → length (putAt d at bytes) ≡ length d
+pub put-three : {d d₁ d₂ d₃ : List ℕ} {at p q r : ℕ} (a b c : List ℕ) → at ≤ length d → Put d at a p d₁ → Put d₁ p b q d₂ → Put d₂ q c r d₃ → Put d at (a ++ (b ++ c)) r d₃
+put-three a b c h x y z = rw (← append-assoc a b c) (put-next (a ++ b) c h (put-next a b h x y) z)
+
+pub put-length : (d : List ℕ) (at : ℕ) (bytes : List ℕ) → at + length bytes ≤ length d → length (put d at bytes) ≡ length d
+unfolding put
 put-length d at bytes h = rw (length-append, length-append, length-take-le at d (omega arith), length-drop) (omega arith)
 
 -- bytes are numbers below 256

@@ -1,8 +1,6 @@
 -- Document 01, "Zone plan": values are groups of seven bits, lowest first, top bit set when more follow, shortest form, at most three groups.
-use mathlib.Core.Path.{_≡_}
-use mathlib.Core.List.{List, [], _∷_, _++_}
+use mathlib.Core.List.{List, [], _∷_}
 use lib.Dec.{ltb}
-use lib.ListN.{length, take, drop}
 use Prim.Native.Nat.{ℕ, zero, suc, _+_, _*_, _/_, _%_}
 use Rattle.base.specs.Choice.{pick}
 use Rattle.base.specs.Answer.{Answer, accepted, refused, ask}
@@ -40,12 +38,3 @@ encode x = encodeIn 3 x
 abbrev pub found : Found → Answer Value
 found (Is x n) = accepted (record { value = x; size = n })
 found (Refused number) = refused number
-
--- The bytes put into a buffer from a place on; the others stay.
-abbrev pub putAt : List ℕ → ℕ → List ℕ → List ℕ
-putAt dest at bytes = take at dest ++ (bytes ++ drop (at + length bytes) dest)
-
--- what putting them answers, the place after them, and leaves
-pub record Put (dest : List ℕ) (at : ℕ) (bytes : List ℕ) (next : ℕ) (after : List ℕ) : Type 0 where
-  pub next-is : next ≡ at + length bytes
-  pub after-is : after ≡ putAt dest at bytes

@@ -4,7 +4,7 @@ use Prim.Native.Nat.{_-_}
 use native.Mathlib.Omega.{arith}
 use borrow.Author.Needs.{needs}
 use Rattle.value.specs.Value.{encode}
-use Rattle.value.proofs.Laws.{put-three}
+use Rattle.value.proofs.Laws.{put-of, of-put, put-three}
 use Rattle.plan.specs.Write.{usedZones, zonesBytes, planBytes}
 use Rattle.plan.proofs.Places.{length-mapped}
 use Rattle.plan.proofs.Judge.{fit-of, used-small, count-most, size-small}
@@ -28,7 +28,7 @@ write-requires-2 : tie.Need-write-requires-2 Inv-loop μ-loop
 write-requires-2 c κs =
     let start = c .before .before .before .before .before .before .before in
     let p = start .args .plan in
-    (omega (arith, size-small _ (fit-of p (start .pre .0) .size-is)), omega (arith, plan-length p, c .before .before .before .write .ensures .next-is, c .before .before .before .write .kept .0))
+    (omega (arith, size-small _ (fit-of p (start .pre .0) .size-is)), omega (arith, plan-length p, put-of _ _ _ _ _ (c .before .before .before .write .ensures) .next-is, c .before .before .before .write .kept .0))
 
 loop-holds : tie.Need-loop-holds Inv-loop μ-loop
 loop-holds c =
@@ -36,7 +36,7 @@ loop-holds c =
     let p = start .args .plan in
     let w₁ = c .before .before .before .before .before .before .write in
     let w₂ = c .before .before .write2 in
-    put-begin _ _ _ _ (search (length-mapped, needs) depth 8) (count-most _ (fit-of p (start .pre .0) .count-is)) (omega (arith, plan-length p, w₁ .ensures .next-is, w₁ .kept .0, w₂ .ensures .next-is, w₂ .kept .0))
+    put-begin _ _ _ _ (search (length-mapped, needs) depth 8) (count-most _ (fit-of p (start .pre .0) .count-is)) (omega (arith, plan-length p, put-of _ _ _ _ _ (w₁ .ensures) .next-is, w₁ .kept .0, put-of _ _ _ _ _ (w₂ .ensures) .next-is, w₂ .kept .0))
 
 put-zone-requires : tie.Need-put-zone-requires Inv-loop μ-loop
 put-zone-requires c κs =
@@ -45,7 +45,7 @@ put-zone-requires c κs =
     (used-small (start .args .plan) _ (fit-of _ (start .pre .0)) (inv .places) (c .before .before .loop-test .taken), room-next inv (c .before .before .loop-test .taken))
 
 loop-again : tie.Need-loop-again Inv-loop μ-loop
-loop-again c = put-again (c .before .before .before .before .before .before .loop .inv) (c .before .before .before .before .before .loop-test .taken) (c .before .before .put-zone .ensures)
+loop-again c = put-again (c .before .before .before .before .before .before .loop .inv) (c .before .before .before .before .before .loop-test .taken) (put-of _ _ _ _ _ (c .before .before .put-zone .ensures))
 
 same-length : tie.Need-same-length Inv-loop μ-loop
 same-length c = kept (c .before .loop .inv) ∙ c .before .before .before .before .write2 .kept .0 ∙ c .before .before .before .before .before .before .before .before .write .kept .0
@@ -55,7 +55,7 @@ unfolding planBytes
 returns c =
     let start = c .before .before .before .before .before .before .before .before .before .before .before .before in
     let p = start .args .plan in
-    put-three (encode (p .count)) (encode (p .size)) (zonesBytes (usedZones p)) (omega (arith, start .pre .1)) (c .before .before .before .before .before .before .before .before .write .ensures) (c .before .before .before .before .write2 .ensures) (all-put (c .before .loop .inv) (c .loop-test .left))
+    of-put (put-three (encode (p .count)) (encode (p .size)) (zonesBytes (usedZones p)) (omega arith) (put-of _ _ _ _ _ (c .before .before .before .before .before .before .before .before .write .ensures)) (put-of _ _ _ _ _ (c .before .before .before .before .write2 .ensures)) (all-put (c .before .loop .inv) (c .loop-test .left)))
 
 pub put-plan-spec : {M : Type 1} → statement M
 put-plan-spec =

@@ -2,6 +2,7 @@
 use mathlib.Core.Path.{sym, _∙_}
 use native.Mathlib.Omega.{arith}
 use borrow.Author.Needs.{needs}
+use Rattle.value.proofs.Laws.{put-of}
 use Rattle.plan.proofs.Bytes.{write-no, write-short, write-done}
 use Rattle.plan.proofs.write.Statement.{statement}
 use Rattle.plan.proofs.write.Tie as tie
@@ -21,7 +22,7 @@ put-plan-requires c κs =
 
 returns-3 : tie.Need-returns-3
 returns-3 c =
-    write-done _ _ (c .before .before .before .before .before .before .before .plan-refusal .ensures) (c .before .before .before .before .before .before .if1 .left) (c .before .before .before .before .before .plan-size .ensures) (c .before .before .before .before .if2 .left) (c .before .before .put-plan .ensures)
+    write-done _ _ (c .before .before .before .before .before .before .before .plan-refusal .ensures) (c .before .before .before .before .before .before .if1 .left) (c .before .before .before .before .before .plan-size .ensures) (c .before .before .before .before .if2 .left) (put-of _ _ _ _ _ (c .before .before .put-plan .ensures))
 
 pub write-spec : {M : Type 1} → statement M
 write-spec =
