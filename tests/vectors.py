@@ -1,13 +1,19 @@
 """Writes and checks the stored vectors of the vector programs.
 
-    python3 tests/vectors.py map        writes crates/map_vectors/stdin and stdout
-    python3 tests/vectors.py --check    fails where a stored file differs from the reference
+    python3 tests/vectors.py map           writes crates/map_vectors/stdin and stdout
+    python3 tests/vectors.py collisions    writes crates/collision_vectors/stdin and stdout
+    python3 tests/vectors.py --check       fails where a stored file differs from the reference
 
 One request a line, numbers in base ten; the answer repeats the request, then a colon:
 
     p mode size cell slot subchannel index n    n points from this index on: symbol.carrier
     l mode size cell symbol carrier n           n carriers from this one on: guard, dc, pilot
                                                 or slot.subchannel.index
+    o size cell subchannel cell subchannel      collisions in optional FUSC: document 01's number
+                                                or 0, the count, the 48 marks as digits
+    s size cell subchannel cell                 the sum of these counts over all subchannels of
+                                                the second cell
+    a cell cell                                 collisions in AMC, as o
 
 A refused point or carrier stands as `refused` and document 01's number.
 """
@@ -122,7 +128,7 @@ def wrong_values(good, limit):
     return [limit, good + 2**16, good + 2**32, LARGEST]
 
 
-def refusals(operation, good, limits):
+def wrong_fields(good, limits):
     """Each field wrong alone, and together with each later one; the same wrong kind in both."""
     wrong = [wrong_values(g, limit) for g, limit in zip(good, limits)]
     for i in range(len(good)):
@@ -130,9 +136,14 @@ def refusals(operation, good, limits):
             for kind in range(4):
                 fields = list(good)
                 fields[i], fields[j] = wrong[i][kind], wrong[j][kind]
-                yield (operation, *fields, 1)
+                yield tuple(fields)
     for kind in range(4):
-        yield (operation, *(values[kind] for values in wrong), 1)
+        yield tuple(values[kind] for values in wrong)
+
+
+def refusals(operation, good, limits):
+    for fields in wrong_fields(good, limits):
+        yield (operation, *fields, 1)
 
 
 def edges(mode, size):
@@ -186,10 +197,124 @@ def map_requests():
     yield from scattered(300)
 
 
+# --- collisions -------------------------------------------------------------------------------
+
+# Choices that reach the figure of a size: cell and subchannel twice.
+REACHED = {256: (10, 0, 4, 2), 512: (32, 0, 45, 7), 1024: (0, 2, 244, 0), 2048: (0, 2, 1010, 0)}
+AMC_REACHED = (48, 176)
+
+
+def collisions_text(answer):
+    number, hits, count = answer
+    return "%d %d %s" % (number, count, "".join(map(str, hits)))
+
+
+def collisions_answer(request):
+    operation, fields = request[0], request[1:]
+    if operation == "o":
+        return collisions_text(ref.ofusc_collisions(*fields))
+    if operation == "a":
+        return collisions_text(ref.amc_collisions(*fields))
+    return str(sum(ref.ofusc_collisions(*fields, t)[2] for t in range(ref.n_of(fields[0]))))
+
+
+def known_collisions():
+    """The known points of document 01 that the two calls answer."""
+    yield ("o", 1024, 0, 6, 17, 0)
+    yield ("o", 1024, 0, 2, 244, 0)
+    yield ("o", 2048, 0, 2, 1010, 0)
+    yield ("a", 48, 176)
+
+
+def whole_sum(size, cell_a, subchannel, cell_b):
+    """Every subchannel of the second cell, and the sum of the counts."""
+    for t in range(ref.n_of(size)):
+        yield ("o", size, cell_a, subchannel, cell_b, t)
+    yield ("s", size, cell_a, subchannel, cell_b)
+
+
+def one_cell_twice(size, cell):
+    """A subchannel with itself, with its neighbour and with the last one."""
+    n = ref.n_of(size)
+    for s in range(n):
+        for t in sorted({s, (s + 1) % n, n - 1}):
+            yield ("o", size, cell, s, cell, t)
+
+
+def ofusc_edges(size):
+    """The last cell and subchannel and the first past it, first and second."""
+    n = ref.n_of(size)
+    for cell in (n * n - 1, n * n):
+        yield ("o", size, cell, 0, 0, 0)
+        yield ("o", size, 0, 0, cell, 0)
+    for subchannel in (n - 1, n):
+        yield ("o", size, 0, subchannel, 1, 0)
+        yield ("o", size, 0, 0, 1, subchannel)
+
+
+def scattered_ofusc(size, count):
+    """Accepted requests anywhere, from a fixed seed; then cells that share c1 or c2."""
+    dice = random.Random(size)
+    n = ref.n_of(size)
+    for _ in range(count):
+        a, b = dice.randrange(n * n), dice.randrange(n * n)
+        s, t = dice.randrange(n), dice.randrange(n)
+        yield ("o", size, a, s, b, t)
+        yield ("o", size, a, s, a // n * n + b % n, t)
+        yield ("o", size, a, s, b // n * n + a % n, t)
+
+
+def ofusc_requests(size):
+    n = ref.n_of(size)
+    a, s, b, t = REACHED[size]
+    last = n * n - 1
+    yield ("o", size, a, s, b, t)
+    yield ("o", size, b, t, a, s)
+    for cell_a, subchannel, cell_b in ((a, s, b), (last, n - 1, 0), (1, 1, n), (n + 1, 0, n + 1)):
+        yield from whole_sum(size, cell_a, subchannel, cell_b)
+    for cell in (0, 1, n, last):
+        yield from one_cell_twice(size, cell)
+    yield from ofusc_edges(size)
+    for fields in wrong_fields([size, 3, 2, 5, 1], [size + 1, n * n, n, n * n, n]):
+        yield ("o", *fields)
+    yield from scattered_ofusc(size, 40)
+
+
+def amc_requests():
+    yield ("a", *AMC_REACHED)
+    yield ("a", *reversed(AMC_REACHED))
+    for cell in (0, 47, 48, 2351):
+        yield ("a", cell, cell)
+        yield ("a", cell, 0)
+    for cell in (2351, 2352):
+        yield ("a", cell, 0)
+        yield ("a", 0, cell)
+    for fields in wrong_fields([3, 5], [2352, 2352]):
+        yield ("a", *fields)
+    dice = random.Random(7)
+    for _ in range(100):
+        a, b = dice.randrange(2352), dice.randrange(2352)
+        yield ("a", a, b)
+        yield ("a", a, a // 48 * 48 + b % 48)
+        yield ("a", a, b // 48 * 48 + a % 48)
+
+
+def collisions_requests():
+    yield from known_collisions()
+    for size in (0, 64, 128, 255, 257, 768, 1536, 4096, LARGEST):
+        yield ("o", size, 0, 0, 0, 0)
+    for size in ref.BIN_SIZES:
+        yield from ofusc_requests(size)
+    yield from amc_requests()
+
+
 # --- the stored files -------------------------------------------------------------------------
 
 # The name of a set of vectors: its crate, its requests, the answer to one.
-SETS = {"map": ("map_vectors", map_requests, map_answer)}
+SETS = {
+    "map": ("map_vectors", map_requests, map_answer),
+    "collisions": ("collision_vectors", collisions_requests, collisions_answer),
+}
 
 
 def files(name):

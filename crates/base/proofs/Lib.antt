@@ -4,5 +4,5 @@ pub mod Xor
 pub mod Perm
 pub mod LeaveOut
 pub mod Table
-pub mod Chain
 pub mod Tabulate
+pub mod Chain

@@ -31,7 +31,7 @@ module _ (y : ℕ) where
     unfolding usedOfData
     used-place = let l = place-lt in omega arith
 
-    data-used : dataOfUsed y (usedOfData y d) ≡ d
+    pub data-used : dataOfUsed y (usedOfData y d) ≡ d
     unfolding dataOfUsed
     data-used =
         ap₂ (λ (b w : ℕ). b * 8 + unskip p w) used-bin used-place
@@ -42,7 +42,7 @@ module _ (y : ℕ) where
     unfolding isBinPilot
     used-no-pilot = ne-eqb (usedOfData y d % 9) p (λ e. skip-ne p (d % 8) (sym used-place ∙ e))
 
-    used-lt : (n : ℕ) → d < 48 * n → usedOfData y d < 54 * n
+    pub used-lt : (n : ℕ) → d < 48 * n → usedOfData y d < 54 * n
     unfolding usedOfData
     used-lt n h = let l = place-lt in omega arith
 

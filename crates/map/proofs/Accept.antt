@@ -31,10 +31,10 @@ listed (suc (suc zero)) h = m2
 listed (suc (suc (suc zero))) h = m3
 listed (suc (suc (suc (suc m)))) h = absurd (omega arith)
 
-data Sized : ℕ → Type 0 where
+pub data Sized : ℕ → Type 0 where
   sized : {n : ℕ} → Width n → Sized (64 * n)
 
-four-sizes : (z : ℕ) → isFourSizes z ≡ true → Sized z
+pub four-sizes : (z : ℕ) → isFourSizes z ≡ true → Sized z
 unfolding isFourSizes
 four-sizes z h =
     cases (eqb z 256)
@@ -63,7 +63,7 @@ unfolding isMode
 valid c e₁ e₂ e₃ = valid-at (c .size) (c .cell) (listed (c .mode) (ltb-true (c .mode) 4 e₁)) e₂ e₃
 
 -- and a valid setup passes
-size-passes : {n : ℕ} → Width n → isFourSizes (64 * n) ≡ true
+pub size-passes : {n : ℕ} → Width n → isFourSizes (64 * n) ≡ true
 unfolding isFourSizes
 size-passes n4 = refl
 size-passes n8 = refl

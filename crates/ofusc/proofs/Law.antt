@@ -32,7 +32,7 @@ module _ {n : ℕ} (w : Width n) (cell : ℕ) where
   element-lt s m h = sum-lt w s (mask n cell (groupOf s m)) h (mask-lt w cell (groupOf s m))
 
   -- the digits of a data number
-  group-digit : (s m : ℕ) → s < n → dataNumber n cell s m / n ≡ groupOf s m
+  pub group-digit : (s m : ℕ) → s < n → dataNumber n cell s m / n ≡ groupOf s m
   unfolding dataNumber element
   group-digit s m h = digits-div (groupOf s m) (element-lt s m h)
 

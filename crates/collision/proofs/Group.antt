@@ -1,0 +1,81 @@
+-- Groups of optional FUSC: where a subchannel's point lies in group k, and that two are on one carrier where their elements of the field are the same. Assumes nothing.
+use mathlib.Core.Path.{_≡_, sym, ap, ap₂, _∙_}
+use Prim.Native.Nat.{ℕ, _+_, _*_, _<_}
+use native.Mathlib.Omega.{arith}
+use lib.Arith.{digits-lt}
+use lib.Bits.{bitXor}
+use lib.Dec.{lit<, eqb}
+use borrow.Author.Tests.{eqb-true, eqb-false, eq-eqb, ne-eqb}
+use Rattle.base.proofs.Test.{cases}
+use Rattle.base.proofs.Perm.{rotation}
+use Rattle.carriers.specs.Band.{binBand, carrierOf, usedOf}
+use Rattle.carriers.specs.Bin.{usedOfData, dataOfUsed}
+use Rattle.carriers.proofs.Guards.{bin-band, used-carrier}
+use Rattle.carriers.proofs.Bin.{data-used, used-lt}
+use Rattle.ofusc.specs.Width.{Width}
+use Rattle.ofusc.specs.Map.{groupOf, mask, dataNumber}
+use Rattle.ofusc.proofs.Sequence.{pos, sum-lt, mask-lt}
+use Rattle.map.specs.Mode.{width, band, spotOf}
+use Rattle.map.specs.Place.{placeAt}
+use Rattle.map.specs.Valid.{setup}
+use Rattle.map.proofs.Accept.{width-is}
+use Rattle.collision.specs.Collision.{indexIn, carrierIn, ofuscHit}
+
+-- two tests agree where the one equation holds just when the other does
+pub same-test : (p q x y : ℕ) → (p ≡ q → x ≡ y) → (x ≡ y → p ≡ q) → eqb p q ≡ eqb x y
+same-test p q x y f g =
+    cases (eqb x y)
+    (λ e. eq-eqb p q (g (eqb-true x y e)) ∙ sym e)
+    (λ e. ne-eqb p q (λ h. eqb-false x y e (f h)) ∙ sym e)
+
+-- the carrier of data number d in symbol y
+abbrev pub carrierAt : ℕ → ℕ → ℕ → ℕ
+carrierAt n y d = carrierOf (binBand n) (usedOfData y d)
+
+-- it has no other data number
+number-at : (n y d : ℕ) → 0 < n → d < 48 * n → dataOfUsed y (usedOf (binBand n) (carrierAt n y d)) ≡ d
+number-at n y d p h = ap (dataOfUsed y) (used-carrier (binBand n) (64 * n) (bin-band n p) (usedOfData y d) (used-lt y d n h)) ∙ data-used y d
+
+pub same-number : (n y d e : ℕ) → 0 < n → d < 48 * n → e < 48 * n → carrierAt n y d ≡ carrierAt n y e → d ≡ e
+same-number n y d e p hd he q =
+    sym (number-at n y d p hd) ∙ ap (λ (x : ℕ). dataOfUsed y (usedOf (binBand n) x)) q ∙ number-at n y e p he
+
+-- index (k-23s) mod 48 of subchannel s is in group k
+group-in : (s k : ℕ) → k < 48 → groupOf s (indexIn s k) ≡ k
+unfolding groupOf indexIn
+group-in s k h = rotation 48 (23 * s) (lit< tt) .forth k h
+
+pub index-lt : (s k : ℕ) → indexIn s k < 48
+unfolding indexIn
+index-lt s k = omega arith
+
+module _ {n : ℕ} (w : Width n) (k : ℕ) (h : k < 48) where
+  -- the element of subchannel s in group k
+  abbrev pub element : ℕ → ℕ → ℕ
+  element cell s = bitXor s (mask n cell k)
+
+  pub element-lt : (cell s : ℕ) → s < n → element cell s < n
+  element-lt cell s l = sum-lt w s (mask n cell k) l (mask-lt w cell k)
+
+  pub number-in : (cell s : ℕ) → dataNumber n cell s (indexIn s k) ≡ k * n + element cell s
+  unfolding dataNumber
+  number-in cell s = ap (λ (g : ℕ). g * n + bitXor s (mask n cell g)) (group-in s k h)
+
+  carrier-in : (cell slot s : ℕ) → carrierIn (setup 2 (64 * n) cell) slot s k ≡ carrierAt n slot (k * n + element cell s)
+  unfolding carrierIn placeAt spotOf width band
+  carrier-in cell slot s = rw (width-is n, number-in cell s)
+
+  -- the carriers of a group are different
+  pub same-element : (slot x y : ℕ) → x < n → y < n → carrierAt n slot (k * n + x) ≡ carrierAt n slot (k * n + y) → x ≡ y
+  same-element slot x y hx hy e =
+      let d = same-number n slot (k * n + x) (k * n + y) (pos w) (digits-lt h hx) (digits-lt h hy) e in
+      omega arith
+
+  -- THE COMPARISON INSIDE THE FIELD: two subchannels have the same carrier in group k just where they have the same element
+  pub hit-is : (a s b t : ℕ) → s < n → t < n → ofuscHit (64 * n) a s b t k ≡ eqb (element a s) (element b t)
+  unfolding ofuscHit
+  hit-is a s b t hs ht =
+      ap₂ eqb (carrier-in a 0 s) (carrier-in b 0 t)
+      ∙ same-test _ _ _ _
+      (same-element 0 (element a s) (element b t) (element-lt a s hs) (element-lt b t ht))
+      (ap (λ (x : ℕ). carrierAt n 0 (k * n + x)))

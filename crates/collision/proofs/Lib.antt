@@ -1,0 +1,14 @@
+-- Laws of collisions, and the planners' figures.
+pub mod Count
+pub mod Pass
+pub mod Group
+pub mod Outcome
+pub mod Field
+pub mod FieldTest
+pub mod Cells
+pub mod DifferenceTest
+pub mod ThreeKinds
+pub mod Placing
+pub mod OfuscHits
+pub mod AmcHits
+pub mod Figures

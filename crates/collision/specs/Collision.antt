@@ -1,0 +1,61 @@
+-- Collisions of two cells: document 01, "Meetings". Its marks are the hits.
+use mathlib.Core.Bool.{Bool, false}
+use mathlib.Core.List.{List, [], _∷_}
+use Prim.Native.Nat.{ℕ, _+_, _*_}
+use lib.Dec.{eqb}
+use Rattle.base.specs.Choice.{pick}
+use Rattle.base.specs.Answer.{Answer, accepted, refused, ask}
+use Rattle.base.specs.Steps.{unrotate}
+use Rattle.base.specs.Tabulate.{tabulate}
+use Rattle.amc.specs.Map.{traffic}
+use Rattle.map.specs.declared.Setup.{Setup}
+use Rattle.map.specs.Mode.{spotOf}
+use Rattle.map.specs.Question.{isFourSizes, isCell, isSubchannel}
+use Rattle.map.specs.Place.{placeAt}
+use Rattle.map.specs.Valid.{setup}
+use Rattle.collision.specs.declared.Collisions.{Collisions}
+
+-- how many marks are set
+unfoldable pub countOf : List Bool → ℕ
+countOf [] = 0
+countOf (hit ∷ hits) = pick hit 1 0 + countOf hits
+
+-- Each subchannel has one point in group k: that of index m with k = (m+23s) mod 48, which is (k-23s) mod 48.
+unfoldable pub indexIn : ℕ → ℕ → ℕ
+indexIn s k = unrotate 48 (23 * s) k
+
+-- the carrier of that point, in the symbol of a slot
+unfoldable pub carrierIn : Setup → ℕ → ℕ → ℕ → ℕ
+carrierIn c slot s k = placeAt c slot (spotOf c slot s (indexIn s k)) .carrier
+
+-- Spread: the group is marked exactly when both subchannels have the same carrier there. The answer is the same for every symbol, so symbol 0 is looked at.
+unfoldable pub ofuscHit : ℕ → ℕ → ℕ → ℕ → ℕ → ℕ → Bool
+ofuscHit size a s b t k = eqb (carrierIn (setup 2 size a) 0 s k) (carrierIn (setup 2 size b) 0 t k)
+
+-- Adjacent: 48 marks, one an index, set exactly when both cells give the same v.
+unfoldable pub amcHit : ℕ → ℕ → ℕ → Bool
+amcHit a b j = eqb (traffic a j) (traffic b j)
+
+-- The answer is 48 marks and their count; a no gives the number, with marks and count all zero.
+unfoldable pub answerOf : Answer (ℕ → Bool) → Collisions
+answerOf (accepted hit) = record { refusal = 0; hits = tabulate 48 hit; count = countOf (tabulate 48 hit) }
+answerOf (refused number) = record { refusal = number; hits = tabulate 48 (λ k. false); count = 0 }
+
+-- Spread: size, cell and subchannel twice. The questions are put as for mode 2: it has 2, 3 and 5.
+unfoldable pub ofuscOf : ℕ → ℕ → ℕ → ℕ → ℕ → Collisions
+ofuscOf size a s b t =
+    answerOf
+    (ask (isFourSizes size) 2
+    (ask (isCell (setup 2 size a)) 3
+    (ask (isCell (setup 2 size b)) 3
+    (ask (isSubchannel (setup 2 size a) s) 5
+    (ask (isSubchannel (setup 2 size b) t) 5
+    (accepted (ofuscHit size a s b t)))))))
+
+-- Adjacent: two cells. Only question 3 is put, as for mode 3, whose cells are the same at every size.
+unfoldable pub amcOf : ℕ → ℕ → Collisions
+amcOf a b =
+    answerOf
+    (ask (isCell (setup 3 2048 a)) 3
+    (ask (isCell (setup 3 2048 b)) 3
+    (accepted (amcHit a b))))

@@ -1,0 +1,84 @@
+-- Reading from a place on, value by value and zone by zone. Assumes nothing.
+use mathlib.Core.Path.{_≡_, refl, sym, ap, _∙_}
+use mathlib.Core.List.{List, [], _∷_, _++_, append-nil}
+use Prim.Native.Nat.{ℕ, suc, _+_, _-_, _<_, _≤_}
+use native.Mathlib.Omega.{arith}
+use native.Mathlib.Numerals.{add-one}
+use lib.ListN.{length, drop, set, length-append, length-drop}
+use lib.Seq.{append-snoc}
+use borrow.Author.Tests.{eq-eqb, ne-eqb}
+use Rattle.base.specs.Answer.{accepted, refused}
+use Rattle.value.specs.declared.Found.{Found as ValueFound}
+use Rattle.value.specs.declared.Found.the-variants.{Value}
+use Rattle.value.specs.Value.{found, valueOf}
+use Rattle.value.proofs.Laws.{within}
+use Rattle.plan.specs.declared.Zone.{Zone}
+use Rattle.plan.specs.declared.ZoneFound.{ZoneFound}
+use Rattle.plan.specs.declared.ZoneFound.the-variants.{Found, Refused}
+use Rattle.plan.specs.declared.Before.{Before}
+use Rattle.plan.specs.declared.Before.the-variants.{First, After}
+use Rattle.plan.specs.Zone.{zoneNumber, inPlaces}
+use Rattle.plan.specs.Read.{zoneOf, zoneFound, readZones, finish, zonesOf}
+use Rattle.plan.proofs.Places.{set-places}
+use Rattle.plan.proofs.Number.{numbered, yes-all, no-first, zone-by}
+
+-- what `value::read` found at a place lies within the bytes
+pub value-within : (s : List ℕ) (at : ℕ) {r : ValueFound} {x n : ℕ} → found r ≡ valueOf (drop at s) → r ≡ Value x n → at + n ≤ length s
+value-within s at e q = within s at (sym e ∙ ap found q)
+
+-- While zones are read: those that are done stand in the first places, and the rest gives what the whole gives.
+pub record Reading (s : List ℕ) (at count size : ℕ) (zones : List Zone) (prior : Before) (next k : ℕ) : Type 0 where
+  pub done : List Zone
+  pub number-done : length done ≡ k
+  pub below : k ≤ count
+  pub places : zones ≡ inPlaces 8 done
+  pub rest : zonesOf count size (drop at s) ≡ readZones (count - k) size prior (drop next s) (λ further s₁. finish count size (done ++ further) s₁)
+
+pub begin : (s : List ℕ) (at count size : ℕ) {zones : List Zone} → zones ≡ inPlaces 8 [] → Reading s at count size zones First at 0
+unfolding zonesOf
+begin s at count size e = record { done = []; number-done = refl; below = omega arith; places = e; rest = ap (λ n. readZones n size First (drop at s) (finish count size)) (omega arith) }
+
+module _ {s : List ℕ} {at count size : ℕ} {zones : List Zone} {prior : Before} {next k : ℕ} (h : Reading s at count size zones prior next k) where
+  -- one zone more is to be read
+  module _ (l : k < count) (r : ZoneFound) (f : zoneFound s r ≡ zoneOf (drop next s)) where
+    ahead : zonesOf count size (drop at s) ≡ readZones (suc (count - suc k)) size prior (drop next s) (λ further s₁. finish count size (h .done ++ further) s₁)
+    ahead = h .rest ∙ ap (λ n. readZones n size prior (drop next s) (λ further s₁. finish count size (h .done ++ further) s₁)) (omega arith)
+
+    pub zone-none : {n : ℕ} → r ≡ Refused n → refused n ≡ zonesOf count size (drop at s)
+    unfolding readZones
+    zone-none q = rw (ahead, ← f, q)
+
+    module _ {z : Zone} {after n : ℕ} (q : r ≡ Found z after) (e : n ≡ zoneNumber size prior z) where
+      asked : zonesOf count size (drop at s) ≡ numbered n (readZones (count - suc k) size (After (z .mode)) (drop after s) (λ further s₁. finish count size (h .done ++ z ∷ further) s₁))
+      unfolding readZones
+      asked = rw (ahead, ← f, q, e) (zone-by size prior z _)
+
+      pub zone-refused : (n ≡ 0 → ⊥) → refused n ≡ zonesOf count size (drop at s)
+      zone-refused nonzero = sym (asked ∙ no-first n _ nonzero)
+
+      pub again : n ≡ 0 → count ≤ 8 → Reading s at count size (set zones k z) (After (z .mode)) after (k + 1)
+      again zero most =
+          record {
+            done = h .done ++ z ∷ [];
+            number-done = simp length-append (omega (arith, h .number-done));
+            below = omega arith;
+            places = rw (h .places, ← h .number-done) (set-places 8 (h .done) z (omega (arith, h .number-done)));
+            rest = simp (append-snoc, add-one) (asked ∙ yes-all n _ zero);
+          }
+
+  -- all zones are read
+  module _ (l : count ≤ k) where
+    ended : zonesOf count size (drop at s) ≡ finish count size (h .done) (drop next s)
+    unfolding readZones
+    ended = h .rest ∙ ap (λ n. readZones n size prior (drop next s) (λ further s₁. finish count size (h .done ++ further) s₁)) none ∙ ap (λ list. finish count size list (drop next s)) (append-nil (h .done))
+      where
+        none : count - k ≡ 0
+        none = omega arith
+
+    pub too-long : next < length s → refused 15 ≡ zonesOf count size (drop at s)
+    unfolding finish
+    too-long t = rw (ended, length-drop, ne-eqb (length s - next) 0 (λ z. omega arith))
+
+    pub whole : length s ≤ next → accepted (record { count = count; size = size; zones = zones }) ≡ zonesOf count size (drop at s)
+    unfolding finish
+    whole t = rw (ended, length-drop, eq-eqb (length s - next) 0 (omega arith), ← h .places)

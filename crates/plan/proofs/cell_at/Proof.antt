@@ -1,0 +1,26 @@
+-- `plan::cell_at` meets its contract. Assumes nothing.
+use native.Mathlib.Omega.{arith}
+use lib.Seq.{drop-drop}
+use borrow.Author.Needs.{needs}
+use Rattle.plan.specs.Read.{afterMode}
+use Rattle.plan.proofs.Step.{value-within}
+use Rattle.plan.proofs.cell_at.Statement.{statement}
+use Rattle.plan.proofs.cell_at.Tie as tie
+
+add-next : tie.Need-add-slots-at
+add-next c =
+    let a = c .before .before .before .before .before .args in
+    omega (arith, value-within (a .bytes .now) (a .at) (c .before .before .before .read .ensures) (c .before .value .given .1))
+
+returns : tie.Need-returns
+unfolding afterMode
+returns c = rw (← c .before .before .before .read .ensures, c .before .number .given .1)
+
+returns-2 : tie.Need-returns-2
+unfolding afterMode
+returns-2 c = rw (← c .before .before .before .before .read .ensures, c .before .before .value .given .1, drop-drop) (c .slots-at .ensures)
+
+pub cell-at-spec : {M : Type 1} → statement M
+cell-at-spec =
+    tie.close
+    (tie.spec (λ c κs. search needs) (λ c. search needs) (λ c. search needs) add-next (λ c κs. search needs) returns returns-2)

@@ -1,0 +1,41 @@
+-- `plan::zones_refusal` meets its contract: the zones from the k-th on give the number that all give. Assumes nothing.
+use mathlib.Core.Path.{_≡_, refl, _∙_}
+use Prim.Native.Nat.{_-_, _≤_}
+use native.Mathlib.Omega.{arith}
+use borrow.Author.Needs.{needs}
+use lib.ListN.{length, take, drop}
+use Rattle.plan.specs.declared.Before.the-variants.{First}
+use Rattle.plan.specs.Write.{zonesNumber}
+use Rattle.plan.proofs.Places.{length-mapped}
+use Rattle.plan.proofs.Number.{zones-no, zones-next, zones-end}
+use Rattle.plan.proofs.zones_refusal.Statement.{statement}
+use Rattle.plan.proofs.zones_refusal.Tie as tie
+
+abbrev Inv-loop : tie.InvT-loop
+Inv-loop count size zones prior₀ k₀ prior k = (length zones ≡ 8) × (count ≤ 8) × (zonesNumber size prior (drop k (take count zones)) ≡ zonesNumber size First (take count zones))
+
+abbrev μ-loop : tie.MeasureT-loop
+μ-loop count size zones prior₀ k₀ prior k = count - k
+
+loop-holds : tie.Need-loop-holds Inv-loop μ-loop
+loop-holds c = (search (length-mapped, needs) depth 8, c .before .pre, refl)
+
+returns : tie.Need-returns Inv-loop μ-loop
+returns c =
+    let inv = c .before .before .before .before .loop .inv in
+    zones-no _ _ _ _ _ _ (c .before .before .before .loop-test .taken) (omega (arith, inv .0, inv .1)) (c .before .zone-refusal .ensures) (c .if1 .taken) ∙ inv .2
+
+loop-again : tie.Need-loop-again Inv-loop μ-loop
+loop-again c =
+    let inv = c .before .before .before .before .loop .inv in
+    (inv .0, inv .1, zones-next _ _ _ _ _ _ (c .before .before .before .loop-test .taken) (omega (arith, inv .0, inv .1)) (c .before .zone-refusal .ensures) (c .if1 .left) ∙ inv .2)
+
+returns-2 : tie.Need-returns-2 Inv-loop μ-loop
+returns-2 c =
+    let inv = c .before .loop .inv in
+    zones-end _ _ _ _ _ (c .loop-test .left) (omega (arith, inv .0, inv .1)) ∙ inv .2
+
+pub zones-refusal-spec : {M : Type 1} → statement M
+zones-refusal-spec =
+    tie.close
+    (tie.spec Inv-loop μ-loop loop-holds (λ c. search needs) (λ c. search needs) (λ c κs. search needs) returns (λ c. search needs) (λ c. search needs) loop-again returns-2)

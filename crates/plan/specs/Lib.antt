@@ -1,0 +1,3 @@
+pub mod Zone
+pub mod Read
+pub mod Write

@@ -1,0 +1,384 @@
+// The zone plan: judging a plan, reading and writing its bytes.
+use map::Setup;
+use value::Found;
+ghost use mathlib.Core.Path.{_≡_};
+ghost use Prim.Native.Nat.{_+_, _≤_};
+ghost use lib.ListN.{length, drop};
+ghost use Rattle.text.specs.Text.{written, wrote};
+ghost use Rattle.base.specs.Answer.{refused as no};
+ghost use Rattle.plan.specs.Zone.{isOpening, isFollowing, isOrder, slotsNumber, ownNumber, zoneNumber};
+ghost use Rattle.plan.specs.Write.{isUnused, areUnused, usedZones, zonesNumber, planNumber, Small, zoneBytes, planBytes, outcome, writeOf};
+ghost use Rattle.plan.specs.Read.{zoneFound, zoneOf, afterMode, afterCell, zonesOf, readValue, afterSize, planOf, answered};
+
+// One zone: mode, cell and how many slots.
+pub struct Zone {
+    pub mode: usize,
+    pub cell: usize,
+    pub slots: usize,
+}
+
+// A plan: its zones stand in the first places, unused places are all zero.
+pub struct Plan {
+    pub count: usize,
+    pub size: usize,
+    pub zones: [Zone; 8],
+}
+
+// The refusal, or 0 and the plan.
+pub struct ReadPlan {
+    pub refusal: u8,
+    pub plan: Plan,
+}
+
+// How many bytes were written, or the refusal.
+pub enum Written {
+    Bytes(usize),
+    Refused(u8),
+}
+
+// What stands before a zone: nothing, or a zone of a mode.
+pub enum Before {
+    First,
+    After(usize),
+}
+
+// A zone and the place after it, or the refusal.
+pub enum ZoneFound {
+    Found { zone: Zone, next: usize },
+    Refused(u8),
+}
+
+fn slots_refusal(slots: usize) -> u8
+    ensures { λ r. ⌜ r ≡ slotsNumber slots ⌝ }
+{
+    if slots == 0 {
+        return 13;
+    }
+    if 512 < slots {
+        return 13;
+    }
+    0
+}
+
+// The number of the first of a zone's own questions that is answered no, or 0.
+pub fn own_refusal(size: usize, zone: Zone) -> u8
+    ensures { λ r. ⌜ r ≡ ownNumber size zone ⌝ }
+{
+    if zone.mode == 1 {
+        return 1;
+    }
+    let setup = map::refusal(Setup {
+        mode: zone.mode,
+        size: size,
+        cell: zone.cell,
+    });
+    let slots = slots_refusal(zone.slots);
+    if setup != 0 {
+        return setup;
+    }
+    slots
+}
+
+fn is_opening(size: usize, zone: Zone) -> bool
+    ensures { λ r. ⌜ r ≡ isOpening size zone ⌝ }
+{
+    if size != 2048 {
+        return true;
+    }
+    if zone.mode != 0 {
+        return false;
+    }
+    zone.cell == 0
+}
+
+fn is_following(mode: usize, zone: Zone) -> bool
+    ensures { λ r. ⌜ r ≡ isFollowing mode zone ⌝ }
+{
+    if mode != 3 {
+        return true;
+    }
+    zone.mode == 3
+}
+
+fn is_order(size: usize, prior: Before, zone: Zone) -> bool
+    ensures { λ r. ⌜ r ≡ isOrder prior size zone ⌝ }
+{
+    match prior {
+        Before::First => is_opening(size, zone),
+        Before::After(mode) => is_following(mode, zone),
+    }
+}
+
+// The number of the first question put to a zone in its plan that is answered no, or 0.
+fn zone_refusal(size: usize, prior: Before, zone: Zone) -> u8
+    ensures { λ r. ⌜ r ≡ zoneNumber size prior zone ⌝ }
+{
+    let own = own_refusal(size, zone);
+    if own != 0 {
+        return own;
+    }
+    if is_order(size, prior, zone) {
+        return 0;
+    }
+    14
+}
+
+fn refused(number: u8) -> ReadPlan
+    ensures { λ r. ⌜ r ≡ answered (no number) ⌝ }
+{
+    ReadPlan {
+        refusal: number,
+        plan: Plan {
+            count: 0,
+            size: 0,
+            zones: [Zone {
+                mode: 0,
+                cell: 0,
+                slots: 0,
+            }; 8],
+        },
+    }
+}
+
+// The zone whose first byte stands at a place.
+fn zone_at(bytes: &[u8], at: usize) -> ZoneFound
+    ensures { λ r. ⌜ zoneFound (now (bytes .entry)) r ≡ zoneOf (drop at (now (bytes .entry))) ⌝ }
+{
+    match value::read(bytes, at) {
+        Found::Refused(number) => ZoneFound::Refused(number),
+        Found::Value { value, size } => cell_at(bytes, at + size, value),
+    }
+}
+
+fn cell_at(bytes: &[u8], at: usize, mode: usize) -> ZoneFound
+    ensures { λ r. ⌜ zoneFound (now (bytes .entry)) r ≡ afterMode mode (drop at (now (bytes .entry))) ⌝ }
+{
+    match value::read(bytes, at) {
+        Found::Refused(number) => ZoneFound::Refused(number),
+        Found::Value { value, size } => slots_at(bytes, at + size, mode, value),
+    }
+}
+
+fn slots_at(bytes: &[u8], at: usize, mode: usize, cell: usize) -> ZoneFound
+    ensures { λ r. ⌜ zoneFound (now (bytes .entry)) r ≡ afterCell mode cell (drop at (now (bytes .entry))) ⌝ }
+{
+    match value::read(bytes, at) {
+        Found::Refused(number) => ZoneFound::Refused(number),
+        Found::Value { value, size } => ZoneFound::Found {
+            zone: Zone {
+                mode: mode,
+                cell: cell,
+                slots: value,
+            },
+            next: at + size,
+        },
+    }
+}
+
+// The zones whose first byte stands at a place, to the end of the bytes.
+fn zones_at(bytes: &[u8], at: usize, count: usize, size: usize) -> ReadPlan
+    requires { ⌜ count ≤ 8 ⌝ }
+    ensures { λ r. ⌜ r ≡ answered (zonesOf count size (drop at (now (bytes .entry)))) ⌝ }
+{
+    let mut zones = [Zone {
+        mode: 0,
+        cell: 0,
+        slots: 0,
+    }; 8];
+    let mut prior = Before::First;
+    let mut next = at;
+    let mut k = 0;
+    while k < count {
+        match zone_at(bytes, next) {
+            ZoneFound::Refused(number) => return refused(number),
+            ZoneFound::Found { zone, next: after } => {
+                let number = zone_refusal(size, prior, zone);
+                if number != 0 {
+                    return refused(number);
+                }
+                zones[k] = zone;
+                prior = Before::After(zone.mode);
+                next = after;
+                k += 1;
+            }
+        }
+    }
+    if next < bytes.len() {
+        return refused(15);
+    }
+    ReadPlan {
+        refusal: 0,
+        plan: Plan {
+            count: count,
+            size: size,
+            zones: zones,
+        },
+    }
+}
+
+fn size_at(bytes: &[u8], at: usize, count: usize) -> ReadPlan
+    requires { ⌜ count ≤ 8 ⌝ }
+    ensures { λ r. ⌜ r ≡ answered (readValue (drop at (now (bytes .entry))) (afterSize count)) ⌝ }
+{
+    match value::read(bytes, at) {
+        Found::Refused(number) => refused(number),
+        Found::Value { value, size } => {
+            if !map::is_four_sizes(value) {
+                return refused(2);
+            }
+            zones_at(bytes, at + size, count, value)
+        }
+    }
+}
+
+// The plan that the bytes are, or the first refusal.
+pub fn read(bytes: &[u8]) -> ReadPlan
+    ensures { λ r. ⌜ r ≡ answered (planOf (now (bytes .entry))) ⌝ }
+{
+    match value::read(bytes, 0) {
+        Found::Refused(number) => refused(number),
+        Found::Value { value, size } => {
+            if value == 0 {
+                return refused(12);
+            }
+            if 8 < value {
+                return refused(12);
+            }
+            size_at(bytes, size, value)
+        }
+    }
+}
+
+fn is_unused(zone: Zone) -> bool
+    ensures { λ r. ⌜ r ≡ isUnused zone ⌝ }
+{
+    if zone.mode != 0 {
+        return false;
+    }
+    if zone.cell != 0 {
+        return false;
+    }
+    zone.slots == 0
+}
+
+// Is every place from the count on unused?
+fn are_unused(plan: Plan) -> bool
+    ensures { λ r. ⌜ r ≡ areUnused (drop (plan .count) (plan .zones)) ⌝ }
+{
+    let count = plan.count;
+    let zones = plan.zones;
+    let mut k = count;
+    while k < 8 {
+        if !is_unused(zones[k]) {
+            return false;
+        }
+        k += 1;
+    }
+    true
+}
+
+// The number of the first question that a zone of the plan answers no, or 0.
+fn zones_refusal(plan: Plan) -> u8
+    requires { ⌜ plan .count ≤ 8 ⌝ }
+    ensures { λ r. ⌜ r ≡ zonesNumber (plan .size) Before.First (usedZones plan) ⌝ }
+{
+    let count = plan.count;
+    let size = plan.size;
+    let zones = plan.zones;
+    let mut prior = Before::First;
+    let mut k = 0;
+    while k < count {
+        let zone = zones[k];
+        let number = zone_refusal(size, prior, zone);
+        if number != 0 {
+            return number;
+        }
+        prior = Before::After(zone.mode);
+        k += 1;
+    }
+    0
+}
+
+// The number of the first of a plan's questions that is answered no, or 0.
+fn plan_refusal(plan: Plan) -> u8
+    ensures { λ r. ⌜ r ≡ planNumber plan ⌝ }
+{
+    if plan.count == 0 {
+        return 12;
+    }
+    if 8 < plan.count {
+        return 12;
+    }
+    if !are_unused(plan) {
+        return 12;
+    }
+    if !map::is_four_sizes(plan.size) {
+        return 2;
+    }
+    zones_refusal(plan)
+}
+
+// How many bytes a zone takes.
+fn zone_size(zone: Zone) -> usize
+    requires { ⌜ Small zone ⌝ }
+    ensures { λ r. ⌜ r ≡ length (zoneBytes zone) ⌝ }
+{
+    value::size(zone.mode) + (value::size(zone.cell) + value::size(zone.slots))
+}
+
+// How many bytes an accepted plan takes.
+fn plan_size(plan: Plan) -> usize
+    requires { ⌜ planNumber plan ≡ 0 ⌝ }
+    ensures { λ r. ⌜ r ≡ length (planBytes plan) ⌝ }
+{
+    let count = plan.count;
+    let zones = plan.zones;
+    let mut n = value::size(count) + value::size(plan.size);
+    let mut k = 0;
+    while k < count {
+        n += zone_size(zones[k]);
+        k += 1;
+    }
+    n
+}
+
+// Puts a zone at a place where it fits; answers the place after it.
+fn put_zone(dest: &mut [u8], at: usize, zone: Zone) -> usize
+    requires { ⌜ Small zone × (at + length (zoneBytes zone) ≤ length (now dest)) ⌝ }
+    ensures { λ r. ⌜ written (now (dest .exit)) r ≡ wrote (now (dest .entry)) at (zoneBytes zone) ⌝ }
+{
+    let cell = value::write(dest, at, zone.mode);
+    let slots = value::write(dest, cell, zone.cell);
+    value::write(dest, slots, zone.slots)
+}
+
+// Puts an accepted plan where it fits; answers how many bytes it takes.
+fn put_plan(dest: &mut [u8], plan: Plan) -> usize
+    requires { ⌜ (planNumber plan ≡ 0) × (length (planBytes plan) ≤ length (now dest)) ⌝ }
+    ensures { λ r. ⌜ written (now (dest .exit)) r ≡ wrote (now (dest .entry)) 0 (planBytes plan) ⌝ }
+{
+    let used = plan.count;
+    let zones = plan.zones;
+    let size = value::write(dest, 0, used);
+    let mut at = value::write(dest, size, plan.size);
+    let mut k = 0;
+    while k < used {
+        at = put_zone(dest, at, zones[k]);
+        k += 1;
+    }
+    at
+}
+
+// Writes a plan at the destination's start: how many bytes, or the first refusal.
+pub fn write(plan: Plan, dest: &mut [u8]) -> Written
+    ensures { λ r. ⌜ outcome r (now (dest .exit)) ≡ writeOf plan (now (dest .entry)) ⌝ }
+{
+    let number = plan_refusal(plan);
+    if number != 0 {
+        return Written::Refused(number);
+    }
+    if dest.len() < plan_size(plan) {
+        return Written::Refused(16);
+    }
+    Written::Bytes(put_plan(dest, plan))
+}
