@@ -86,7 +86,7 @@ pub fn is_dc(b: Band, carrier: usize) -> bool
 }
 
 // The pilot's place in each bin of symbol y.
-fn bin_pilot_place(y: usize) -> usize
+pub fn bin_pilot_place(y: usize) -> usize
     ensures { λ r. ⌜ r ≡ binPilotPlace y ⌝ }
 {
     3 * (y % 3) + 1

@@ -142,6 +142,12 @@ subchannels-few (pusc-ul h) = omega arith
 subchannels-few (ofusc w h) = omega (arith, size w .most)
 subchannels-few (amc w h) = omega (arith, size w .most)
 
+pub row-few : {c : Setup} → Valid c → (row : ℕ) → row < symbols c → row * c .size ≤ 6144
+row-few {c} v row h =
+    let r = symbols-range v in
+    let z = size-few v in
+    mul-le-mul {n₁ = row} {m₁ = c .size} {n₂ = 3} {m₂ = 2048} (omega arith) z
+
 pub left-few : {c : Setup} → Valid c → band c .left ≤ 184
 unfolding band width
 left-few (pusc-dl h) = omega arith

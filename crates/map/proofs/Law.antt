@@ -1,6 +1,6 @@
 -- THE LAW OF THE MAP, for every mode, size and cell that the questions let pass. It rests on the law of a slot, and on no mode's text. Assumes nothing.
 use mathlib.Core.Path.{_≡_, sym, ap, _∙_, subst}
-use mathlib.Core.Bool.{false}
+use mathlib.Core.Bool.{true, false}
 use Prim.Native.Nat.{ℕ, _+_, _*_, _/_, _%_, _<_}
 use native.Mathlib.Nat.{mod-lt, div-add-mod', div-lt-iff-lt-mul}
 use native.Mathlib.Omega.{arith}
@@ -17,7 +17,7 @@ use Rattle.carriers.proofs.Guards.{carrier-lt, carrier-no-guard, carrier-no-dc,
 use Rattle.map.specs.declared.Setup.{Setup}
 use Rattle.map.specs.Mode.{subchannels, symbols, band, isPilot, spotOf, addressOf}
 use Rattle.map.specs.Question.{askSetup, isMode, isSize, isCell, isSlot, isSymbol, isSubchannel, isIndex, isCarrier}
-use Rattle.map.specs.Place.{Place, Content, point, placeAt, placeOf, pointAt, contentOf, locateOf}
+use Rattle.map.specs.Place.{Place, Content, pilot, point, placeAt, placeOf, pointAt, contentOf, locateOf}
 use Rattle.map.specs.Valid.{Valid}
 use Rattle.map.proofs.Accept.{valid, passes}
 use Rattle.map.proofs.ByMode.{symbols-range, size-few, subchannels-few}
@@ -94,7 +94,7 @@ module _ (c : Setup) (v : Valid c) (slot s m : ℕ) (hs : s < subchannels c) (hm
   abbrev l : LawOf c slot
   l = slot-law v slot
 
-  content-placed : contentOf c (slot * symbols c + x .offset) (carrierOf (band c) (x .used)) ≡ point slot s m
+  pub content-placed : contentOf c (slot * symbols c + x .offset) (carrierOf (band c) (x .used)) ≡ point slot s m
   unfolding contentOf pointAt
   content-placed =
       let h = l .lies s m hs hm in
@@ -207,3 +207,26 @@ pub point-small : (c : Setup) (y k slot s m : ℕ) → locateOf c y k ≡ accept
 point-small c y k slot s m e =
     let q = placing c slot s m (placed-where-located c y k slot s m e) in
     omega (arith, q .slot-lt, q .subchannel-lt, q .index-lt, subchannels-few (q .is-valid))
+
+-- a pilot's carrier holds the pilot, and a carrier that holds a pilot is a pilot's
+pub pilot-content : (c : Setup) → Valid c → (y u : ℕ) → u < band c .used → isPilot c y u ≡ true → contentOf c y (carrierOf (band c) u) ≡ pilot
+unfolding contentOf
+pilot-content c v y u h e =
+    let b = band-law v in
+    rw (carrier-no-guard (band c) (c .size) b u h, carrier-no-dc (band c) (c .size) b u h, used-carrier (band c) (c .size) b u h, e)
+
+pub record PilotAt (c : Setup) (y k : ℕ) : Type 0 where
+  pub used-below : usedOf (band c) k < band c .used
+  pub is-pilot : isPilot c y (usedOf (band c) k) ≡ true
+  pub carrier-is : carrierOf (band c) (usedOf (band c) k) ≡ k
+
+pub pilot-at : (c : Setup) → Valid c → (y k : ℕ) → contentOf c y k ≡ pilot → PilotAt c y k
+unfolding contentOf pointAt
+pilot-at c v y k e =
+    cases (isGuard (band c) (c .size) k)
+    (λ g. absurd (let h = rw g at e in let z : _≡_ {A = ℕ} 0 1 = cc in omega arith))
+    (λ g. cases (isDc (band c) k)
+    (λ d. absurd (let h = rw (g, d) at e in let z : _≡_ {A = ℕ} 0 1 = cc in omega arith))
+    (λ d. cases (isPilot c y (usedOf (band c) k))
+    (λ p. record { used-below = used-lt (band c) (c .size) (band-law v) k g d; is-pilot = p; carrier-is = carrier-used (band c) (c .size) (band-law v) k g d })
+    (λ p. absurd (let h = rw (g, d, p) at e in let z : _≡_ {A = ℕ} 0 1 = cc in omega arith))))

@@ -301,12 +301,12 @@ fn unrenumber(cell: usize, l: Logical) -> Physical
 }
 
 // The two pilots of a cluster.
-struct PilotPlaces {
-    first: usize,
-    second: usize,
+pub struct PilotPlaces {
+    pub first: usize,
+    pub second: usize,
 }
 
-fn pilots(symbol: usize) -> PilotPlaces
+pub fn pilots(symbol: usize) -> PilotPlaces
     ensures { λ r. ⌜ (r .first ≡ firstPilot symbol) × (r .second ≡ secondPilot symbol) ⌝ }
 {
     if symbol % 2 == 0 {

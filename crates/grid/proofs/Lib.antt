@@ -1,0 +1,11 @@
+-- Laws of grids.
+pub mod Points
+pub mod Slot
+pub mod Pilots
+pub mod PilotRows
+pub mod Filled
+pub mod Copy
+pub mod Refusal
+pub mod Passes
+pub mod Looked
+pub mod Round

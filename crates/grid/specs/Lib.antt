@@ -1,0 +1,5 @@
+pub mod Points
+pub mod Row
+pub mod Question
+pub mod Grid
+pub mod Model

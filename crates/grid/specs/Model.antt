@@ -1,0 +1,73 @@
+-- How fill and empty go about it, put by put: what the inner functions' contracts cite. No reader needs these to know what the calls do.
+use mathlib.Core.List.{List}
+use Prim.Native.Nat.{ℕ, zero, suc, _+_, _*_, _/_, _%_}
+use lib.Dec.{eqb}
+use lib.ListN.{set}
+use lib.Ieee.{Float}
+use Rattle.base.specs.Choice.{pick}
+use Rattle.carriers.specs.Bin.{binPilotPlace}
+use Rattle.pusc_dl.specs.Cluster.{firstPilot, secondPilot}
+use Rattle.map.specs.declared.Setup.{Setup}
+use Rattle.map.specs.Mode.{byMode, width, symbols}
+use Rattle.grid.specs.declared.Point.{Point}
+use Rattle.grid.specs.declared.Comb.{Comb}
+use Rattle.grid.specs.Points.{pointAt}
+use Rattle.grid.specs.Row.{usedPosition}
+use Rattle.grid.specs.Grid.{standsAt, pointNumber}
+
+-- a buffer with point n put
+unfoldable pub putPoint : List Float → ℕ → Point → List Float
+putPoint floats n p = set (set floats (n * 2) (p .i)) (n * 2 + 1) (p .q)
+
+-- the first m points of a source put at their places
+unfoldable pub puts : (ℕ → ℕ) → (ℕ → Point) → ℕ → List Float → List Float
+puts place source zero floats = floats
+puts place source (suc m) floats = putPoint (puts place source m floats) (place m) (source m)
+
+-- the corners of the tiles; the middle symbol of a slot has none
+abbrev pub tileComb : ℕ → Comb
+tileComb y = record { first = 0; second = 3; step = 4; count = pick (eqb (y % 3) 1) 0 420 }
+
+-- the pilots of symbol y of the zone: in each of `count` runs of `step` used numbers the places `first` and `second`
+unfoldable pub combOf : Setup → ℕ → Comb
+combOf c y =
+    byMode (c .mode)
+    (record { first = firstPilot y; second = secondPilot y; step = 14; count = 120 })
+    (tileComb y)
+    (record { first = binPilotPlace y; second = binPilotPlace y; step = 9; count = 6 * width c })
+    (record { first = binPilotPlace y; second = binPilotPlace y; step = 9; count = 6 * width c })
+
+-- the used number of a comb's pilot j, two a run
+abbrev pub pilotNumber : Comb → ℕ → ℕ
+pilotNumber b j = j / 2 * b .step + pick (eqb (j % 2) 0) (b .first) (b .second)
+
+abbrev pub pilotPlace : Setup → ℕ → Comb → ℕ → ℕ
+pilotPlace c row b j = usedPosition c row (pilotNumber b j)
+
+-- the pilot point put on the pilots of a row, and of the first rows of a slot
+unfoldable pub pilotRow : Setup → ℕ → Point → ℕ → List Float → List Float
+pilotRow c slot p row floats =
+    let b = combOf c (slot * symbols c + row) in
+    puts (pilotPlace c row b) (λ j. p) (b .count * 2) floats
+
+unfoldable pub pilotRows : Setup → ℕ → Point → ℕ → List Float → List Float
+pilotRows c slot p zero floats = floats
+pilotRows c slot p (suc row) floats = pilotRow c slot p row (pilotRows c slot p row floats)
+
+-- the points of one subchannel, and of the first s subchannels, laid on the grid
+unfoldable pub laidOne : Setup → ℕ → List Float → ℕ → List Float → List Float
+laidOne c slot points s floats =
+    puts (λ m. standsAt c slot (pointNumber s m)) (λ m. pointAt points (pointNumber s m)) 48 floats
+
+unfoldable pub laid : Setup → ℕ → List Float → ℕ → List Float → List Float
+laid c slot points zero floats = floats
+laid c slot points (suc s) floats = laidOne c slot points s (laid c slot points s floats)
+
+-- the points of one subchannel, and of the first s subchannels, taken off the grid
+unfoldable pub takenOne : Setup → ℕ → List Float → ℕ → List Float → List Float
+takenOne c slot grid s floats =
+    puts (λ m. pointNumber s m) (λ m. pointAt grid (standsAt c slot (pointNumber s m))) 48 floats
+
+unfoldable pub taken : Setup → ℕ → List Float → ℕ → List Float → List Float
+taken c slot grid zero floats = floats
+taken c slot grid (suc s) floats = takenOne c slot grid s (taken c slot grid s floats)

@@ -1,0 +1,340 @@
+// Grids: laying a slot's points on the carriers, taking them off again, and looking at one carrier.
+use map::Located;
+use map::Setup;
+ghost use mathlib.Core.Path.{_≡_};
+ghost use lib.Ieee.{Float};
+ghost use Prim.Native.Nat.{_+_, _*_, _%_, _<_};
+ghost use lib.ListN.{length, replicate};
+ghost use Rattle.map.specs.Mode.{symbols, subchannels, band};
+ghost use Rattle.map.specs.Place.{located};
+ghost use Rattle.map.specs.Valid.{Valid};
+ghost use Rattle.base.specs.Answer.{number};
+ghost use Rattle.grid.specs.Points.{zero32, pointAt};
+ghost use Rattle.grid.specs.Row.{gridPoints, position as Position, usedPosition};
+ghost use Rattle.grid.specs.Question.{slotNumber};
+ghost use Rattle.grid.specs.Grid.{standsAt, pointNumber, fillOf, emptyOf, seen, sightOf, lookOf};
+ghost use Rattle.grid.specs.Model.{putPoint, combOf, tileComb, pilotNumber, pilotRow, pilotRows, laidOne, takenOne};
+
+// A point, in-phase first.
+pub struct Point {
+    pub i: f32,
+    pub q: f32,
+}
+
+// What `look` finds on a carrier, or the first refusal.
+pub enum Seen {
+    Nothing,
+    Pilot(Point),
+    Data {
+        point: Point,
+        slot: usize,
+        subchannel: usize,
+        index: usize,
+    },
+    Refused(u8),
+}
+
+// The pilots of a symbol: in each of `count` runs of `step` used numbers the places `first` and `second`.
+struct Comb {
+    first: usize,
+    second: usize,
+    step: usize,
+    count: usize,
+}
+
+// Point n of a buffer.
+fn point_at(floats: &[f32], n: usize) -> Point
+    requires { ⌜ n * 2 + 1 < length (now floats) ⌝ }
+    ensures { λ r. ⌜ r ≡ pointAt (now (floats .entry)) n ⌝ }
+{
+    Point {
+        i: floats[n * 2],
+        q: floats[n * 2 + 1],
+    }
+}
+
+fn put_point(floats: &mut [f32], n: usize, p: Point)
+    requires { ⌜ n * 2 + 1 < length (now floats) ⌝ }
+    ensures { λ _. ⌜ now (floats .exit) ≡ putPoint (now (floats .entry)) n p ⌝ }
+{
+    floats[n * 2] = p.i;
+    floats[n * 2 + 1] = p.q;
+}
+
+// Zeros everywhere.
+fn clear(floats: &mut [f32])
+    ensures { λ _. ⌜ now (floats .exit) ≡ replicate (length (now (floats .entry))) zero32 ⌝ }
+{
+    for j in 0..floats.len() {
+        floats[j] = 0.0;
+    }
+}
+
+// Where a used number of a row stands in the grid.
+fn position(c: Setup, row: usize, used: usize) -> usize
+    requires { ⌜ Valid c ⌝ }
+    requires { ⌜ (row < symbols c) × (used < band c .used) ⌝ }
+    ensures { λ r. ⌜ (r ≡ usedPosition c row used) × (r < gridPoints c) ⌝ }
+{
+    row * c.size + carriers::carrier(map::band(c), used)
+}
+
+fn pilot_comb(c: Setup, symbol: usize) -> Comb
+    requires { ⌜ Valid c ⌝ }
+    ensures { λ r. ⌜ r ≡ combOf c symbol ⌝ }
+{
+    if c.mode == 0 {
+        let p = pusc_dl::pilots(symbol);
+        return Comb {
+            first: p.first,
+            second: p.second,
+            step: 14,
+            count: 120,
+        };
+    }
+    if c.mode == 1 {
+        return tile_comb(symbol);
+    }
+    let place = carriers::bin_pilot_place(symbol);
+    Comb {
+        first: place,
+        second: place,
+        step: 9,
+        count: 6 * map::width(c),
+    }
+}
+
+// The corners of the tiles; the middle symbol of a slot has none.
+fn tile_comb(symbol: usize) -> Comb
+    ensures { λ r. ⌜ r ≡ tileComb symbol ⌝ }
+{
+    if symbol % 3 == 1 {
+        return Comb {
+            first: 0,
+            second: 3,
+            step: 4,
+            count: 0,
+        };
+    }
+    Comb {
+        first: 0,
+        second: 3,
+        step: 4,
+        count: 420,
+    }
+}
+
+// The used number of a comb's pilot j.
+fn pilot_number(k: Comb, j: usize) -> usize
+    requires { ⌜ (k .first < 16) × (k .second < 16) × (k .step < 16) × (j < 65536) ⌝ }
+    ensures { λ r. ⌜ r ≡ pilotNumber k j ⌝ }
+{
+    if j % 2 == 0 {
+        return j / 2 * k.step + k.first;
+    }
+    j / 2 * k.step + k.second
+}
+
+fn put_used(c: Setup, row: usize, used: usize, p: Point, grid: &mut [f32])
+    requires { ⌜ Valid c ⌝ }
+    requires { ⌜ (row < symbols c) × (used < band c .used) × (length (now grid) ≡ 2 * gridPoints c) ⌝ }
+    ensures { λ _. ⌜ now (grid .exit) ≡ putPoint (now (grid .entry)) (usedPosition c row used) p ⌝ }
+{
+    put_point(grid, position(c, row, used), p);
+}
+
+// The pilot point on the pilots of a row.
+fn pilot_row(c: Setup, slot: usize, row: usize, p: Point, grid: &mut [f32])
+    requires { ⌜ Valid c ⌝ }
+    requires { ⌜ (slot < 512) × (row < symbols c) × (length (now grid) ≡ 2 * gridPoints c) ⌝ }
+    ensures { λ _. ⌜ now (grid .exit) ≡ pilotRow c slot p row (now (grid .entry)) ⌝ }
+{
+    let k = pilot_comb(c, slot * map::symbols(c) + row);
+    let pilots = k.count * 2;
+    let mut j = 0;
+    while j < pilots {
+        put_used(c, row, pilot_number(k, j), p, grid);
+        j += 1;
+    }
+}
+
+// Zeros, and the pilot point on the pilots.
+fn ground(c: Setup, slot: usize, p: Point, grid: &mut [f32])
+    requires { ⌜ Valid c ⌝ }
+    requires { ⌜ (slot < 512) × (length (now grid) ≡ 2 * gridPoints c) ⌝ }
+    ensures { λ _. ⌜ now (grid .exit) ≡ pilotRows c slot p (symbols c) (replicate (2 * gridPoints c) zero32) ⌝ }
+{
+    clear(grid);
+    let rows = map::symbols(c);
+    let mut row = 0;
+    while row < rows {
+        pilot_row(c, slot, row, p, grid);
+        row += 1;
+    }
+}
+
+// Where in the grid a point of the slot stands.
+fn stands(c: Setup, slot: usize, subchannel: usize, index: usize) -> usize
+    requires { ⌜ Valid c ⌝ }
+    requires { ⌜ (subchannel < subchannels c) × (index < 48) ⌝ }
+    ensures { λ r. ⌜ (r ≡ standsAt c slot (pointNumber subchannel index)) × (r < gridPoints c) ⌝ }
+{
+    let x = map::spot(c, slot, subchannel, index);
+    position(c, x.offset, x.used)
+}
+
+// The points of one subchannel laid on the grid.
+fn lay(c: Setup, slot: usize, subchannel: usize, points: &[f32], grid: &mut [f32])
+    requires { ⌜ Valid c ⌝ }
+    requires { ⌜ (subchannel < subchannels c) × (length (now points) ≡ 96 * subchannels c) × (length (now grid) ≡ 2 * gridPoints c) ⌝ }
+    ensures { λ _. ⌜ now (grid .exit) ≡ laidOne c slot (now (points .entry)) subchannel (now (grid .entry)) ⌝ }
+{
+    let first = subchannel * 48;
+    let mut m = 0;
+    while m < 48 {
+        let n = stands(c, slot, subchannel, m);
+        put_point(grid, n, point_at(points, first + m));
+        m += 1;
+    }
+}
+
+// The points of one subchannel taken off the grid.
+fn take(c: Setup, slot: usize, subchannel: usize, grid: &[f32], points: &mut [f32])
+    requires { ⌜ Valid c ⌝ }
+    requires { ⌜ (subchannel < subchannels c) × (length (now points) ≡ 96 * subchannels c) × (length (now grid) ≡ 2 * gridPoints c) ⌝ }
+    ensures { λ _. ⌜ now (points .exit) ≡ takenOne c slot (now (grid .entry)) subchannel (now (points .entry)) ⌝ }
+{
+    let first = subchannel * 48;
+    let mut m = 0;
+    while m < 48 {
+        let n = stands(c, slot, subchannel, m);
+        put_point(points, first + m, point_at(grid, n));
+        m += 1;
+    }
+}
+
+// The number of the first of questions 1, 2, 3, 4, 8 and 9 that is answered no, or 0.
+fn slot_refusal(c: Setup, slot: usize, points: usize, grid: usize) -> u8
+    ensures { λ r. ⌜ r ≡ slotNumber c slot points grid ⌝ }
+{
+    let k = map::refusal(c);
+    if k != 0 {
+        return k;
+    }
+    if 512 <= slot {
+        return 4;
+    }
+    if points != 96 * map::subchannels(c) {
+        return 8;
+    }
+    if grid != 2 * grid_points(c) {
+        return 9;
+    }
+    0
+}
+
+// The points of a slot's grid.
+fn grid_points(c: Setup) -> usize
+    requires { ⌜ Valid c ⌝ }
+    ensures { λ r. ⌜ (r ≡ gridPoints c) × (r < 65536) ⌝ }
+{
+    map::symbols(c) * c.size
+}
+
+// Lays a slot's points on its grid, with the pilot point on pilots and 0.0 elsewhere; or the first refusal of 1, 2, 3, 4, 8, 9.
+pub fn fill(c: Setup, slot: usize, pilot: Point, points: &[f32], grid: &mut [f32]) -> u8
+    ensures { λ r. ⌜ record { number = r; buffer = now (grid .exit) } ≡ fillOf c slot pilot (now (points .entry)) (now (grid .entry)) ⌝ }
+{
+    let k = slot_refusal(c, slot, points.len(), grid.len());
+    if k != 0 {
+        return k;
+    }
+    ground(c, slot, pilot, grid);
+    let n = map::subchannels(c);
+    let mut s = 0;
+    while s < n {
+        lay(c, slot, s, points, grid);
+        s += 1;
+    }
+    0
+}
+
+// Takes a slot's points off its grid; or the first refusal of 1, 2, 3, 4, 8, 9.
+pub fn empty(c: Setup, slot: usize, grid: &[f32], points: &mut [f32]) -> u8
+    ensures { λ r. ⌜ record { number = r; buffer = now (points .exit) } ≡ emptyOf c slot (now (grid .entry)) (now (points .entry)) ⌝ }
+{
+    let k = slot_refusal(c, slot, points.len(), grid.len());
+    if k != 0 {
+        return k;
+    }
+    let n = map::subchannels(c);
+    let mut s = 0;
+    while s < n {
+        take(c, slot, s, grid, points);
+        s += 1;
+    }
+    0
+}
+
+// What is seen on a carrier that holds what `found` says, with the point p there.
+fn sight(found: Located, p: Point) -> Seen
+    ensures { λ r. ⌜ seen r ≡ sightOf (located found) p ⌝ }
+{
+    match found {
+        Located::Guard => Seen::Nothing,
+        Located::Dc => Seen::Nothing,
+        Located::Pilot => Seen::Pilot(p),
+        Located::Data {
+            slot,
+            subchannel,
+            index,
+        } => Seen::Data {
+            point: p,
+            slot,
+            subchannel,
+            index,
+        },
+        Located::Refused(number) => Seen::Refused(number),
+    }
+}
+
+// The number of a refusal, or 0.
+fn refusal_of(found: Located) -> u8
+    ensures { λ r. ⌜ r ≡ number (located found) ⌝ }
+{
+    match found {
+        Located::Guard => 0,
+        Located::Dc => 0,
+        Located::Pilot => 0,
+        Located::Data {
+            slot: _,
+            subchannel: _,
+            index: _,
+        } => 0,
+        Located::Refused(number) => number,
+    }
+}
+
+// Where a carrier of a zone's symbol stands in its slot's grid.
+fn carrier_position(c: Setup, symbol: usize, carrier: usize) -> usize
+    requires { ⌜ Valid c ⌝ }
+    requires { ⌜ carrier < c .size ⌝ }
+    ensures { λ r. ⌜ (r ≡ Position c (symbol % symbols c) carrier) × (r < gridPoints c) ⌝ }
+{
+    symbol % map::symbols(c) * c.size + carrier
+}
+
+// The point on a carrier of a zone's symbol, and whose it is; or the first refusal of 1, 2, 3, 4, 7, 9.
+pub fn look(c: Setup, symbol: usize, grid: &[f32], carrier: usize) -> Seen
+    ensures { λ r. ⌜ seen r ≡ lookOf c symbol (now (grid .entry)) carrier ⌝ }
+{
+    let found = map::locate(c, symbol, carrier);
+    let k = refusal_of(found);
+    if k != 0 {
+        return Seen::Refused(k);
+    }
+    if grid.len() != 2 * grid_points(c) {
+        return Seen::Refused(9);
+    }
+    sight(found, point_at(grid, carrier_position(c, symbol, carrier)))
+}
