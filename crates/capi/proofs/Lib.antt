@@ -1,3 +1,4 @@
 -- Laws of the C interface.
 pub mod Map
 pub mod Collision
+pub mod Grid

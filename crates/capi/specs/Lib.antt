@@ -1,3 +1,4 @@
 -- What the C functions write: document 01's values where the request is accepted, else nothing.
 pub mod Map
 pub mod Collision
+pub mod Grid

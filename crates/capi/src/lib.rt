@@ -1,5 +1,7 @@
 // The C interface: thin functions over the engine. Each returns 0, or document 01's refusal number; on a refusal nothing is written.
 use collision::Collisions;
+use grid::Point;
+use grid::Seen;
 use map::Located;
 use map::Placed;
 use map::Setup;
@@ -11,6 +13,8 @@ ghost use Rattle.map.specs.Place.{placeOf, locateOf};
 ghost use Rattle.collision.specs.Collision.{ofuscOf, amcOf};
 ghost use Rattle.capi.specs.Map.{PlaceOut, placeOut, LocateOut, locateOut};
 ghost use Rattle.capi.specs.Collision.{CollisionOut, collisionOut};
+ghost use Rattle.grid.specs.Grid.{Outcome, fillOf, emptyOf, lookOf};
+ghost use Rattle.capi.specs.Grid.{pairPoint, LookOut, lookOut};
 
 fn setup(mode: u32, size: u32, cell: u32) -> Setup
     ensures { λ r. ⌜ r ≡ record { mode = mode; size = size; cell = cell } ⌝ }
@@ -151,4 +155,88 @@ pub extern "C" fn bp_amc_collisions(
 {
     let answer = collision::amc(cell_a as usize, cell_b as usize);
     hand_over(answer, hits, count)
+}
+
+#[no_mangle]
+pub extern "C" fn bp_fill(
+    mode: u32,
+    size: u32,
+    cell: u32,
+    slot: u32,
+    pilot: &[f32; 2],
+    points: &[f32],
+    grid: &mut [f32],
+) -> u32
+    ensures { λ r. ⌜ record { number = r; buffer = now (grid .exit) } ≡ fillOf (record { mode = mode; size = size; cell = cell }) slot (pairPoint (now (pilot .entry))) (now (points .entry)) (now (grid .entry)) ⌝ }
+{
+    let p = Point {
+        i: pilot[0],
+        q: pilot[1],
+    };
+    let number = grid::fill(setup(mode, size, cell), slot as usize, p, points, grid);
+    number as u32
+}
+
+#[no_mangle]
+pub extern "C" fn bp_empty(
+    mode: u32,
+    size: u32,
+    cell: u32,
+    slot: u32,
+    grid: &[f32],
+    points: &mut [f32],
+) -> u32
+    ensures { λ r. ⌜ record { number = r; buffer = now (points .exit) } ≡ emptyOf (record { mode = mode; size = size; cell = cell }) slot (now (grid .entry)) (now (points .entry)) ⌝ }
+{
+    let number = grid::empty(setup(mode, size, cell), slot as usize, grid, points);
+    number as u32
+}
+
+#[no_mangle]
+pub extern "C" fn bp_look(
+    mode: u32,
+    size: u32,
+    cell: u32,
+    symbol: u32,
+    grid: &[f32],
+    carrier: u32,
+    kind: &mut u32,
+    point: &mut [f32; 2],
+    slot: &mut u32,
+    subchannel: &mut u32,
+    index: &mut u32,
+) -> u32
+    ensures { λ r. ⌜ record { number = r; kind = now (kind .exit); point = now (point .exit); slot = now (slot .exit); subchannel = now (subchannel .exit); index = now (index .exit) } ≡ lookOut (lookOf (record { mode = mode; size = size; cell = cell }) symbol (now (grid .entry)) carrier) (now (kind .entry)) (now (point .entry)) (now (slot .entry)) (now (subchannel .entry)) (now (index .entry)) ⌝ }
+{
+    let answer = grid::look(
+        setup(mode, size, cell),
+        symbol as usize,
+        grid,
+        carrier as usize,
+    );
+    match answer {
+        Seen::Nothing => {
+            *kind = 0;
+            0
+        }
+        Seen::Pilot(p) => {
+            *kind = 2;
+            *point = [p.i, p.q];
+            0
+        }
+        Seen::Data {
+            point: d,
+            slot: t,
+            subchannel: b,
+            index: n,
+        } => {
+            *kind = 3;
+            *point = [d.i, d.q];
+            *slot = t as u32;
+            *subchannel = b as u32;
+            *index = n as u32;
+            0
+        }
+        Seen::Refused(number) => number as u32,
+    }
 }
