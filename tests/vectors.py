@@ -308,12 +308,160 @@ def collisions_requests():
     yield from amc_requests()
 
 
+# --- plans ------------------------------------------------------------------------------------
+
+# A buffer of so many bytes, each of this value, of which the first are the destination.
+ROOM, BEFORE = 48, 238
+
+# Plans as (size, zones).
+PLANS = [
+    (1024, [(2, 17, 3), (3, 176, 1)]),
+    (2048, [(0, 0, 12)]),
+    (256, [(2, 15, 512)]),
+    (512, [(3, 2351, 1), (3, 0, 512)]),
+    (2048, [(0, 0, 1), (2, 1023, 512), (0, 31, 2), (3, 48, 127), (3, 2351, 128)]),
+    (2048, [(0, 0, 1)] + [(2, 1023, 512)] * 7),
+    (1024, [(3, 2351, 512)] * 8),
+]
+
+
+def plans_answer(request):
+    if request[0] == "r":
+        number, count, size, zones = ref.read_plan(request[2:])
+        return " ".join(map(str, [number, count, size] + [x for zone in zones for x in zone]))
+    length, count, size = request[1:4]
+    zones = [tuple(request[i : i + 3]) for i in range(4, 28, 3)]
+    number, written, dest = ref.write_plan(count, size, zones, [BEFORE] * length)
+    return " ".join(map(str, [number, written] + dest + [BEFORE] * (ROOM - length)))
+
+
+def reading(data):
+    return ("r", len(data), *data)
+
+
+def writing(length, count, size, zones):
+    places = list(zones) + [ref.NO_ZONE] * (ref.PLACES - len(zones))
+    return ("w", length, count, size, *(x for zone in places for x in zone))
+
+
+def plan_bytes(count, size, zones):
+    """The bytes of any plan, accepted or not."""
+    return [byte for x in [count, size] + [x for zone in zones for x in zone] for byte in ref.write_value(x)]
+
+
+def one_zone(size, zone):
+    """A zone where no rule on its order speaks: alone, or behind a first zone that is right."""
+    return [(0, 0, 1), zone] if size == 2048 else [zone]
+
+
+def wrong_plans():
+    """(count, size, zones) with one fault, and with two, where the first question decides."""
+    good = [(2, 3, 4)]
+    for count in (0, 9, 127, 128):
+        yield count, 1024, good * min(count, 9)
+    yield 0, 1000, []
+    yield 9, 128, [(1, 9999, 0)]
+    for size in (0, 64, 128, 255, 1023, 1025, 4096):
+        yield 1, size, good
+        yield 1, size, [(1, 9999, 0)]
+    for size in ref.BIN_SIZES:
+        for mode in (0, 1, 2, 3, 4, 127, 128):
+            for cell in (0, 31, 32, 255, 256, 1023, 1024, 2351, 2352):
+                for slots in (0, 1, 512, 513):
+                    if (mode in (1, 4, 127, 128) and cell not in (0, 2352)) or (slots in (0, 513) and cell in (31, 255)):
+                        continue
+                    zones = one_zone(size, (mode, cell, slots))
+                    yield len(zones), size, zones
+        for slots in (0, 1, 512, 513):
+            yield 1, size, [(3, 5, slots)]
+            yield 2, size, one_zone(256, (0, 0, slots)) * 2
+    for first in ((0, 0, 1), (0, 1, 1), (2, 0, 1), (3, 0, 1), (2, 0, 0), (0, 32, 1), (1, 0, 0)):
+        yield 1, 2048, [first]
+        yield 2, 2048, [first, (3, 1, 1)]
+    for size in ref.BIN_SIZES:
+        for mode in (0, 1, 2, 3):
+            start = one_zone(size, (3, 1, 1))
+            yield len(start) + 1, size, start + [(mode, 1, 1)]
+            yield len(start) + 1, size, start + [(mode, 1, 0)]
+
+
+def changed_bytes(data):
+    """Each byte in turn by others: more follow or not, nothing, one bit."""
+    for i, byte in enumerate(data):
+        for other in sorted({byte ^ 128, 0, 128, byte ^ 1, 255}):
+            if other != byte:
+                yield data[:i] + [other] + data[i + 1 :]
+
+
+def plan_readings():
+    for data in ([], [0x81, 0], [0x80], [0x80, 0x80], [0x80] * 3, [0x80, 0x80, 0], [0xFF, 0xFF, 0x7F], [0x80, 0]):
+        yield data
+        yield data + [1]
+        yield [1] + data
+        yield [1, 0x80, 0x08] + data
+        yield [1, 0x80, 0x08, 2] + data
+        yield [1, 0x80, 0x08, 2, 3] + data
+    for size, zones in PLANS:
+        data = plan_bytes(len(zones), size, zones)
+        for end in range(len(data)):
+            yield data[:end]
+        yield data
+        yield data + [0]
+        yield data + [0x80]
+        yield from changed_bytes(data) if len(data) < 30 else ()
+    for count, size, zones in wrong_plans():
+        data = plan_bytes(count, size, zones)
+        yield data
+        yield data + [0]
+    yield [0, 0x80]
+    yield [1, 0, 0x80]
+    yield [1, 0x80, 0x08, 1, 0]
+    yield [2, 0x80, 0x10, 2, 0, 1]
+
+
+def with_number(zones, place, field, value):
+    places = list(zones) + [ref.NO_ZONE] * (ref.PLACES - len(zones))
+    places[place] = places[place][:field] + (value,) + places[place][field + 1 :]
+    return places
+
+
+def plan_writings():
+    for size, zones in PLANS:
+        for length in range(len(plan_bytes(len(zones), size, zones)) + 2):
+            yield length, len(zones), size, zones
+        for place in sorted({len(zones), 7}):
+            for field in range(3):
+                if len(zones) < ref.PLACES:
+                    yield ROOM, len(zones), size, with_number(zones, place, field, 1)
+                    yield ROOM, len(zones), size, with_number(zones, place, field, LARGEST)
+        for count in (0, 9, 2**32, LARGEST):
+            yield ROOM, count, size, zones
+            yield 0, count, size, zones
+        for field in range(3):
+            for value in (2**21, 2**32, LARGEST):
+                yield ROOM, len(zones), size, with_number(zones, len(zones) - 1, field, value)
+    for count, size, zones in wrong_plans():
+        if len(zones) <= ref.PLACES:
+            yield ROOM, count, size, zones
+    for size in (1024 + 2**32, LARGEST):
+        yield ROOM, 1, size, [(2, 3, 4)]
+    yield ROOM, 1, 1024, []
+
+
+def plans_requests():
+    for data in plan_readings():
+        yield reading(data)
+    for length, count, size, zones in plan_writings():
+        yield writing(length, count, size, zones)
+
+
 # --- the stored files -------------------------------------------------------------------------
 
 # The name of a set of vectors: its crate, its requests, the answer to one.
 SETS = {
     "map": ("map_vectors", map_requests, map_answer),
     "collisions": ("collision_vectors", collisions_requests, collisions_answer),
+    "plans": ("plan_vectors", plans_requests, plans_answer),
 }
 
 

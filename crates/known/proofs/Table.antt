@@ -5,6 +5,7 @@ use borrow.Author.Tests.{lt-ltb}
 use Rattle.base.specs.Steps.{skip, unskip}
 use Rattle.base.specs.Tabulate.{tabulate}
 use Rattle.map.specs.Place.{placeOf, locateOf, placeAt, contentOf, pointAt}
+use Rattle.plan.proofs.Points.{starred}
 use Rattle.known.specs.Table.{Known, AnyCell}
 use Rattle.carriers.specs.Band as band
 use Rattle.carriers.specs.Bin as bin
@@ -34,4 +35,5 @@ known =
       line-8 = refl;
       line-9 = refl;
       line-10 = any-cell;
+      line-11 = starred;
     }

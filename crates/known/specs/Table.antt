@@ -1,4 +1,4 @@
--- Document 01, "Known points": the starred lines, in its order, as one statement. A line's number is its place among the eleven; those on collisions (3 to 6) and on plans (11) come with their calls.
+-- Document 01, "Known points": the starred lines, in its order, as one statement. A line's number is its place among the eleven; those on collisions (3 to 6) come with their calls.
 use mathlib.Core.Path.{_≡_}
 use mathlib.Core.Bool.{Bool, true, false}
 use mathlib.Core.List.{List, [], _∷_}
@@ -8,6 +8,8 @@ use Rattle.base.specs.Tabulate.{tabulate}
 use Rattle.pusc_ul.specs.Tile.{tileOf}
 use Rattle.map.specs.Valid.{setup}
 use Rattle.map.specs.Place.{Place, Content, guard, dc, pilot, point, placeOf, locateOf}
+use Rattle.plan.specs.declared.Zone.{Zone}
+use Rattle.plan.specs.Read.{planWith, planOf}
 
 abbrev pub at : ℕ → ℕ → Answer Place
 at y k = accepted (record { symbol = y; carrier = k })
@@ -22,6 +24,10 @@ isPoint (refused number) = false
 -- the tiles of line 9
 abbrev pub tiles : List ℕ
 tiles = 1 ∷ 83 ∷ 166 ∷ 256 ∷ 324 ∷ 380 ∷ []
+
+-- the zone of line 11
+abbrev pub zone : ℕ → ℕ → ℕ → Zone
+zone m c n = record { mode = m; cell = c; slots = n }
 
 -- what a carrier holds under any PUSC downlink cell
 pub record AnyCell (cell : ℕ) : Type 0 where
@@ -43,3 +49,5 @@ pub record Known : Type 0 where
   pub line-9 : tabulate 6 (tileOf 0 5) ≡ tiles
   -- Down, any cell, carrier 184: data in symbol 0, pilot in symbol 1; 183 guard, 1024 DC.
   pub line-10 : (cell : ℕ) → cell < 32 → AnyCell cell
+  -- The plan 01 80 10 00 00 0C (hex) is read; with 02 for its mode, refusal 14.
+  pub line-11 : (planOf (1 ∷ 0x80 ∷ 0x10 ∷ 0 ∷ 0 ∷ 0x0C ∷ []) ≡ accepted (planWith 1 2048 (zone 0 0 12 ∷ []))) × (planOf (1 ∷ 0x80 ∷ 0x10 ∷ 2 ∷ 0 ∷ 0x0C ∷ []) ≡ refused 14)

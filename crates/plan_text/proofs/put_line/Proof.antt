@@ -1,0 +1,35 @@
+-- `plan_text::put_line` meets its contract. Assumes nothing.
+use mathlib.Core.Path.{_∙_}
+use native.Mathlib.Omega.{arith}
+use borrow.Author.Needs.{needs}
+use Rattle.value.proofs.Laws.{put-of, of-put, put-three}
+use Rattle.plan_text.specs.Lines.{lineOf}
+use Rattle.plan_text.proofs.put_line.Statement.{statement}
+use Rattle.plan_text.proofs.put_line.Tie as tie
+
+put-field-requires-2 : tie.Need-put-field-requires-2
+put-field-requires-2 c κs =
+    let first = c .before .before .before .put-field in
+    omega (arith, first .ensures .1, first .kept .0)
+
+put-field-requires-3 : tie.Need-put-field-requires-3
+put-field-requires-3 c κs =
+    let second = c .before .before .before .put-field2 in
+    let first = c .before .before .before .before .before .before .before .put-field in
+    omega (arith, first .ensures .1, first .kept .0, second .ensures .1, second .kept .0)
+
+same-length : tie.Need-same-length
+same-length c = c .before .before .put-field3 .kept .0 ∙ c .before .before .before .before .before .before .put-field2 .kept .0 ∙ c .before .before .before .before .before .before .before .before .before .before .put-field .kept .0
+
+returns : tie.Need-returns
+unfolding lineOf
+returns c =
+    let third = c .before .before .put-field3 in
+    let second = c .before .before .before .before .before .before .put-field2 in
+    let first = c .before .before .before .before .before .before .before .before .before .before .put-field in (
+      of-put (put-three _ _ _ (omega arith) (put-of _ _ _ _ _ (first .ensures .0)) (put-of _ _ _ _ _ (second .ensures .0)) (put-of _ _ _ _ _ (third .ensures .0))),
+      omega (arith, first .ensures .1, second .ensures .1, third .ensures .1),
+    )
+
+pub put-line-spec : {M : Type 1} → statement M
+put-line-spec = tie.close (tie.spec (λ c κs. search needs) put-field-requires-2 put-field-requires-3 same-length returns)

@@ -1,0 +1,38 @@
+-- The text that the program `zones` prints. Document 01, "Zone plan": one line a zone, "mode cell slots" in base ten, or "refused N". Every line ends with a line feed.
+use mathlib.Core.List.{List, [], _∷_, _++_}
+use Prim.Native.Nat.{ℕ}
+use lib.Dec.{eqb}
+use Rattle.base.specs.Choice.{pick}
+use Rattle.text.specs.Text.{decimal}
+use Rattle.plan.specs.declared.Zone.{Zone}
+use Rattle.plan.specs.declared.ReadPlan.{ReadPlan}
+use Rattle.plan.specs.Write.{usedZones}
+
+-- in ASCII
+abbrev pub space : ℕ
+space = 32
+
+abbrev pub lineFeed : ℕ
+lineFeed = 10
+
+-- a number in base ten and one byte behind it
+abbrev pub field : ℕ → ℕ → List ℕ
+field x mark = decimal x ++ (mark ∷ [])
+
+unfoldable pub lineOf : Zone → List ℕ
+lineOf zone = field (zone .mode) space ++ (field (zone .cell) space ++ field (zone .slots) lineFeed)
+
+unfoldable pub linesOf : List Zone → List ℕ
+linesOf [] = []
+linesOf (zone ∷ zones) = lineOf zone ++ linesOf zones
+
+-- "refused " in ASCII
+abbrev pub refusedWord : List ℕ
+refusedWord = 114 ∷ 101 ∷ 102 ∷ 117 ∷ 115 ∷ 101 ∷ 100 ∷ space ∷ []
+
+unfoldable pub refusalLine : ℕ → List ℕ
+refusalLine number = refusedWord ++ field number lineFeed
+
+-- the text of an answer of `read`
+unfoldable pub textOf : ReadPlan → List ℕ
+textOf answer = pick (eqb (answer .refusal) 0) (linesOf (usedZones (answer .plan))) (refusalLine (answer .refusal))

@@ -1,0 +1,39 @@
+-- `plan_vectors::print_number` is safe: the number has at most 20 digits. Assumes nothing.
+use borrow.Author.Needs.{needs}
+use mathlib.Core.Path.{sym}
+use native.Mathlib.Omega.{arith}
+use lib.Seq.{length-take-le}
+use Rattle.text.specs.Laws.{wrote-next, decimal-fits}
+use Rattle.plan_vectors.proofs.print_number.Statement.{statement}
+use Rattle.plan_vectors.proofs.print_number.Tie as tie
+
+slice-aggregate-put-number : tie.Need-slice-aggregate-put-number
+slice-aggregate-put-number c = search needs
+
+put-number-requires : tie.Need-put-number-requires
+put-number-requires c κs = search needs
+
+array-share-prefix-out : tie.Need-array-share-prefix-out
+array-share-prefix-out c =
+    let put-number = c .before .put-number in
+    omega (arith, wrote-next _ _ _ _ _ (put-number .ensures), put-number .kept .0, decimal-fits (c .before .before .before .args .x) (omega arith))
+
+slice-aggregate-print : tie.Need-slice-aggregate-print
+slice-aggregate-print c = sym (length-take-le _ _ (array-share-prefix-out (c .before)))
+
+print-requires : tie.Need-print-requires
+print-requires c κs = search needs
+
+returns : tie.Need-returns
+returns c = search needs
+
+pub print-number-spec : {M : Type 1} → statement M
+print-number-spec =
+    tie.close
+    (tie.spec
+    slice-aggregate-put-number
+    put-number-requires
+    array-share-prefix-out
+    slice-aggregate-print
+    print-requires
+    returns)

@@ -1,0 +1,179 @@
+// Answers requests to read and to write plans, one a line of standard input, numbers in base ten:
+//
+//     r n byte ..                          reads the n bytes: the refusal, the count, the size, then
+//                                          mode, cell and slots of each of the eight places
+//     w n count size mode cell slots ..    writes a plan of eight places to a destination of n bytes:
+//                                          the refusal, the bytes written, and a buffer of 48 bytes
+//                                          whose start is the destination; every byte was 238 before
+//
+// Each line is written back with its answer behind a colon. The input and what must come out are
+// made by tests/vectors.py.
+use libc::STDOUT_FILENO;
+use plan::Plan;
+use plan::ReadPlan;
+use plan::Written;
+use plan::Zone;
+ghost use Prim.Native.Nat.{_<_, _≤_};
+ghost use lib.ListN.{length};
+
+fn main() {
+    let mut input = [0u8; 262144];
+    let n = io::read_full(0, &mut input);
+    answer_all(&input[..n]);
+}
+
+fn answer_all(input: &[u8]) {
+    let mut at = 0;
+    while at < input.len() {
+        at = answer_line(input, at);
+    }
+}
+
+// Answers the line at a place of the input, and gives the place of the next one.
+fn answer_line(input: &[u8], at: usize) -> usize
+    requires { ⌜ at < length (now input) ⌝ }
+    ensures { λ r. ⌜ at < r ⌝ }
+{
+    let end = text::line_end(input, at);
+    print(&input[at..end]);
+    print(b":");
+    answer(input[at], fields(input, at + 1));
+    print(b"\n");
+    end + 1
+}
+
+// The numbers of a line, 64 at most; those that it does not have are 0.
+fn fields(input: &[u8], from: usize) -> [usize; 64] {
+    let mut fields = [0usize; 64];
+    let mut at = from;
+    let mut i = 0;
+    while i < 64 {
+        let number = text::read_number(input, at);
+        fields[i] = number.value;
+        at = number.next;
+        i += 1;
+    }
+    fields
+}
+
+fn answer(operation: u8, f: [usize; 64]) {
+    if operation == b'r' {
+        answer_read(f);
+    } else {
+        answer_write(f);
+    }
+}
+
+fn answer_read(f: [usize; 64]) {
+    let bytes = bytes_of(f);
+    let n = least(f[0], 63);
+    print_read(plan::read(&bytes[..n]));
+}
+
+// The bytes behind the first number of a line.
+fn bytes_of(f: [usize; 64]) -> [u8; 63] {
+    let mut bytes = [0u8; 63];
+    let mut i = 0;
+    while i < 63 {
+        bytes[i] = (f[i + 1] % 256) as u8;
+        i += 1;
+    }
+    bytes
+}
+
+fn answer_write(f: [usize; 64]) {
+    let zones = zones_of(f);
+    let plan = Plan {
+        count: f[1],
+        size: f[2],
+        zones: zones,
+    };
+    let mut dest = [238u8; 48];
+    let n = least(f[0], 48);
+    let answer = plan::write(plan, &mut dest[..n]);
+    print_written(answer);
+    print_bytes(dest);
+}
+
+// The eight places behind the first three numbers of a line.
+fn zones_of(f: [usize; 64]) -> [Zone; 8] {
+    let mut zones = [Zone {
+        mode: 0,
+        cell: 0,
+        slots: 0,
+    }; 8];
+    let mut k = 0;
+    while k < 8 {
+        zones[k] = Zone {
+            mode: f[3 * k + 3],
+            cell: f[3 * k + 4],
+            slots: f[3 * k + 5],
+        };
+        k += 1;
+    }
+    zones
+}
+
+fn least(n: usize, most: usize) -> usize
+    ensures { λ r. ⌜ r ≤ most ⌝ }
+{
+    if n < most {
+        return n;
+    }
+    most
+}
+
+fn print(bytes: &[u8]) {
+    io::write_all(STDOUT_FILENO, bytes);
+}
+
+fn print_read(answer: ReadPlan) {
+    let plan = answer.plan;
+    print_number(answer.refusal as usize);
+    print_number(plan.count);
+    print_number(plan.size);
+    let zones = plan.zones;
+    print_zones(zones);
+}
+
+fn print_zones(zones: [Zone; 8]) {
+    let mut k = 0;
+    while k < 8 {
+        print_zone(zones[k]);
+        k += 1;
+    }
+}
+
+fn print_zone(zone: Zone) {
+    print_number(zone.mode);
+    print_number(zone.cell);
+    print_number(zone.slots);
+}
+
+fn print_written(answer: Written) {
+    match answer {
+        Written::Bytes(n) => {
+            print_number(0);
+            print_number(n);
+        }
+        Written::Refused(number) => {
+            print_number(number as usize);
+            print_number(0);
+        }
+    }
+}
+
+fn print_bytes(bytes: [u8; 48]) {
+    let mut i = 0;
+    while i < 48 {
+        print_number(bytes[i] as usize);
+        i += 1;
+    }
+}
+
+// Prints a number behind a space.
+fn print_number(x: usize) {
+    let mut out = [b' '; 21];
+    let end = text::put_number(&mut out, 1, x);
+    print(&out[..end]);
+}

@@ -1,0 +1,17 @@
+// Reads a zone plan from standard input and prints one line a zone, "mode cell slots" in base ten,
+// or "refused N". At most 128 bytes of the input are read: they decide the answer, since an accepted
+// plan has at most 43 and reading looks at no more than 78.
+use libc::STDIN_FILENO;
+use libc::STDOUT_FILENO;
+
+fn main() {
+    let mut input = [0u8; 128];
+    let n = io::read_full(STDIN_FILENO, &mut input);
+    print(plan::read(&input[..n]));
+}
+
+fn print(answer: plan::ReadPlan) {
+    let mut out = [0u8; 504];
+    let end = plan_text::lines(answer, &mut out);
+    io::write_all(STDOUT_FILENO, &out[..end]);
+}
