@@ -28,6 +28,19 @@ uint32_t bp_place(uint32_t mode, uint32_t size, uint32_t cell, uint32_t slot, ui
 uint32_t bp_locate(uint32_t mode, uint32_t size, uint32_t cell, uint32_t symbol, uint32_t carrier,
                    uint32_t *kind, uint32_t *slot, uint32_t *subchannel, uint32_t *index);
 
+/* Optional FUSC: in which groups subchannel_a of cell_a and subchannel_b of cell_b are on one carrier.
+ * Group k of a symbol is its data numbers N*k to N*k+N-1, N being size / 64; every symbol has the same answer.
+ * hits[k] is written for each group k, 1 where the two collide and else 0; count is how many are 1.
+ * On a refusal neither is written. One cell may be given twice. Refusals 2, 3 (cell_a), 3 (cell_b), 5 (subchannel_a),
+ * 5 (subchannel_b), put in this order. */
+uint32_t bp_ofusc_collisions(uint32_t size, uint32_t cell_a, uint32_t subchannel_a,
+                             uint32_t cell_b, uint32_t subchannel_b, uint8_t hits[48], uint32_t *count);
+
+/* AMC: which indices both cells put on one carrier, in every subchannel, slot and size alike.
+ * hits[j] is written for each index j, 1 where they collide and else 0; count is how many are 1.
+ * On a refusal neither is written. One cell may be given twice. Refusals 3 (cell_a), 3 (cell_b). */
+uint32_t bp_amc_collisions(uint32_t cell_a, uint32_t cell_b, uint8_t hits[48], uint32_t *count);
+
 #ifdef __cplusplus
 }
 #endif

@@ -4,6 +4,7 @@
 #include <inttypes.h>
 #include <stdint.h>
 #include <stdio.h>
+#include <string.h>
 
 #include "bellpulsar.h"
 
@@ -15,6 +16,25 @@ struct place_row {
 struct locate_row {
     uint32_t mode, size, cell, symbol, carrier;
     uint32_t refusal, kind, slot, subchannel, index;
+};
+
+enum { MARKS = 48 };
+
+/* What a collision call must give: the refusal, the marks and their count. */
+struct met {
+    uint32_t refusal;
+    uint8_t hits[MARKS];
+    uint32_t count;
+};
+
+struct ofusc_row {
+    uint32_t size, cell_a, subchannel_a, cell_b, subchannel_b;
+    struct met met;
+};
+
+struct amc_row {
+    uint32_t cell_a, cell_b;
+    struct met met;
 };
 
 #include "table.h"
@@ -66,6 +86,50 @@ static int locate_agrees(const struct locate_row *row, uint32_t fill)
            holds(&index, fill, data ? row->index : fill);
 }
 
+/* The marks between two guard words. */
+struct marks {
+    uint32_t before;
+    uint8_t values[MARKS];
+    uint32_t after;
+};
+
+static struct marks fresh_marks(uint32_t fill)
+{
+    struct marks marks = {.before = ~fill, .after = ~fill};
+    memset(marks.values, (int)(fill & 0xFF), MARKS);
+    return marks;
+}
+
+/* Whether the call gave what the row says: on a refusal both parameters are as they were. */
+static int gave(const struct met *met, uint32_t refusal, const struct marks *hits, const struct out *count,
+                uint32_t fill)
+{
+    struct marks expected = fresh_marks(fill);
+    int accepted = met->refusal == 0;
+    if (accepted)
+        memcpy(expected.values, met->hits, MARKS);
+    return refusal == met->refusal && hits->before == expected.before && hits->after == expected.after &&
+           memcmp(hits->values, expected.values, MARKS) == 0 &&
+           holds(count, fill, accepted ? met->count : fill);
+}
+
+static int ofusc_agrees(const struct ofusc_row *row, uint32_t fill)
+{
+    struct marks hits = fresh_marks(fill);
+    struct out count = fresh(fill);
+    uint32_t refusal = bp_ofusc_collisions(row->size, row->cell_a, row->subchannel_a, row->cell_b,
+                                           row->subchannel_b, hits.values, &count.value);
+    return gave(&row->met, refusal, &hits, &count, fill);
+}
+
+static int amc_agrees(const struct amc_row *row, uint32_t fill)
+{
+    struct marks hits = fresh_marks(fill);
+    struct out count = fresh(fill);
+    uint32_t refusal = bp_amc_collisions(row->cell_a, row->cell_b, hits.values, &count.value);
+    return gave(&row->met, refusal, &hits, &count, fill);
+}
+
 static int test_place(void)
 {
     int wrong = 0;
@@ -96,10 +160,38 @@ static int test_locate(void)
     return wrong;
 }
 
+static int test_ofusc_collisions(void)
+{
+    int wrong = 0;
+    for (size_t i = 0; i < COUNT(ofusc_rows); i++) {
+        const struct ofusc_row *row = &ofusc_rows[i];
+        if (ofusc_agrees(row, fills[0]) && ofusc_agrees(row, fills[1]))
+            continue;
+        wrong = 1;
+        printf("bp_ofusc_collisions differs: size %" PRIu32 " cell %" PRIu32 " subchannel %" PRIu32
+               " and cell %" PRIu32 " subchannel %" PRIu32 "\n",
+               row->size, row->cell_a, row->subchannel_a, row->cell_b, row->subchannel_b);
+    }
+    return wrong;
+}
+
+static int test_amc_collisions(void)
+{
+    int wrong = 0;
+    for (size_t i = 0; i < COUNT(amc_rows); i++) {
+        const struct amc_row *row = &amc_rows[i];
+        if (amc_agrees(row, fills[0]) && amc_agrees(row, fills[1]))
+            continue;
+        wrong = 1;
+        printf("bp_amc_collisions differs: cells %" PRIu32 " and %" PRIu32 "\n", row->cell_a, row->cell_b);
+    }
+    return wrong;
+}
+
 int main(void)
 {
-    int wrong = test_place() | test_locate();
+    int wrong = test_place() | test_locate() | test_ofusc_collisions() | test_amc_collisions();
     if (!wrong)
-        puts("capi: place and locate agree with the reference");
+        puts("capi: place, locate and both collision calls agree with the reference");
     return wrong;
 }

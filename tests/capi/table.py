@@ -24,7 +24,7 @@ def wrong(dice, good, limit):
 def spoiled(dice, good, limits):
     """Some fields wrong: most often one, sometimes more."""
     fields = list(good)
-    for i in dice.sample(range(len(good)), dice.choice([1, 1, 2, 3])):
+    for i in dice.sample(range(len(good)), min(len(good), dice.choice([1, 1, 2, 3]))):
         fields[i] = wrong(dice, good[i], limits[i])
     return fields
 
@@ -62,10 +62,48 @@ def locate_rows(dice, mode, size):
             yield locate_row(spoiled(dice, good, limits))
 
 
+def ofusc_row(fields):
+    return fields + [list(ref.ofusc_collisions(*fields))]
+
+
+def amc_row(fields):
+    return fields + [list(ref.amc_collisions(*fields))]
+
+
+def ofusc_rows(dice, size):
+    """Each request good, then with some fields wrong; at times one cell twice, or one subchannel."""
+    cells, subchannels = ref.cells(ref.OFUSC, size), ref.subchannels(ref.OFUSC, size)
+    limits = [2049, cells, subchannels, cells, subchannels]
+    for _ in range(400):
+        good = [size] + [dice.randrange(limit) for limit in limits[1:]]
+        for i in (1, 2):
+            if dice.randrange(8) == 0:
+                good[i + 2] = good[i]
+        yield ofusc_row(good)
+        yield ofusc_row(spoiled(dice, good, limits))
+
+
+def amc_rows(dice):
+    cells = ref.cells(ref.AMC, 2048)
+    for _ in range(1500):
+        good = [dice.randrange(cells), dice.randrange(cells)]
+        if dice.randrange(8) == 0:
+            good[1] = good[0]
+        yield amc_row(good)
+        yield amc_row(spoiled(dice, good, [cells, cells]))
+
+
+def initializer(value):
+    """A number, or a list of such values, as C writes it."""
+    if isinstance(value, list):
+        return "{%s}" % ", ".join(map(initializer, value))
+    return "%du" % value
+
+
 def print_table(kind, name, rows):
     print("static const %s %s[] = {" % (kind, name))
     for row in rows:
-        print("    {%s}," % ", ".join("%du" % number for number in row))
+        print("    %s," % initializer(row))
     print("};")
 
 
@@ -73,11 +111,19 @@ def main():
     dice = random.Random(16)
     places = [row for setup in SETUPS for row in place_rows(dice, *setup)]
     locates = [row for setup in SETUPS for row in locate_rows(dice, *setup)]
+    ofuscs = [row for size in ref.sizes(ref.OFUSC) for row in ofusc_rows(dice, size)]
+    amcs = list(amc_rows(dice))
     assert {row[6] for row in places} == {0, 1, 2, 3, 4, 5, 6}
     assert {row[5] for row in locates} == {0, 1, 2, 3, 4, 7}
     assert {row[6] for row in locates} == {0, 1, 2, 3}
+    assert {row[-1][0] for row in ofuscs} == {0, 2, 3, 5}
+    assert {row[-1][0] for row in amcs} == {0, 3}
+    assert {row[-1][2] for row in ofuscs} >= {0, 1, 2, 3, 48}
+    assert {row[-1][2] for row in amcs} == {0, 1, 2, 3, 48}
     print_table("struct place_row", "place_rows", places)
     print_table("struct locate_row", "locate_rows", locates)
+    print_table("struct ofusc_row", "ofusc_rows", ofuscs)
+    print_table("struct amc_row", "amc_rows", amcs)
 
 
 if __name__ == "__main__":

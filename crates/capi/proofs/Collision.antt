@@ -1,5 +1,5 @@
 -- Marks written as bytes, and the outcome of an answer. Assumes nothing.
-use mathlib.Core.Path.{_≡_, refl, sym, ap, _∙_}
+use mathlib.Core.Path.{_≡_, refl, sym, _∙_}
 use mathlib.Core.Bool.{Bool, true, false}
 use mathlib.Core.List.{List, map}
 use Prim.Native.Nat.{ℕ, _+_, _<_, _≤_}
@@ -14,7 +14,7 @@ use Rattle.base.proofs.Tabulate.{length-tabulate}
 use Rattle.collision.specs.declared.Collisions.{Collisions}
 use Rattle.collision.specs.Collision.{answerOf, ofuscOf, amcOf}
 use Rattle.collision.proofs.Count.{count-le}
-use Rattle.capi.specs.Collision.{CollisionOut, byteOf, collisionOut}
+use Rattle.capi.specs.Collision.{byteOf, collisionOut}
 
 -- an answer has 48 marks, and their count is no more
 abbrev pub Whole : Collisions → Type 0

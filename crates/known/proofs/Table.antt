@@ -1,12 +1,13 @@
 -- The known points hold: each by computing both sides; in line 10 all that is asked of the cell is that it is below 32. Assumes nothing.
-use mathlib.Core.Path.{refl}
+use mathlib.Core.Path.{_≡_, refl}
 use Prim.Native.Nat.{ℕ, _<_}
 use borrow.Author.Tests.{lt-ltb}
 use Rattle.base.specs.Steps.{skip, unskip}
 use Rattle.base.specs.Tabulate.{tabulate}
 use Rattle.map.specs.Place.{placeOf, locateOf, placeAt, contentOf, pointAt}
+use Rattle.collision.specs.Collision.{countOf, indexIn, carrierIn, ofuscHit, amcHit, answerOf, ofuscOf, amcOf}
 use Rattle.plan.proofs.Points.{starred}
-use Rattle.known.specs.Table.{Known, AnyCell}
+use Rattle.known.specs.Table.{Known, AnyCell, setFrom, groups, indices}
 use Rattle.carriers.specs.Band as band
 use Rattle.carriers.specs.Bin as bin
 use Rattle.pusc_dl.specs.Map as dl
@@ -16,6 +17,8 @@ use Rattle.pusc_ul.specs.Map as ul
 use Rattle.pusc_ul.specs.Tile as tile
 use Rattle.ofusc.specs.Map as ofusc
 use Rattle.ofusc.specs.Field as field
+use Rattle.amc.specs.Map as amc
+use Rattle.amc.specs.Element as element
 use Rattle.map.specs.Mode as mode
 use Rattle.map.specs.Question as question
 
@@ -25,12 +28,28 @@ any-cell cell h =
     let e = lt-ltb cell 32 h in
     record { data-in-symbol-0 = rw e; pilot-in-symbol-1 = rw e; guard-below = λ y l. rw (e, lt-ltb y 1024 l); dc-in-the-middle = λ y l. rw (e, lt-ltb y 1024 l) }
 
+counts : (ofuscOf 1024 0 6 17 0 .count ≡ 7) × (ofuscOf 1024 0 2 244 0 .count ≡ 8)
+unfolding countOf tabulate skip ofuscOf answerOf ofuscHit carrierIn indexIn placeAt question.isFourSizes question.isCell question.isSubchannel mode.width mode.cells mode.subchannels mode.band mode.spotOf band.carrierOf bin.binPilotPlace bin.usedOfData ofusc.groupOf ofusc.term ofusc.mask ofusc.dataNumber field.modulus field.coefficient field.product field.remainder field.times field.power field.p1 field.p2
+counts = (refl, refl)
+
+at-2048 : setFrom 0 (ofuscOf 2048 0 2 1010 0 .hits) ≡ groups
+unfolding setFrom tabulate skip ofuscOf answerOf ofuscHit carrierIn indexIn placeAt question.isFourSizes question.isCell question.isSubchannel mode.width mode.cells mode.subchannels mode.band mode.spotOf band.carrierOf bin.binPilotPlace bin.usedOfData ofusc.groupOf ofusc.term ofusc.mask ofusc.dataNumber field.modulus field.coefficient field.product field.remainder field.times field.power field.p1 field.p2
+at-2048 = refl
+
+adjacent : setFrom 0 (amcOf 48 176 .hits) ≡ indices
+unfolding setFrom tabulate amcOf answerOf amcHit question.isCell mode.cells amc.traffic amc.elementOf amc.zeroRule amc.off element.add element.times element.sequence
+adjacent = refl
+
 pub known : Known
 unfolding tabulate skip placeOf placeAt mode.width mode.cells mode.subchannels mode.symbols mode.band mode.spotOf question.isMode question.isFourSizes question.isSize question.isCell question.isSlot question.isSubchannel question.isIndex band.carrierOf bin.binPilotPlace bin.usedOfData dl.groupUsed dl.spotOf group.groupIn group.groupSize group.baseOf group.groupData cluster.unrenumber cluster.firstPilot cluster.secondPilot cluster.clusterPlace ul.spotOf tile.tileOf tile.placeSymbol tile.placeTile tile.placeCarrier ofusc.groupOf ofusc.term ofusc.mask ofusc.dataNumber field.modulus field.coefficient field.product field.remainder field.times field.power field.p1 field.p2
 known =
     record {
       line-1 = (refl, refl);
       line-2 = refl;
+      line-3 = counts .0;
+      line-4 = counts .1;
+      line-5 = at-2048;
+      line-6 = adjacent;
       line-7 = (refl, refl);
       line-8 = refl;
       line-9 = refl;

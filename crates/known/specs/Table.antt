@@ -1,13 +1,14 @@
--- Document 01, "Known points": the starred lines, in its order, as one statement. A line's number is its place among the eleven; those on collisions (3 to 6) come with their calls.
+-- Document 01, "Known points": the starred lines, in its order, as one statement. A line's number is its place among the eleven.
 use mathlib.Core.Path.{_≡_}
 use mathlib.Core.Bool.{Bool, true, false}
 use mathlib.Core.List.{List, [], _∷_}
-use Prim.Native.Nat.{ℕ, _<_}
+use Prim.Native.Nat.{ℕ, suc, _<_}
 use Rattle.base.specs.Answer.{Answer, accepted, refused}
 use Rattle.base.specs.Tabulate.{tabulate}
 use Rattle.pusc_ul.specs.Tile.{tileOf}
 use Rattle.map.specs.Valid.{setup}
 use Rattle.map.specs.Place.{Place, Content, guard, dc, pilot, point, placeOf, locateOf}
+use Rattle.collision.specs.Collision.{ofuscOf, amcOf}
 use Rattle.plan.specs.declared.Zone.{Zone}
 use Rattle.plan.specs.Read.{planWith, planOf}
 
@@ -25,6 +26,19 @@ isPoint (refused number) = false
 abbrev pub tiles : List ℕ
 tiles = 1 ∷ 83 ∷ 166 ∷ 256 ∷ 324 ∷ 380 ∷ []
 
+-- the numbers of the marks that are set, where the first mark has number k
+unfoldable pub setFrom : ℕ → List Bool → List ℕ
+setFrom k [] = []
+setFrom k (true ∷ hits) = k ∷ setFrom (suc k) hits
+setFrom k (false ∷ hits) = setFrom (suc k) hits
+
+-- the groups of line 5, and the indices of line 6
+abbrev pub groups : List ℕ
+groups = 0 ∷ 1 ∷ 31 ∷ 32 ∷ []
+
+abbrev pub indices : List ℕ
+indices = 8 ∷ 24 ∷ 32 ∷ []
+
 -- the zone of line 11
 abbrev pub zone : ℕ → ℕ → ℕ → Zone
 zone m c n = record { mode = m; cell = c; slots = n }
@@ -41,6 +55,14 @@ pub record Known : Type 0 where
   pub line-1 : (placeOf (setup 2 1024 0) 0 3 5 ≡ at 0 553) × (placeOf (setup 2 1024 0) 1 3 5 ≡ at 1 552)
   -- Spread 1024, cell 17, subchannel 0, index 0, slot 0: carrier 87.
   pub line-2 : placeOf (setup 2 1024 17) 0 0 0 ≡ at 0 87
+  -- Meeting at 1024, cell 0 subchannel 6, cell 17 subchannel 0: 7.
+  pub line-3 : ofuscOf 1024 0 6 17 0 .count ≡ 7
+  -- Meeting at 1024, cell 0 subchannel 2, cell 244 subchannel 0: 8.
+  pub line-4 : ofuscOf 1024 0 2 244 0 .count ≡ 8
+  -- At 2048, cell 0 subchannel 2, cell 1010 subchannel 0: groups 0, 1, 31, 32.
+  pub line-5 : setFrom 0 (ofuscOf 2048 0 2 1010 0 .hits) ≡ groups
+  -- Adjacent, cells 48 and 176: indices 8, 24, 32.
+  pub line-6 : setFrom 0 (amcOf 48 176 .hits) ≡ indices
   -- Down, cell 0, subchannel 1, slot 0: index 11 on symbol 0 carrier 1862, index 35 on symbol 1 carrier 1861.
   pub line-7 : (placeOf (setup 0 2048 0) 0 1 11 ≡ at 0 1862) × (placeOf (setup 0 2048 0) 0 1 35 ≡ at 1 1861)
   -- Up, cell 0, subchannel 1, index 0, slot 0: symbol 1, carrier 377.
