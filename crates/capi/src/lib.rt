@@ -8,9 +8,9 @@ ghost use mathlib.Core.Path.{_≡_};
 ghost use Prim.Native.Nat.{ℕ};
 ghost use Rattle.map.specs.declared.Setup.{Setup};
 ghost use Rattle.map.specs.Place.{placeOf, locateOf};
-ghost use Rattle.grid.specs.Grid.{Outcome, fillOf, emptyOf, lookOf};
+ghost use Rattle.grid.specs.Grid.{fillOf, emptyOf, lookOf};
 ghost use Rattle.capi.specs.Map.{PlaceOut, placeOut, LocateOut, locateOut};
-ghost use Rattle.capi.specs.Grid.{pairPoint, LookOut, lookOut};
+ghost use Rattle.capi.specs.Grid.{pairPoint, lookOut};
 
 fn setup(mode: u32, size: u32, cell: u32) -> Setup
     ensures { λ r. ⌜ r ≡ record { mode = mode; size = size; cell = cell } ⌝ }
