@@ -207,7 +207,8 @@ static int empty_agrees(const struct setup *s, uint32_t cell, uint32_t slot, con
 }
 
 /* Look at one carrier of the grid as it stands, which has these bits. */
-static int look_agrees(const struct setup *s, uint32_t cell, uint32_t symbol, uint32_t carrier, const uint32_t *grid_words)
+static int look_agrees(const struct setup *s, uint32_t cell, uint32_t symbol, uint32_t carrier,
+                       const uint32_t *grid_words)
 {
     struct out kind = fresh(), slot = fresh(), subchannel = fresh(), index = fresh();
     uint32_t what = 0, a = untold, b = untold, m = untold;
