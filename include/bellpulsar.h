@@ -1,18 +1,25 @@
 /* Bellpulsar: the subcarrier map of IEEE 802.16e OFDMA, proved.
  *
  * Every call returns 0, or the number of the first question of document 01 that is answered no;
- * on a refusal nothing is written. Pointers are not null and do not overlap. Any number may stand in any field.
+ * on a refusal nothing is written. Pointers are not null and do not overlap, except that a buffer of length 0 may have
+ * any pointer. Any number may stand in any field.
  *
  * mode: 0 PUSC downlink, 1 PUSC uplink, 2 optional FUSC, 3 AMC (six bins by one symbol).
  * size: the FFT size. cell: the permutation base.
  *
  * Refusals: 1 the mode is not listed; 2 the size is not that mode's; 3 the cell is out of range;
  * 4 the slot is not below 512, or the zone's symbol not below 512 times the slot length;
- * 5 the subchannel is out of range; 6 the index is not below 48; 7 the carrier is not below the size.
+ * 5 the subchannel is out of range; 6 the index is not below 48; 7 the carrier is not below the size;
+ * 8 the points are not just 96 floats a subchannel; 9 the grid is not just 2 * size floats for each symbol of a slot.
+ *
+ * A point is two floats, in-phase first; its bits are copied as they are, those of a NaN too. Lengths count floats.
+ * The points of a slot stand by subchannel and index, 48 points a subchannel. The grid of a slot stands symbol after
+ * symbol, each by rising carrier, a point a carrier. A slot has 2 symbols in mode 0, 3 in mode 1, 1 in modes 2 and 3.
  */
 #ifndef BELLPULSAR_H
 #define BELLPULSAR_H
 
+#include <stddef.h>
 #include <stdint.h>
 
 #ifdef __cplusplus
@@ -27,6 +34,22 @@ uint32_t bp_place(uint32_t mode, uint32_t size, uint32_t cell, uint32_t slot, ui
  * slot, subchannel and index are written where kind is 3, else left alone. Refusals 1, 2, 3, 4, 7. */
 uint32_t bp_locate(uint32_t mode, uint32_t size, uint32_t cell, uint32_t symbol, uint32_t carrier,
                    uint32_t *kind, uint32_t *slot, uint32_t *subchannel, uint32_t *index);
+
+/* Lays a slot's points on its grid: the whole grid is written, the points on data, the pilot point on pilots, +0.0 on
+ * guards and DC. Refusals 1, 2, 3, 4, 8, 9. */
+uint32_t bp_fill(uint32_t mode, uint32_t size, uint32_t cell, uint32_t slot, const float pilot[2],
+                 const float *points, size_t points_len, float *grid, size_t grid_len);
+
+/* Takes a slot's points off its grid: all points are written; only data carriers are read. Refusals 1, 2, 3, 4, 8, 9. */
+uint32_t bp_empty(uint32_t mode, uint32_t size, uint32_t cell, uint32_t slot,
+                  const float *grid, size_t grid_len, float *points, size_t points_len);
+
+/* The point on a carrier in a symbol of the zone, read from the grid of the symbol's slot, and whose it is.
+ * kind: 0 nothing (guard or DC, whatever the grid holds there), 2 pilot, 3 data. point is written where kind is 2 or 3;
+ * slot, subchannel and index where it is 3; else they are left alone. Refusals 1, 2, 3, 4, 7, 9. */
+uint32_t bp_look(uint32_t mode, uint32_t size, uint32_t cell, uint32_t symbol, const float *grid, size_t grid_len,
+                 uint32_t carrier, uint32_t *kind, float point[2],
+                 uint32_t *slot, uint32_t *subchannel, uint32_t *index);
 
 /* Optional FUSC: in which groups subchannel_a of cell_a and subchannel_b of cell_b are on one carrier.
  * Group k of a symbol is its data numbers N*k to N*k+N-1, N being size / 64; every symbol has the same answer.

@@ -7,6 +7,9 @@ out=target/capi
 rt staticlib capi
 mkdir -p "$out"
 python3 tests/capi/table.py > "$out/table.h"
-"${CC:-cc}" -std=c11 -O1 -Wall -Wextra -Werror -I include -I "$out" \
-    tests/capi/capi_test.c target/staticlib/libcapi.a -o "$out/capi_test"
-"$out/capi_test"
+python3 tests/capi/grid_table.py > "$out/grid_table.h"
+for test in capi_test grid_test; do
+    "${CC:-cc}" -std=c11 -O1 -Wall -Wextra -Werror -I include -I "$out" \
+        "tests/capi/$test.c" target/staticlib/libcapi.a -o "$out/$test"
+    "$out/$test"
+done

@@ -13,8 +13,8 @@ ghost use Rattle.map.specs.Place.{placeOf, locateOf};
 ghost use Rattle.collision.specs.Collision.{ofuscOf, amcOf};
 ghost use Rattle.capi.specs.Map.{PlaceOut, placeOut, LocateOut, locateOut};
 ghost use Rattle.capi.specs.Collision.{CollisionOut, collisionOut};
-ghost use Rattle.grid.specs.Grid.{Outcome, fillOf, emptyOf, lookOf};
-ghost use Rattle.capi.specs.Grid.{pairPoint, LookOut, lookOut};
+ghost use Rattle.grid.specs.Grid.{fillOf, emptyOf, lookOf};
+ghost use Rattle.capi.specs.Grid.{pairPoint, lookOut};
 
 fn setup(mode: u32, size: u32, cell: u32) -> Setup
     ensures { λ r. ⌜ r ≡ record { mode = mode; size = size; cell = cell } ⌝ }
