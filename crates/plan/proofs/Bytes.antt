@@ -10,7 +10,7 @@ use native.Mathlib.Nat.{zero-add}
 use borrow.Author.Tests.{eq-eqb, ne-eqb, le-leb, lt-leb}
 use Rattle.base.specs.Answer.{accepted, refused}
 use Rattle.text.specs.Text.{put}
-use Rattle.text.specs.Laws.{put-none as text-none}
+use Rattle.text.proofs.Laws.{put-none as text-none}
 use Rattle.value.specs.Value.{encode}
 use Rattle.value.proofs.Laws.{size-most, Put, put-length, put-next}
 use Rattle.plan.specs.declared.Zone.{Zone}

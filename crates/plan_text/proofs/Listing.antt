@@ -8,7 +8,7 @@ use lib.ListN.{length, take, drop, getD, length-append}
 use lib.Seq.{take-suc, take-all}
 use borrow.Author.Tests.{eq-eqb, ne-eqb}
 use Rattle.text.specs.Text.{Written, written, put, wrote}
-use Rattle.text.specs.Laws.{put-none, wrote-next, wrote-bytes, wrote-more}
+use Rattle.text.proofs.Laws.{put-none, wrote-next, wrote-bytes, wrote-more}
 use Rattle.plan.specs.declared.Zone.{Zone}
 use Rattle.plan.specs.declared.ReadPlan.{ReadPlan}
 use Rattle.plan.specs.Zone.{unused}

@@ -1,3 +1,1 @@
 pub mod Text
-pub mod Laws
-pub mod Reading

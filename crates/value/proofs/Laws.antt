@@ -8,7 +8,7 @@ use lib.ListN.{length, take, drop, getD, length-append, length-drop, drop-of-len
 use lib.Seq.{drop-at, length-take-le}
 use borrow.Author.Tests.{ltb-true, ltb-false, lt-ltb, le-ltb}
 use Rattle.text.specs.Text.{written, put, wrote}
-use Rattle.text.specs.Laws.{wrote-next, wrote-bytes, wrote-more}
+use Rattle.text.proofs.Laws.{wrote-next, wrote-bytes, wrote-more}
 use Rattle.base.specs.Answer.{Answer, accepted, refused}
 use Rattle.base.proofs.Chain.{ask-yes, same-accepted}
 use Rattle.base.proofs.Test.{cases}

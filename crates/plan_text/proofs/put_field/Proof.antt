@@ -1,7 +1,7 @@
 -- `plan_text::put_field` meets its contract: a number has at most 20 digits. Assumes nothing.
 use native.Mathlib.Omega.{arith}
 use borrow.Author.Needs.{needs}
-use Rattle.text.specs.Laws.{wrote-next, wrote-more, decimal-fits}
+use Rattle.text.proofs.Laws.{wrote-next, wrote-more, decimal-fits}
 use Rattle.plan_text.proofs.put_field.Statement.{statement}
 use Rattle.plan_text.proofs.put_field.Tie as tie
 

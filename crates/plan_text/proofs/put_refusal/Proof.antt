@@ -1,7 +1,7 @@
 -- `plan_text::put_refusal` meets its contract. Assumes nothing.
 use native.Mathlib.Omega.{arith}
 use borrow.Author.Needs.{needs}
-use Rattle.text.specs.Laws.{wrote-next, wrote-more}
+use Rattle.text.proofs.Laws.{wrote-next, wrote-more}
 use Rattle.plan_text.specs.Lines.{refusalLine}
 use Rattle.plan_text.proofs.put_refusal.Statement.{statement}
 use Rattle.plan_text.proofs.put_refusal.Tie as tie

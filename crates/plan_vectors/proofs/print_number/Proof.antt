@@ -3,7 +3,7 @@ use borrow.Author.Needs.{needs}
 use mathlib.Core.Path.{sym}
 use native.Mathlib.Omega.{arith}
 use lib.Seq.{length-take-le}
-use Rattle.text.specs.Laws.{wrote-next, decimal-fits}
+use Rattle.text.proofs.Laws.{wrote-next, decimal-fits}
 use Rattle.plan_vectors.proofs.print_number.Statement.{statement}
 use Rattle.plan_vectors.proofs.print_number.Tie as tie
 

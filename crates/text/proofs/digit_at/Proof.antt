@@ -1,6 +1,6 @@
 -- `text::digit_at` meets its contract. Assumes nothing.
 use mathlib.Core.Path.{sym}
-use Rattle.text.specs.Reading.{digit-past, digit-low, digit-high, digit-in}
+use Rattle.text.proofs.Reading.{digit-past, digit-low, digit-high, digit-in}
 use borrow.Author.Needs.{needs}
 use Rattle.text.proofs.digit_at.Statement.{statement}
 use Rattle.text.proofs.digit_at.Tie as tie

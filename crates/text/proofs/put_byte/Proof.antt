@@ -1,6 +1,6 @@
 -- `text::put_byte` meets its contract. Assumes nothing.
 use borrow.Author.Needs.{needs}
-use Rattle.text.specs.Laws.{one-byte}
+use Rattle.text.proofs.Laws.{one-byte}
 use Rattle.text.proofs.put_byte.Statement.{statement}
 use Rattle.text.proofs.put_byte.Tie as tie
 

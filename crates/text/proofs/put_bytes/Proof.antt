@@ -5,7 +5,7 @@ use mathlib.Core.Path.{_≡_, refl, sym}
 use Prim.Native.Nat.{_≤_, _-_}
 use lib.ListN.{length, take, length-set}
 use Rattle.text.specs.Text.{put}
-use Rattle.text.specs.Laws.{put-none, put-next, all-bytes}
+use Rattle.text.proofs.Laws.{put-none, put-next, all-bytes}
 use Rattle.text.proofs.put_bytes.Statement.{statement}
 use Rattle.text.proofs.put_bytes.Tie as tie
 

@@ -11,7 +11,7 @@ use lib.ListN.{length, getD, drop, drop-of-length-le, List·getD-eq-default}
 use lib.Seq.{drop-cons, append-snoc}
 use lib.Dec.{eqb}
 use borrow.Author.Tests.{lt-ltb, le-ltb}
-use Rattle.text.specs.Laws.{below, decimal-one, decimal-more, length-more}
+use Rattle.text.proofs.Laws.{below, decimal-one, decimal-more, length-more}
 use Rattle.text.specs.Text.{decimal, found, digitOf, withDigit, readOn, pastSpaces}
 
 pub digit-low : (byte : ℕ) → byte < 48 → digitOf byte ≡ 10
