@@ -10,3 +10,6 @@ python3 tests/capi/table.py > "$out/table.h"
 "${CC:-cc}" -std=c11 -O1 -Wall -Wextra -Werror -I include -I "$out" \
     tests/capi/capi_test.c target/staticlib/libcapi.a -o "$out/capi_test"
 "$out/capi_test"
+"${CC:-cc}" -std=c11 -O1 -Wall -Wextra -Werror -I include \
+    tests/capi/plan_test.c target/staticlib/libcapi.a -o "$out/plan_test"
+"$out/plan_test" < crates/plan_vectors/stdout

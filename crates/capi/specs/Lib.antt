@@ -1,2 +1,3 @@
 -- What the C functions write: document 01's values where the request is accepted, else nothing.
 pub mod Map
+pub mod Plan
