@@ -11,6 +11,9 @@
  * 4 the slot is not below 512, or the zone's symbol not below 512 times the slot length;
  * 5 the subchannel is out of range; 6 the index is not below 48; 7 the carrier is not below the size;
  * 8 the points are not just 96 floats a subchannel; 9 the grid is not just 2 * size floats for each symbol of a slot.
+ * Of plans: 10 the bytes end within a value; 11 a value is not in its shortest form or too long; 12 the count is not 1 to 8,
+ * or a place past it is not zero; 13 the slots are not 1 to 512; 14 the order of the zones; 15 bytes are left over; 16 the
+ * destination is too short.
  *
  * A point is two floats, in-phase first; its bits are copied as they are, those of a NaN too. Lengths count floats.
  * The points of a slot stand by subchannel and index, 48 points a subchannel. The grid of a slot stands symbol after
@@ -63,6 +66,15 @@ uint32_t bp_ofusc_collisions(uint32_t size, uint32_t cell_a, uint32_t subchannel
  * hits[j] is written for each index j, 1 where they collide and else 0; count is how many are 1.
  * On a refusal neither is written. One cell may be given twice. Refusals 3 (cell_a), 3 (cell_b). */
 uint32_t bp_amc_collisions(uint32_t cell_a, uint32_t cell_b, uint8_t hits[48], uint32_t *count);
+
+/* The zone plan that `len` bytes are. zones: mode, cell, slots of each of the eight places, those past the count zero.
+ * Refusals 10, 11, 12, 2, 1, 3, 13, 14, 15, the first that is met. `bytes` may be any pointer where `len` is 0. */
+uint32_t bp_plan_read(const uint8_t *bytes, size_t len, uint32_t *count, uint32_t *size, uint32_t zones[24]);
+
+/* Writes a plan at the start of `dest`, and how many bytes it takes to `written`; further bytes stay.
+ * Refusals 12, 2, for each zone 1, 2, 3, 13, 14, then 16. `dest` may be any pointer where `dest_len` is 0. */
+uint32_t bp_plan_write(uint32_t count, uint32_t size, const uint32_t zones[24],
+                       uint8_t *dest, size_t dest_len, uint32_t *written);
 
 #ifdef __cplusplus
 }

@@ -8,8 +8,10 @@ rt staticlib capi
 mkdir -p "$out"
 python3 tests/capi/table.py > "$out/table.h"
 python3 tests/capi/grid_table.py > "$out/grid_table.h"
-for test in capi_test grid_test; do
+for test in capi_test grid_test plan_test; do
     "${CC:-cc}" -std=c11 -O1 -Wall -Wextra -Werror -I include -I "$out" \
         "tests/capi/$test.c" target/staticlib/libcapi.a -o "$out/$test"
-    "$out/$test"
 done
+"$out/capi_test"
+"$out/grid_test"
+"$out/plan_test" < crates/plan_vectors/stdout

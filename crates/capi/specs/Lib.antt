@@ -2,3 +2,4 @@
 pub mod Map
 pub mod Collision
 pub mod Grid
+pub mod Plan

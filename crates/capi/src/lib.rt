@@ -5,6 +5,9 @@ use grid::Seen;
 use map::Located;
 use map::Placed;
 use map::Setup;
+use plan::Plan;
+use plan::Written;
+use plan::Zone;
 ghost use mathlib.Core.Path.{_≡_};
 ghost use Prim.Native.Nat.{ℕ, _≤_};
 ghost use lib.ListN.{length};
@@ -15,6 +18,9 @@ ghost use Rattle.capi.specs.Map.{PlaceOut, placeOut, LocateOut, locateOu
 ghost use Rattle.capi.specs.Collision.{CollisionOut, collisionOut};
 ghost use Rattle.grid.specs.Grid.{fillOf, emptyOf, lookOf};
 ghost use Rattle.capi.specs.Grid.{pairPoint, lookOut};
+ghost use Rattle.plan.specs.Read.{planOf, answered};
+ghost use Rattle.plan.specs.Write.{writeOf};
+ghost use Rattle.capi.specs.Plan.{AllSmall, flatOf, placesOf, ReadOut, readOut, WriteOut, planIn, writeOut};
 
 fn setup(mode: u32, size: u32, cell: u32) -> Setup
     ensures { λ r. ⌜ r ≡ record { mode = mode; size = size; cell = cell } ⌝ }
@@ -238,5 +244,96 @@ pub extern "C" fn bp_look(
             0
         }
         Seen::Refused(number) => number as u32,
+    }
+}
+
+// Mode, cell and slots of each place.
+fn flat(zones: [Zone; 8]) -> [u32; 24]
+    requires { ⌜ AllSmall zones ⌝ }
+    ensures { λ r. ⌜ r ≡ flatOf zones ⌝ }
+{
+    let mut numbers = [0u32; 24];
+    let mut k = 0;
+    while k < 8 {
+        let zone = zones[k];
+        numbers[3 * k] = zone.mode as u32;
+        numbers[3 * k + 1] = zone.cell as u32;
+        numbers[3 * k + 2] = zone.slots as u32;
+        k += 1;
+    }
+    numbers
+}
+
+#[no_mangle]
+pub extern "C" fn bp_plan_read(
+    bytes: &[u8],
+    count: &mut u32,
+    size: &mut u32,
+    zones: &mut [u32; 24],
+) -> u32
+    ensures { λ r. ⌜ record { number = r; count = now (count .exit); size = now (size .exit); zones = now (zones .exit) } ≡ readOut (answered (planOf (now (bytes .entry)))) (now (count .entry)) (now (size .entry)) (now (zones .entry)) ⌝ }
+{
+    let answer = plan::read(bytes);
+    if answer.refusal != 0 {
+        return answer.refusal as u32;
+    }
+    let plan = answer.plan;
+    let places = plan.zones;
+    *count = plan.count as u32;
+    *size = plan.size as u32;
+    *zones = flat(places);
+    0
+}
+
+fn wide(x: u32) -> usize
+    ensures { λ r. ⌜ r ≡ x ⌝ }
+{
+    x as usize
+}
+
+// The eight places of 24 numbers.
+fn places(numbers: &[u32; 24]) -> [Zone; 8]
+    ensures { λ r. ⌜ r ≡ placesOf (now (numbers .entry)) ⌝ }
+{
+    let mut zones = [Zone {
+        mode: 0,
+        cell: 0,
+        slots: 0,
+    }; 8];
+    let mut k = 0;
+    while k < 8 {
+        zones[k] = Zone {
+            mode: wide(numbers[3 * k]),
+            cell: wide(numbers[3 * k + 1]),
+            slots: wide(numbers[3 * k + 2]),
+        };
+        k += 1;
+    }
+    zones
+}
+
+#[no_mangle]
+pub extern "C" fn bp_plan_write(
+    count: u32,
+    size: u32,
+    zones: &[u32; 24],
+    dest: &mut [u8],
+    written: &mut u32,
+) -> u32
+    ensures { λ r. ⌜ record { number = r; written = now (written .exit); dest = now (dest .exit) } ≡ writeOut (writeOf (planIn count size (now (zones .entry))) (now (dest .entry))) (now (written .entry)) ⌝ }
+{
+    let places = places(zones);
+    let plan = Plan {
+        count: count as usize,
+        size: size as usize,
+        zones: places,
+    };
+    let answer = plan::write(plan, dest);
+    match answer {
+        Written::Bytes(n) => {
+            *written = n as u32;
+            0
+        }
+        Written::Refused(number) => number as u32,
     }
 }
