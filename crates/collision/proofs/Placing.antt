@@ -15,10 +15,10 @@ use Rattle.map.specs.Place.{Place, placeAt, placeOf}
 use Rattle.map.specs.Valid.{setup, ofusc, amc}
 use Rattle.map.proofs.Accept.{width-is}
 use Rattle.map.proofs.Law.{place-accepts}
-use Rattle.amc.specs.Map as adjacent
 use Rattle.collision.specs.Collision.{indexIn}
 use Rattle.collision.specs.Figure.{InGroup}
 use Rattle.collision.proofs.Group.{carrierAt, same-number, element, element-lt, number-in}
+use Rattle.amc.specs.Map as adjacent
 
 -- data number d of symbol y
 abbrev pub at : ℕ → ℕ → ℕ → Place
