@@ -1,15 +1,8 @@
 /* Where a point is placed, and what the engine finds there: point MODE SIZE CELL SLOT SUBCHANNEL INDEX */
 #include <stdio.h>
-#include <stdlib.h>
 
 #include "bellpulsar.h"
-
-/* A field's number; one that 32 bits do not hold is as far out of range as they can say. */
-static uint32_t field(const char *word)
-{
-    unsigned long long n = strtoull(word, NULL, 10);
-    return n > UINT32_MAX ? UINT32_MAX : (uint32_t)n;
-}
+#include "field.h"
 
 int main(int argc, char **argv)
 {

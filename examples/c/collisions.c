@@ -1,0 +1,32 @@
+/* Where two cells collide. Optional FUSC: collisions SIZE CELL SUBCHANNEL CELL SUBCHANNEL; AMC: collisions CELL CELL */
+#include <stdio.h>
+
+#include "bellpulsar.h"
+#include "field.h"
+
+int main(int argc, char **argv)
+{
+    uint32_t f[5], count, refused;
+    uint8_t hits[48];
+    if (argc != 6 && argc != 3) {
+        fprintf(stderr, "usage: collisions SIZE CELL SUBCHANNEL CELL SUBCHANNEL, or collisions CELL CELL\n");
+        return 2;
+    }
+    for (int i = 0; i + 1 < argc; i++)
+        f[i] = field(argv[i + 1]);
+
+    if (argc == 6)
+        refused = bp_ofusc_collisions(f[0], f[1], f[2], f[3], f[4], hits, &count);
+    else
+        refused = bp_amc_collisions(f[0], f[1], hits, &count);
+    if (refused != 0) {
+        printf("refused %u\n", refused);
+        return 1;
+    }
+    printf("%s", argc == 6 ? "groups" : "indices");
+    for (int k = 0; k < 48; k++)
+        if (hits[k])
+            printf(" %d", k);
+    printf("\ncount %u\n", count);
+    return 0;
+}
