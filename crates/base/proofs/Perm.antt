@@ -1,11 +1,9 @@
--- A permutation of 0..n-1 with its inverse; the rotation, the exclusive or, and the composition of two. Assumes nothing.
+-- A permutation of 0..n-1 with its inverse; the rotation, and the composition of two. Assumes nothing.
 use mathlib.Core.Path.{_≡_, ap, _∙_}
-use Prim.Native.Nat.{ℕ, _+_, _-_, _*_, _/_, _%_, _^_, _<_}
+use Prim.Native.Nat.{ℕ, _+_, _-_, _*_, _/_, _%_, _<_}
 use native.Mathlib.Nat.{mod-lt, mod-eq-of-lt, mod-add-mod, add-mul-mod-self-right, div-add-mod', add-assoc, add-mul, one-mul}
 use native.Mathlib.Omega.{arith}
-use lib.Bits.{bitXor, xor-lt}
 use Rattle.base.specs.Steps.{rotate, unrotate}
-use Rattle.base.proofs.Xor.{xor-twice}
 
 pub record Perm (n : ℕ) (to from : ℕ → ℕ) : Type 0 where
   pub to-lt : (x : ℕ) → x < n → to x < n
@@ -47,12 +45,3 @@ rotation n c pos =
   where
     turned : (y : ℕ) → y + (n - c % n) + c ≡ y + (c + (n - c % n))
     turned y = omega arith
-
-pub xor-perm : (k c : ℕ) → c < 2 ^ k → Perm (2 ^ k) (λ s. bitXor s c) (λ e. bitXor e c)
-xor-perm k c h =
-    record {
-      to-lt = λ s l. xor-lt k s c l h;
-      from-lt = λ e l. xor-lt k e c l h;
-      back = λ s l. xor-twice s c;
-      forth = λ e l. xor-twice e c;
-    }
