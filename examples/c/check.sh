@@ -2,9 +2,9 @@
 # Runs each example and fails where it prints something else than the known points of document 01 have.
 set -eu
 cd "$(dirname "$0")/../.."
-rt staticlib capi >target/example.log 2>&1 || { cat target/example.log; exit 1; }
+./build.sh
 for example in point collisions slot plan; do
-    "${CC:-cc}" -std=c11 -O2 -Wall -Wextra -Werror -I include "examples/c/$example.c" target/staticlib/libcapi.a \
+    "${CC:-cc}" -std=c11 -O2 -Wall -Wextra -Werror -I include "examples/c/$example.c" target/lib/libbellpulsar.a \
         -o "target/$example"
 done
 expect() {

@@ -4,13 +4,13 @@ set -eu
 cd "$(dirname "$0")/../.."
 out=target/capi
 
-rt staticlib capi
+./build.sh
 mkdir -p "$out"
 python3 tests/capi/table.py > "$out/table.h"
 python3 tests/capi/grid_table.py > "$out/grid_table.h"
 for test in capi_test grid_test plan_test; do
     "${CC:-cc}" -std=c11 -O1 -Wall -Wextra -Werror -I include -I "$out" \
-        "tests/capi/$test.c" target/staticlib/libcapi.a -o "$out/$test"
+        "tests/capi/$test.c" target/lib/libbellpulsar.a -o "$out/$test"
 done
 "$out/capi_test"
 "$out/grid_test"
