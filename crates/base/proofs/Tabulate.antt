@@ -1,10 +1,12 @@
--- A tabulated list has its length and its entries, and is the only list that has them. Assumes nothing.
+-- A tabulated list has its length and its entries, and is the only list that has them; and a loop that writes one entry a turn. Assumes nothing.
 use mathlib.Core.Path.{_≡_, refl, sym, ap, _∙_}
 use mathlib.Core.List.{List}
-use Prim.Native.Nat.{ℕ, zero, suc, _<_}
+use Prim.Native.Nat.{ℕ, zero, suc, _+_, _<_, _≤_}
 use native.Mathlib.Nat.{le-of-suc-le-suc, not-suc-le-zero}
-use lib.ListN.{length, getD}
-use lib.Seq.{ext-getD}
+use native.Mathlib.Omega.{arith}
+use lib.ListN.{length, getD, set, replicate, length-set, length-replicate}
+use lib.Seq.{getD-set-same, getD-set-other, ext-getD}
+use borrow.Author.Count.{below-none, below-more}
 use Rattle.base.specs.Tabulate.{tabulate}
 
 pub length-tabulate : {A : Type 0} (n : ℕ) (f : ℕ → A) → length (tabulate n f) ≡ n
@@ -22,3 +24,28 @@ pub tabulated : {A : Type 0} (d : A) (l : List A) (n : ℕ) (f : ℕ → A) → 
 tabulated d l n f e h =
     ext-getD d l (tabulate n f) (e ∙ sym (length-tabulate n f))
     (λ k l′. let lt : k < n = rw (← e) l′ in h k lt ∙ sym (getD-tabulate n f k d lt))
+
+-- A list of n entries whose first m are f 0, f 1, ..: what holds before each turn of a loop that writes entry m in turn m.
+pub record Written (n : ℕ) (f : ℕ → ℕ) (l : List ℕ) (m : ℕ) : Type 0 where
+  pub within : m ≤ n
+  pub long : length l ≡ n
+  pub entries : (k : ℕ) → k < m → getD l k 0 ≡ f k
+
+pub written-none : (n : ℕ) (f : ℕ → ℕ) → Written n f (replicate n 0) 0
+written-none n f = record { within = omega arith; long = length-replicate n 0; entries = below-none _ }
+
+pub written-next : {n : ℕ} {f : ℕ → ℕ} {l : List ℕ} {m : ℕ} → Written n f l m → m < n → (x : ℕ) → x ≡ f m → Written n f (set l m x) (m + 1)
+written-next {f = f} {l = l} {m = m} w h x e =
+    record {
+      within = omega arith;
+      long = length-set l m x ∙ w .long;
+      entries = below-more (λ k. getD (set l m x) k 0 ≡ f k) m
+          (λ k k-lt. getD-set-other l m k x 0 (λ q. omega arith) ∙ w .entries k k-lt)
+          (getD-set-same l m x 0 (omega (arith, w .long)) ∙ e);
+    }
+
+pub written-as : {n : ℕ} {f : ℕ → ℕ} {l : List ℕ} {m : ℕ} → Written n f l m → n ≤ m → (g : ℕ → ℕ) → ((k : ℕ) → k < n → f k ≡ g k) → l ≡ tabulate n g
+written-as {n = n} {l = l} w h g e = tabulated 0 l n g (w .long) (λ k k-lt. w .entries k (omega (arith, w .within)) ∙ e k k-lt)
+
+pub written-all : {n : ℕ} {f : ℕ → ℕ} {l : List ℕ} {m : ℕ} → Written n f l m → n ≤ m → l ≡ tabulate n f
+written-all {f = f} w h = written-as w h f (λ k k-lt. refl)
