@@ -1,8 +1,14 @@
 -- A list as a function of the position.
+use mathlib.Core.Path.{_≡_}
 use mathlib.Core.List.{List, [], _∷_}
-use Prim.Native.Nat.{ℕ, zero, suc}
+use Prim.Native.Nat.{ℕ, zero, suc, _<_}
+use Rattle.base.specs.Steps.{entry}
 
 -- the values at 0, 1, .., n-1
 unfoldable pub tabulate : {A : Type 0} → ℕ → (ℕ → A) → List A
 tabulate zero f = []
 tabulate (suc n) f = f 0 ∷ tabulate n (λ k. f (suc k))
+
+-- the entries at 0, 1, .., n-1 are those of f; what follows them is left open
+abbrev pub Starts : ℕ → (ℕ → ℕ) → List ℕ → Type 0
+Starts n f table = (k : ℕ) → k < n → entry table k ≡ f k

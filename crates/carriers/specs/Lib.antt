@@ -1,3 +1,4 @@
 pub mod Band
 pub mod Bin
 pub mod Law
+pub mod SpotNumber
