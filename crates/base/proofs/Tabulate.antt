@@ -1,13 +1,13 @@
 -- A tabulated list has its length and its entries, and is the only list that has them; and a loop that writes one entry a turn. Assumes nothing.
-use mathlib.Core.Path.{_≡_, refl, sym, ap, _∙_}
-use mathlib.Core.List.{List}
+use mathlib.Core.Path.{_≡_, refl, sym, ap, ap₂, _∙_}
+use mathlib.Core.List.{List, _∷_}
 use Prim.Native.Nat.{ℕ, zero, suc, _+_, _<_, _≤_}
 use native.Mathlib.Nat.{le-of-suc-le-suc, not-suc-le-zero}
 use native.Mathlib.Omega.{arith}
 use lib.ListN.{length, getD, set, replicate, length-set, length-replicate}
 use lib.Seq.{getD-set-same, getD-set-other, ext-getD}
 use borrow.Author.Count.{below-none, below-more}
-use Rattle.base.specs.Tabulate.{tabulate}
+use Rattle.base.specs.Tabulate.{tabulate, Starts}
 
 pub length-tabulate : {A : Type 0} (n : ℕ) (f : ℕ → A) → length (tabulate n f) ≡ n
 unfolding tabulate
@@ -19,6 +19,11 @@ unfolding tabulate
 getD-tabulate zero f k d h = absurd (not-suc-le-zero h)
 getD-tabulate (suc n) f zero d h = refl
 getD-tabulate (suc n) f (suc k) d h = getD-tabulate n (λ j. f (suc j)) k d (le-of-suc-le-suc h)
+
+pub tabulate-as : {A : Type 0} (n : ℕ) (f g : ℕ → A) → ((k : ℕ) → k < n → f k ≡ g k) → tabulate n f ≡ tabulate n g
+unfolding tabulate
+tabulate-as zero f g e = refl
+tabulate-as (suc n) f g e = ap₂ _∷_ (e 0 (omega arith)) (tabulate-as n (λ k. f (suc k)) (λ k. g (suc k)) (λ k h. e (suc k) (omega arith)))
 
 pub tabulated : {A : Type 0} (d : A) (l : List A) (n : ℕ) (f : ℕ → A) → length l ≡ n → ((k : ℕ) → k < n → getD l k d ≡ f k) → l ≡ tabulate n f
 tabulated d l n f e h =
@@ -49,3 +54,7 @@ written-as {n = n} {l = l} w h g e = tabulated 0 l n g (w .long) (λ k k-lt. w .
 
 pub written-all : {n : ℕ} {f : ℕ → ℕ} {l : List ℕ} {m : ℕ} → Written n f l m → n ≤ m → l ≡ tabulate n f
 written-all {f = f} w h = written-as w h f (λ k k-lt. refl)
+
+-- the first entries, where the loop ends before the list does
+pub written-starts : {n : ℕ} {f : ℕ → ℕ} {l : List ℕ} {m : ℕ} → Written n f l m → (k : ℕ) → k ≤ m → Starts k f l
+written-starts w k h j j-lt = w .entries j (omega arith)

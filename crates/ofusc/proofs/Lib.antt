@@ -2,3 +2,4 @@
 pub mod Sequence
 pub mod Tables
 pub mod Law
+pub mod Row

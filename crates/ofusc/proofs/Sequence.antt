@@ -1,12 +1,13 @@
 -- What the sequences are made of: each entry is an element of the field. Assumes nothing.
-use mathlib.Core.Path.{_≡_, refl, subst, subst⁻¹}
+use mathlib.Core.Path.{_≡_, refl, sym, ap, _∙_, subst, subst⁻¹}
 use mathlib.Core.Bool.{Bool}
 use Prim.Native.Nat.{ℕ, _+_, _-_, _*_, _/_, _%_, _^_, _<_, _≤_}
-use native.Mathlib.Nat.{mod-lt}
+use native.Mathlib.Nat.{mod-lt, mod-add-mod}
 use native.Mathlib.Omega.{arith}
 use lib.Dec.{T, eqb, ltb, ltb→lt}
 use borrow.Author.Tests.{eq-eqb, ne-eqb}
 use lib.Bits.{bitXor, xor-lt}
+use Rattle.base.specs.Choice.{pick}
 use Rattle.base.proofs.Test.{both, both-left, both-right, cases}
 use Rattle.base.proofs.Table.{all, all-at}
 use Rattle.ofusc.specs.Width.{Width, n4, n8, n16, n32}
@@ -39,6 +40,16 @@ size n32 = record { bits = 5; is = refl; above = omega arith; most = omega arith
 pub turn-pos : {n : ℕ} → Width n → 0 < n - 1
 turn-pos w = let z = size w .above in omega arith
 
+-- a remainder by N-1, N being known
+pub turn-at : (x : ℕ) {n m : ℕ} → n ≡ m → x % (m - 1) ≡ x % (n - 1)
+turn-at x e = ap (λ (t : ℕ). x % (t - 1)) (sym e)
+
+pub no-other : {n : ℕ} → Width n → (n ≡ 4 → ⊥) → (n ≡ 8 → ⊥) → (n ≡ 16 → ⊥) → n ≡ 32
+no-other n4 a b c = absurd (a refl)
+no-other n8 a b c = absurd (b refl)
+no-other n16 a b c = absurd (c refl)
+no-other n32 a b c = refl
+
 pub pos : {n : ℕ} → Width n → 0 < n
 pos w = let z = size w .above in omega arith
 
@@ -68,6 +79,15 @@ term-zero sequence n c k e = rw (eq-eqb c 0 e)
 pub term-entry : (sequence : ℕ → ℕ) (n c k : ℕ) → (c ≡ 0 → ⊥) → term sequence n c k ≡ sequence ((k % (n - 1) + c) % (n - 1))
 unfolding term
 term-entry sequence n c k ne = rw (ne-eqb c 0 ne)
+
+-- one remainder is enough
+pub term-turn : (sequence : ℕ → ℕ) (n c k : ℕ) → (c ≡ 0 → ⊥) → term sequence n c k ≡ sequence ((k + c) % (n - 1))
+term-turn sequence n c k ne = term-entry sequence n c k ne ∙ ap sequence (mod-add-mod k (n - 1) c)
+
+-- a term by another way to say the sequence
+pub term-as : {n : ℕ} → Width n → (f g : ℕ → ℕ) → ((i : ℕ) → i < n - 1 → f i ≡ g i) → (c k : ℕ) → term f n c k ≡ term g n c k
+unfolding term
+term-as {n} w f g e c k = ap (λ (x : ℕ). pick (eqb c 0) 0 x) (e ((k % (n - 1) + c) % (n - 1)) (mod-lt (k % (n - 1) + c) (turn-pos w)))
 
 term-lt : {n : ℕ} → Width n → (sequence : ℕ → ℕ) → ((i : ℕ) → i < n - 1 → sequence i < n) → (c k : ℕ) → term sequence n c k < n
 unfolding term

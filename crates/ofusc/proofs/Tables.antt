@@ -1,8 +1,9 @@
 -- The tables of the code and of document 002 against the rule: P1 lists the powers of 2, and P2's entry i is P1's entry 2i mod (N-1). Each a test computed over the whole table. Assumes nothing.
-use mathlib.Core.Path.{_≡_, refl}
+use mathlib.Core.Path.{_≡_, refl, ap₂}
 use mathlib.Core.Bool.{Bool}
 use mathlib.Core.List.{List, [], _∷_}
-use Prim.Native.Nat.{ℕ, _+_, _-_, _<_}
+use Prim.Native.Nat.{ℕ, _+_, _-_, _/_, _%_, _<_}
+use lib.Bits.{bitXor}
 use lib.Dec.{eqb, eqb→eq}
 use Rattle.base.specs.Steps.{entry}
 use Rattle.base.specs.Tabulate.{tabulate}
@@ -10,7 +11,8 @@ use Rattle.base.proofs.Table.{all, all-at}
 use Rattle.ofusc.specs.Width.{Width, n4, n8, n16, n32}
 use Rattle.ofusc.specs.Field.{modulus, coefficient, product, remainder, times, power, p1, p2}
 use Rattle.ofusc.specs.Table.{printed1, printed2}
-use Rattle.ofusc.proofs.Sequence.{at-width}
+use Rattle.ofusc.specs.Map.{term, mask}
+use Rattle.ofusc.proofs.Sequence.{at-width, term-as}
 
 -- document 002's rows are the sequences, at all four N
 pub printed1-is : {n : ℕ} → Width n → printed1 n ≡ tabulate (n - 1) (p1 n)
@@ -44,3 +46,12 @@ rows1-are {n} w i h = eqb→eq (entry rows1 (n + i)) (p1 n i) (all-at (row p1 ro
 pub rows2-are : {n : ℕ} → Width n → (i : ℕ) → i < n - 1 → entry rows2 (n + i) ≡ p2 n i
 unfolding modulus coefficient product remainder times power p1 p2
 rows2-are {n} w i h = eqb→eq (entry rows2 (n + i)) (p2 n i) (all-at (row p2 rows2 n) (n - 1) (at-width (λ m. all (row p2 rows2 m) (m - 1)) tt w) i h)
+
+-- the mask by the code's tables
+pub mask-is : {n : ℕ} → Width n → (cell k : ℕ)
+    → bitXor (term (λ i. entry rows1 (n + i)) n (cell % n) k) (term (λ i. entry rows2 (n + i)) n (cell / n) k) ≡ mask n cell k
+unfolding mask
+mask-is {n} w cell k =
+    ap₂ bitXor
+    (term-as w (λ i. entry rows1 (n + i)) (p1 n) (rows1-are w) (cell % n) k)
+    (term-as w (λ i. entry rows2 (n + i)) (p2 n) (rows2-are w) (cell / n) k)

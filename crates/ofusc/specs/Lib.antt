@@ -2,3 +2,4 @@ pub mod Width
 pub mod Field
 pub mod Table
 pub mod Map
+pub mod Row

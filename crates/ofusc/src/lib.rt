@@ -1,13 +1,16 @@
 // Optional FUSC: the field's sequences and the group permutation.
+use base::cyclic_shift;
 use base::unrotate;
 use base::wide;
 use carriers::Address;
 ghost use mathlib.Core.Path.{_≡_};
-ghost use Prim.Native.Nat.{_+_, _*_, _-_, _<_};
-ghost use Rattle.base.specs.Choice.{pick};
+ghost use Prim.Native.Nat.{_+_, _*_, _-_, _%_, _<_};
+ghost use Rattle.base.specs.Steps.{entry};
+ghost use Rattle.base.specs.Tabulate.{tabulate, Starts};
 ghost use Rattle.ofusc.specs.Width.{Width};
-ghost use Rattle.ofusc.specs.Field.{p1, p2};
 ghost use Rattle.ofusc.specs.Map.{groupOf, term as Term, mask as Mask, dataNumber, addressOf};
+ghost use Rattle.ofusc.specs.Row.{cellNumber};
+ghost use lib.Bits.{bitXor};
 
 // The basic permutation sequences of document 002, table 6. The row of N, which has N-1 entries, starts at place N.
 const SEQUENCE_1: [u8; 63] = [
@@ -142,21 +145,34 @@ const SEQUENCE_2: [u8; 63] = [
     9,
 ];
 
+// x mod (N-1), by a constant at each width.
+fn turn(n: usize, x: usize) -> usize
+    requires { ⌜ Width n ⌝ }
+    ensures { λ r. ⌜ r ≡ x % (n - 1) ⌝ }
+{
+    if n == 4 {
+        return x % 3;
+    }
+    if n == 8 {
+        return x % 7;
+    }
+    if n == 16 {
+        return x % 15;
+    }
+    x % 31
+}
+
 // What the cell adds by one sequence in group k: its entry at (k'+c) mod (N-1), or nothing where c is 0.
-fn term(second: bool, n: usize, c: usize, k: usize) -> usize
+fn term(rows: &[u8; 63], n: usize, c: usize, k: usize) -> usize
     requires { ⌜ Width n ⌝ }
     requires { ⌜ (c < n) × (k < 48) ⌝ }
-    ensures { λ r. ⌜ r ≡ Term (pick second (p2 n) (p1 n)) n c k ⌝ }
+    ensures { λ r. ⌜ r ≡ Term (λ i. entry (now (rows .entry)) (n + i)) n c k ⌝ }
 {
     if c == 0 {
         return 0;
     }
-    let i = n + (k % (n - 1) + c) % (n - 1);
-    if second {
-        wide(SEQUENCE_2[i])
-    } else {
-        wide(SEQUENCE_1[i])
-    }
+    let i = n + turn(n, k + c);
+    wide(rows[i])
 }
 
 // What the cell adds to the subchannel in group k.
@@ -165,7 +181,9 @@ pub fn mask(n: usize, cell: usize, k: usize) -> usize
     requires { ⌜ (cell < n * n) × (k < 48) ⌝ }
     ensures { λ r. ⌜ r ≡ Mask n cell k ⌝ }
 {
-    term(false, n, cell % n, k) ^ term(true, n, cell / n, k)
+    let first = SEQUENCE_1;
+    let second = SEQUENCE_2;
+    term(&first, n, cell % n, k) ^ term(&second, n, cell / n, k)
 }
 
 fn group(s: usize, m: usize) -> usize
@@ -195,4 +213,54 @@ pub fn address(n: usize, cell: usize, d: usize) -> Address
         subchannel: s,
         index: unrotate(48, 23 * s, k),
     }
+}
+
+// What the cell alone fixes of the data number in each group, once for all subchannels.
+pub fn table(n: usize, cell: usize) -> [u16; 188]
+    requires { ⌜ Width n ⌝ }
+    requires { ⌜ cell < n * n ⌝ }
+    ensures { λ r. ⌜ Starts 48 (cellNumber n cell) r ⌝ }
+{
+    let first = SEQUENCE_1;
+    let second = SEQUENCE_2;
+    let c1 = cell % n;
+    let c2 = cell / n;
+    let mut table = [0; 188];
+    let mut k = 0;
+    while k < 48 {
+        let element = term(&first, n, c1, k) ^ term(&second, n, c2, k);
+        table[k] = (k * n + element) as u16;
+        k += 1;
+    }
+    table
+}
+
+// The data numbers of a subchannel, by group.
+fn group_numbers(n: usize, cell: usize, subchannel: usize, table: &[u16; 188]) -> [u16; 48]
+    requires { ⌜ Width n ⌝ }
+    requires { ⌜ subchannel < n ⌝ }
+    requires { ⌜ Starts 48 (cellNumber n cell) (now table) ⌝ }
+    ensures { λ r. ⌜ r ≡ tabulate 48 (λ k. k * n + bitXor subchannel (Mask n cell k)) ⌝ }
+{
+    let s = subchannel as u16;
+    let mut row = [0; 48];
+    let mut k = 0;
+    while k < 48 {
+        row[k] = table[k] ^ s;
+        k += 1;
+    }
+    row
+}
+
+// The data numbers of a subchannel, by index.
+pub fn numbers(n: usize, cell: usize, subchannel: usize, table: &[u16; 188]) -> [u16; 48]
+    requires { ⌜ Width n ⌝ }
+    requires { ⌜ subchannel < n ⌝ }
+    requires { ⌜ Starts 48 (cellNumber n cell) (now table) ⌝ }
+    ensures { λ r. ⌜ r ≡ tabulate 48 (dataNumber n cell subchannel) ⌝ }
+{
+    cyclic_shift(
+        group_numbers(n, cell, subchannel, table),
+        23 * subchannel % 48,
+    )
 }

@@ -1,0 +1,93 @@
+-- `ofusc::table` meets its contract. Assumes nothing.
+use mathlib.Core.Path.{_≡_, ap}
+use Prim.Native.Nat.{ℕ, _+_, _-_, _*_, _<_}
+use native.Mathlib.Nat.{mod-lt, div-lt-iff-lt-mul}
+use native.Mathlib.Omega.{arith}
+use lib.Bits.{bitXor}
+use borrow.Author.Needs.{needs}
+use Rattle.base.proofs.Tabulate.{Written, written-none, written-next, written-starts}
+use Rattle.ofusc.specs.Row.{cellNumber}
+use Rattle.ofusc.proofs.Sequence.{pos}
+use Rattle.ofusc.proofs.Tables.{mask-is}
+use Rattle.ofusc.proofs.Row.{cell-number-lt}
+use Rattle.ofusc.proofs.table.Statement.{statement}
+use Rattle.ofusc.proofs.table.Tie as tie
+
+abbrev Inv-loop : tie.InvT-loop
+Inv-loop n cell first second c1 c2 table₀ k₀ table k = Written 188 (cellNumber n cell) table k
+
+abbrev μ-loop : tie.MeasureT-loop
+μ-loop n cell first second c1 c2 table₀ k₀ table k = 48 - k
+
+rem-c1 : tie.Need-rem-c1 Inv-loop μ-loop
+rem-c1 c = pos (c .pre .0)
+
+div-c2 : tie.Need-div-c2 Inv-loop μ-loop
+div-c2 c = pos (c .pre .0)
+
+loop-holds : tie.Need-loop-holds Inv-loop μ-loop
+loop-holds c = written-none 188 _
+
+term-requires : tie.Need-term-requires Inv-loop μ-loop
+term-requires c κs = (c .before .before .before .pre .0, (mod-lt _ (pos (c .before .before .before .pre .0)), c .before .loop-test .taken))
+
+term-requires-2 : tie.Need-term-requires-2 Inv-loop μ-loop
+term-requires-2 c κs =
+    let p = c .before .before .before .before .before .pre in
+    (p .0, (div-lt-iff-lt-mul (pos (p .0)) .1 (p .1), c .before .before .before .loop-test .taken))
+
+-- the number that is written, and that it is small
+written-is : (c : tie.After-term2 Inv-loop μ-loop) → c .before .before .before .before .before .loop .k * c .before .before .before .before .before .before .args .n + bitXor (c .before .before .term .result) (c .term2 .result) ≡ cellNumber (c .before .before .before .before .before .before .args .n) (c .before .before .before .before .before .before .args .cell) (c .before .before .before .before .before .loop .k)
+unfolding cellNumber
+written-is c = rw (c .before .before .term .ensures, c .term2 .ensures) (ap (λ (x : ℕ). c .before .before .before .before .before .loop .k * c .before .before .before .before .before .before .args .n + x) (mask-is (c .before .before .before .before .before .before .pre .0) _ _))
+
+written-lt : (c : tie.After-term2 Inv-loop μ-loop) → c .before .before .before .before .before .loop .k * c .before .before .before .before .before .before .args .n + bitXor (c .before .before .term .result) (c .term2 .result) < 1536
+written-lt c = rw (written-is c) (cell-number-lt (c .before .before .before .before .before .before .pre .0) _ _ (c .before .before .before .before .loop-test .taken))
+
+mul-table : tie.Need-mul-table Inv-loop μ-loop
+mul-table c = omega (arith, written-lt c)
+
+add-table : tie.Need-add-table Inv-loop μ-loop
+add-table c = omega (arith, written-lt c)
+
+cast-table : tie.Need-cast-table Inv-loop μ-loop
+cast-table c = omega (arith, written-lt c)
+
+mul-table-2 : tie.Need-mul-table-2 Inv-loop μ-loop
+mul-table-2 c = search needs
+
+array-write-table : tie.Need-array-write-table Inv-loop μ-loop
+array-write-table c = search needs
+
+add-k : tie.Need-add-k Inv-loop μ-loop
+add-k c = search needs
+
+loop-less : tie.Need-loop-less Inv-loop μ-loop
+loop-less c = search needs
+
+loop-again : tie.Need-loop-again Inv-loop μ-loop
+loop-again c = written-next (c .before .before .before .before .before .loop .inv) (omega (arith, c .before .before .before .before .loop-test .taken)) _ (written-is c)
+
+returns : tie.Need-returns Inv-loop μ-loop
+returns c = written-starts (c .before .loop .inv) 48 (c .loop-test .left)
+
+pub table-spec : {M : Type 1} → statement M
+table-spec =
+    tie.close
+    (tie.spec
+    Inv-loop
+    μ-loop
+    rem-c1
+    div-c2
+    loop-holds
+    term-requires
+    term-requires-2
+    mul-table
+    add-table
+    cast-table
+    mul-table-2
+    array-write-table
+    add-k
+    loop-less
+    loop-again
+    returns)
