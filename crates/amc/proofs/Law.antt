@@ -14,6 +14,11 @@ use Rattle.amc.proofs.Digit.{number-lt, digits-proper, digits-number, a
 use Rattle.amc.proofs.Tables.{powers, position-lt, at-position}
 use Rattle.amc.proofs.ZeroRule.{sum-back, rule-nonzero, rule-proper, rule-back, sum-not-off, sum-proper}
 
+-- the 48 data numbers of a subchannel run on from its first
+pub number-by-first : (cell a j : ℕ) → traffic cell j + 48 * a ≡ dataNumber cell a j
+unfolding dataNumber
+number-by-first cell a j = omega arith
+
 module _ (cell : ℕ) (range : cell < 2352) where
   abbrev pub o : Element
   o = off cell

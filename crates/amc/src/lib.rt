@@ -4,6 +4,8 @@ use base::wide;
 use carriers::Address;
 ghost use mathlib.Core.Path.{_≡_};
 ghost use Prim.Native.Nat.{_<_};
+ghost use Rattle.base.specs.Tabulate.{tabulate, Starts};
+ghost use Rattle.amc.specs.Table.{sequenceDigits};
 ghost use Rattle.amc.specs.Element.{Proper, number as Number, digits as Digits, add as Add, subtract as Subtract, sequence as Sequence};
 ghost use Rattle.amc.specs.Map.{off as Off, zeroRule, sumOf, elementOf, traffic as Traffic, indexOf, dataNumber, addressOf};
 
@@ -156,11 +158,11 @@ fn subtract(x: Element, y: Element) -> Element
 }
 
 // Entry i of P, a power of 22.
-fn sequence(i: usize) -> Element
-    requires { ⌜ i < 48 ⌝ }
+fn sequence(p: &[u8; 48], i: usize) -> Element
+    requires { ⌜ (now p ≡ sequenceDigits) × (i < 48) ⌝ }
     ensures { λ r. ⌜ r ≡ Sequence i ⌝ }
 {
-    let x = wide(SEQUENCE[i]);
+    let x = wide(p[i]);
     Element {
         high: x / 10,
         low: x % 10,
@@ -192,14 +194,22 @@ fn sum_of(o: Element, e: Element) -> Element
     if number(e) == number(o) { digits(0) } else { e }
 }
 
-// The place v of index j among the 48 traffic places of a subchannel.
+// The place v of index j among the 48 traffic places of a subchannel, P being at hand.
+fn traffic_by(p: &[u8; 48], cell: usize, j: usize) -> usize
+    requires { ⌜ (now p ≡ sequenceDigits) × (cell < 2352) × (j < 48) ⌝ }
+    ensures { λ r. ⌜ r ≡ Traffic cell j ⌝ }
+{
+    let o = off(cell);
+    let x = sequence(p, (j + cell % 48) % 48);
+    number(zero_rule(o, x)) - 1
+}
+
 pub fn traffic(cell: usize, j: usize) -> usize
     requires { ⌜ (cell < 2352) × (j < 48) ⌝ }
     ensures { λ r. ⌜ r ≡ Traffic cell j ⌝ }
 {
-    let o = off(cell);
-    let p = sequence((j + cell % 48) % 48);
-    number(zero_rule(o, p)) - 1
+    let p = SEQUENCE;
+    traffic_by(&p, cell, j)
 }
 
 fn index(cell: usize, v: usize) -> usize
@@ -228,4 +238,35 @@ pub fn address(cell: usize, d: usize) -> Address
         subchannel: d / 8 / 6,
         index: index(cell, d / 8 % 6 * 8 + d % 8),
     }
+}
+
+// The place v of each index, once for all subchannels.
+pub fn table(cell: usize) -> [u16; 188]
+    requires { ⌜ cell < 2352 ⌝ }
+    ensures { λ r. ⌜ Starts 48 (Traffic cell) r ⌝ }
+{
+    let p = SEQUENCE;
+    let mut table = [0; 188];
+    let mut j = 0;
+    while j < 48 {
+        table[j] = traffic_by(&p, cell, j) as u16;
+        j += 1;
+    }
+    table
+}
+
+// The data numbers of a subchannel, by index.
+pub fn numbers(cell: usize, subchannel: usize, table: &[u16; 188]) -> [u16; 48]
+    requires { ⌜ (cell < 2352) × (subchannel < 32) ⌝ }
+    requires { ⌜ Starts 48 (Traffic cell) (now table) ⌝ }
+    ensures { λ r. ⌜ r ≡ tabulate 48 (dataNumber cell subchannel) ⌝ }
+{
+    let first = (48 * subchannel) as u16;
+    let mut row = [0; 48];
+    let mut j = 0;
+    while j < 48 {
+        row[j] = table[j] + first;
+        j += 1;
+    }
+    row
 }
