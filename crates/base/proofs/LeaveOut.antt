@@ -1,9 +1,13 @@
 -- Leaving one place out loses nothing: `skip p` goes onto the places other than p, and `unskip p` comes back. Assumes nothing.
-use mathlib.Core.Path.{_≡_, ap, _∙_}
+use mathlib.Core.Path.{_≡_, refl, ap, _∙_}
+use mathlib.Core.Bool.{Bool, true, false}
 use Prim.Native.Nat.{ℕ, _+_, _-_, _<_, _≤_}
 use native.Mathlib.Omega.{arith}
 use lib.Dec.{leb}
+use mir.Syntax.{w16}
+use mir.Val.{Fits, boolByte}
 use borrow.Author.Tests.{leb-true, leb-false, le-ltb, lt-ltb, le-leb, lt-leb}
+use Rattle.base.specs.Choice.{pick}
 use Rattle.base.specs.Steps.{skip, unskip}
 use Rattle.base.proofs.Test.{cases}
 
@@ -69,3 +73,19 @@ skip-le p r =
 pub unskip-le : (p w : ℕ) → unskip p w ≤ w
 unfolding unskip
 unskip-le p w = omega arith
+
+-- the step as the code adds it, a test as a number
+pub step-is : (b : Bool) → boolByte b ≡ pick b 1 0
+step-is true = refl
+step-is false = refl
+
+step-le : (b : Bool) → boolByte b ≤ 1
+step-le true = omega arith
+step-le false = omega arith
+
+pub step-fits : (x : ℕ) (b : Bool) → x < 65535 → Fits w16 (x + boolByte b)
+step-fits x b h = omega (arith, step-le b)
+
+pub skip-step : (p r : ℕ) → r + boolByte (leb p r) ≡ skip p r
+unfolding skip
+skip-step p r = ap (λ (x : ℕ). r + x) (step-is (leb p r))

@@ -12,3 +12,7 @@ tabulate (suc n) f = f 0 ∷ tabulate n (λ k. f (suc k))
 -- the entries at 0, 1, .., n-1 are those of f; what follows them is left open
 abbrev pub Starts : ℕ → (ℕ → ℕ) → List ℕ → Type 0
 Starts n f table = (k : ℕ) → k < n → entry table k ≡ f k
+
+-- the first n entries are below a limit
+abbrev pub Below : ℕ → ℕ → List ℕ → Type 0
+Below n limit table = (k : ℕ) → k < n → entry table k < limit

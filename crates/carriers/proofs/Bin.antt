@@ -3,21 +3,30 @@ use mathlib.Core.Path.{_≡_, sym, ap, ap₂, _∙_}
 use mathlib.Core.Bool.{false}
 use Prim.Native.Nat.{ℕ, _+_, _*_, _/_, _%_, _<_, _≤_}
 use native.Mathlib.Omega.{arith}
-use lib.Dec.{lit<}
+use lib.Dec.{lit<, leb}
+use mir.Val.{boolByte}
 use borrow.Author.Tests.{ne-eqb, eqb-false}
 use Rattle.base.specs.Steps.{skip, unskip}
-use Rattle.base.proofs.LeaveOut.{unskip-skip, skip-unskip, skip-ne, skip-lt, unskip-lt}
+use Rattle.base.proofs.LeaveOut.{unskip-skip, skip-unskip, skip-ne, skip-lt, unskip-lt, skip-step}
 use Rattle.carriers.specs.declared.Address.{Address}
 use Rattle.carriers.specs.Bin.{binPilotPlace, isBinPilot, usedOfData, dataOfUsed, binSpot}
 use Rattle.carriers.specs.Law.{SlotLaw, NumberLaw}
+
+-- a used number as a sum of steps
+pub used-by-steps : (y d : ℕ) → d + d / 8 + boolByte (leb (binPilotPlace y) (d % 8)) ≡ usedOfData y d
+unfolding usedOfData
+used-by-steps y d = omega (arith, skip-step (binPilotPlace y) (d % 8))
+
+pub pilot-place-le : (y : ℕ) → binPilotPlace y ≤ 8
+unfolding binPilotPlace
+pilot-place-le y = omega arith
 
 module _ (y : ℕ) where
   abbrev p : ℕ
   p = binPilotPlace y
 
   pilot-le : p ≤ 8
-  unfolding binPilotPlace
-  pilot-le = omega arith
+  pilot-le = pilot-place-le y
 
   module _ (d : ℕ) where
     place-lt : skip p (d % 8) < 9

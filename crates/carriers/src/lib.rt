@@ -4,6 +4,8 @@ use base::unskip;
 ghost use mathlib.Core.Path.{_≡_};
 ghost use mathlib.Core.Bool.{false};
 ghost use Prim.Native.Nat.{_+_, _≤_, _<_};
+ghost use Rattle.base.specs.Steps.{entry};
+ghost use Rattle.base.specs.Tabulate.{tabulate, Below};
 ghost use Rattle.carriers.specs.Band.{binBand, puscBand, carrierOf, usedOf, isGuard, isDc};
 ghost use Rattle.carriers.specs.Bin.{binPilotPlace, isBinPilot, usedOfData, dataOfUsed};
 
@@ -110,4 +112,20 @@ pub fn data_of_used(y: usize, u: usize) -> usize
     ensures { λ r. ⌜ r ≡ dataOfUsed y u ⌝ }
 {
     u / 9 * 8 + unskip(bin_pilot_place(y), u % 9)
+}
+
+// The used numbers of a row of data numbers.
+pub fn used_numbers(y: usize, numbers: [u16; 48]) -> [u16; 48]
+    requires { ⌜ Below 48 2048 numbers ⌝ }
+    ensures { λ r. ⌜ r ≡ tabulate 48 (λ m. usedOfData y (entry numbers m)) ⌝ }
+{
+    let pilot = bin_pilot_place(y) as u16;
+    let mut row = [0; 48];
+    let mut m = 0;
+    while m < 48 {
+        let d = numbers[m];
+        row[m] = d + d / 8 + (pilot <= d % 8) as u16;
+        m += 1;
+    }
+    row
 }
