@@ -2,3 +2,4 @@
 pub mod Tables
 pub mod Place
 pub mod Law
+pub mod Row

@@ -1,12 +1,16 @@
 // PUSC uplink: tiles, their permutation, and the data places of a slot.
+use base::cyclic_shift;
 use base::wide;
 use carriers::Address;
 use carriers::Spot;
 ghost use mathlib.Core.Path.{_≡_};
 ghost use mathlib.Core.Bool.{false};
 ghost use Prim.Native.Nat.{_<_};
+ghost use Rattle.base.specs.Tabulate.{tabulate, Starts};
+ghost use Rattle.carriers.specs.SpotNumber.{spotNumber};
 ghost use Rattle.pusc_ul.specs.Tile.{tileOf, tileSubchannel, isTilePilot, placeSymbol, placeTile, placeCarrier, dataPlace};
 ghost use Rattle.pusc_ul.specs.Map.{spotOf, addressOf};
+ghost use Rattle.pusc_ul.specs.Row.{tableEntry, placeNumber};
 
 // Q of document 01, as document 000 prints it, and its inverse.
 const TILE_PERMUTATION: [u8; 70] = [
@@ -155,6 +159,109 @@ const TILE_PERMUTATION_INVERSE: [u8; 70] = [
     34,
 ];
 
+// The tile t of each data place, and its number of a spot where the tile is the first of its seventy.
+const DATA_TILES: [u8; 48] = [
+    0,
+    0,
+    1,
+    1,
+    2,
+    2,
+    3,
+    3,
+    4,
+    4,
+    5,
+    5,
+    0,
+    0,
+    0,
+    0,
+    1,
+    1,
+    1,
+    1,
+    2,
+    2,
+    2,
+    2,
+    3,
+    3,
+    3,
+    3,
+    4,
+    4,
+    4,
+    4,
+    5,
+    5,
+    5,
+    5,
+    0,
+    0,
+    1,
+    1,
+    2,
+    2,
+    3,
+    3,
+    4,
+    4,
+    5,
+    5,
+];
+
+const DATA_OFFSETS: [u16; 48] = [
+    1,
+    2,
+    281,
+    282,
+    561,
+    562,
+    841,
+    842,
+    1121,
+    1122,
+    1401,
+    1402,
+    2048,
+    2049,
+    2050,
+    2051,
+    2328,
+    2329,
+    2330,
+    2331,
+    2608,
+    2609,
+    2610,
+    2611,
+    2888,
+    2889,
+    2890,
+    2891,
+    3168,
+    3169,
+    3170,
+    3171,
+    3448,
+    3449,
+    3450,
+    3451,
+    4097,
+    4098,
+    4377,
+    4378,
+    4657,
+    4658,
+    4937,
+    4938,
+    5217,
+    5218,
+    5497,
+    5498,
+];
+
 // Tile t of a subchannel.
 fn tile(cell: usize, subchannel: usize, t: usize) -> usize
     requires { ⌜ (cell < 70) × (subchannel < 70) × (t < 6) ⌝ }
@@ -259,4 +366,43 @@ pub fn address(cell: usize, offset: usize, used: usize) -> Address
         subchannel,
         index: (q + (48 - 13 * subchannel % 48)) % 48,
     }
+}
+
+// The table of a cell: the first used number of each tile, counted in its seventy, on past the seventieth so that no sum is reduced.
+pub fn table(cell: usize) -> [u16; 188]
+    requires { ⌜ cell < 70 ⌝ }
+    ensures { λ r. ⌜ Starts 76 (tableEntry cell) r ⌝ }
+{
+    let permutation = TILE_PERMUTATION;
+    let mut table = [0; 188];
+    let mut i = 0;
+    while i < 76 {
+        table[i] = ((wide(permutation[i % 70]) + cell) % 70 * 4) as u16;
+        i += 1;
+    }
+    table
+}
+
+// The spots of a subchannel as numbers, by data place.
+fn data_places(cell: usize, subchannel: usize, table: &[u16; 188]) -> [u16; 48]
+    requires { ⌜ (cell < 70) × (subchannel < 70) × Starts 76 (tableEntry cell) (now table) ⌝ }
+    ensures { λ r. ⌜ r ≡ tabulate 48 (placeNumber cell subchannel) ⌝ }
+{
+    let tiles = DATA_TILES;
+    let offsets = DATA_OFFSETS;
+    let mut row = [0; 48];
+    let mut q = 0;
+    while q < 48 {
+        row[q] = table[subchannel + wide(tiles[q])] + offsets[q];
+        q += 1;
+    }
+    row
+}
+
+// The spots of a subchannel as numbers, by index.
+pub fn spots(cell: usize, subchannel: usize, table: &[u16; 188]) -> [u16; 48]
+    requires { ⌜ (cell < 70) × (subchannel < 70) × Starts 76 (tableEntry cell) (now table) ⌝ }
+    ensures { λ r. ⌜ r ≡ tabulate 48 (λ m. spotNumber (spotOf cell subchannel m)) ⌝ }
+{
+    cyclic_shift(data_places(cell, subchannel, table), 13 * subchannel % 48)
 }
