@@ -89,46 +89,50 @@ module _ (c : Setup) (v : Valid c) (slot : ℕ) (p : Point) where
       lower a b l ne = omega arith
 
 -- what holds before each turn of the pass over a row's pilots
-pub record RowTurn (c : Setup) (slot row : ℕ) (p : Point) (grid₀ : List Float) (k : Comb) (pilots : ℕ) (grid : List Float) (j : ℕ) : Type 0 where
+pub record RowTurn (c : Setup) (slot row : ℕ) (p : Point) (grid₀ : List Float) (k : Comb) (grid : List Float) (j : ℕ) : Type 0 where
   pub valid : Valid c
   pub row-lt : row < symbols c
   pub comb-is : k ≡ combOf c (slot * symbols c + row)
-  pub pilots-are : pilots ≡ k .count * 2
   pub long : length grid₀ ≡ 2 * gridPoints c
-  pub at-most : j ≤ pilots
+  pub at-most : j ≤ k .count * 2
   pub so-far : grid ≡ puts (pilotPlace c row k) (λ i. p) j grid₀
 
-module _ {c : Setup} {slot row : ℕ} {p : Point} {grid₀ : List Float} {k : Comb} {pilots : ℕ} {grid : List Float} {j : ℕ} (t : RowTurn c slot row p grid₀ k pilots grid j) where
+module _ {c : Setup} {slot row : ℕ} {p : Point} {grid₀ : List Float} {k : Comb} {grid : List Float} {j : ℕ} (t : RowTurn c slot row p grid₀ k grid j) where
   pub turn-small : Small k
   turn-small = rw (t .comb-is) (comb-small (t .valid) (slot * symbols c + row))
 
-  pub turn-number : j < pilots → (u : ℕ) → u ≡ pilotNumber k j → u < band c .used
+  pub turn-number : j < k .count * 2 → (u : ℕ) → u ≡ pilotNumber k j → u < band c .used
   turn-number h u e =
       let f = t .comb-is in
-      let l = pilots-law (t .valid) (slot * symbols c + row) .number-lt j (rw (← f) (omega (arith, t .pilots-are))) in
+      let l = pilots-law (t .valid) (slot * symbols c + row) .number-lt j (rw (← f) h) in
       rw (e, f) l
 
   pub turn-long : length grid ≡ 2 * gridPoints c
   turn-long = ap length (t .so-far) ∙ length-puts (pilotPlace c row k) (λ i. p) j grid₀ ∙ t .long
 
-  pub turn-next : j < pilots → (u : ℕ) → u ≡ pilotNumber k j → (grid′ : List Float) → grid′ ≡ putPoint grid (usedPosition c row u) p → RowTurn c slot row p grid₀ k pilots grid′ (j + 1)
+  pub turn-next : j < k .count * 2 → (u : ℕ) → u ≡ pilotNumber k j → (grid′ : List Float) → grid′ ≡ putPoint grid (usedPosition c row u) p → RowTurn c slot row p grid₀ k grid′ (j + 1)
   turn-next h u e grid′ e′ =
       record {
         valid = t .valid;
         row-lt = t .row-lt;
         comb-is = t .comb-is;
-        pilots-are = t .pilots-are;
         long = t .long;
         at-most = omega arith;
         so-far = puts-next (pilotPlace c row k) (λ i. p) j grid grid′ grid₀ (e′ ∙ ap (λ (x : ℕ). putPoint grid (usedPosition c row x) p) e) (t .so-far);
       }
 
-  pub turn-done : pilots ≤ j → grid ≡ pilotRow c slot p row grid₀
+  pub turn-done : k .count * 2 ≤ j → grid ≡ pilotRow c slot p row grid₀
   unfolding pilotRow
   turn-done h =
-      let e : j ≡ k .count * 2 = omega (arith, t .at-most, t .pilots-are) in
+      let e : j ≡ k .count * 2 = omega (arith, t .at-most) in
       t .so-far ∙ ap (λ (x : ℕ). puts (pilotPlace c row k) (λ i. p) x grid₀) e
       ∙ ap (λ (b : Comb). puts (pilotPlace c row b) (λ i. p) (b .count * 2) grid₀) (t .comb-is)
+
+-- two pilots a turn
+pub turn-two : {c : Setup} {slot row : ℕ} {p : Point} {grid₀ : List Float} {k : Comb} {grid : List Float} (i : ℕ)
+    → RowTurn c slot row p grid₀ k grid (i * 2 + 1 + 1) → RowTurn c slot row p grid₀ k grid ((i + 1) * 2)
+turn-two {c = c} {slot = slot} {row = row} {p = p} {grid₀ = grid₀} {k = k} {grid = grid} i t =
+    subst (RowTurn c slot row p grid₀ k grid) (omega arith) t
 
 -- what holds before each turn of the pass over a slot's rows
 pub record GroundTurn (c : Setup) (slot : ℕ) (p : Point) (rows : ℕ) (grid : List Float) (row : ℕ) : Type 0 where

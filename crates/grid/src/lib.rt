@@ -150,11 +150,11 @@ fn pilot_row(c: Setup, slot: usize, row: usize, p: Point, grid: &mut [f32])
     ensures { λ _. ⌜ now (grid .exit) ≡ pilotRow c slot p row (now (grid .entry)) ⌝ }
 {
     let k = pilot_comb(c, slot * map::symbols(c) + row);
-    let pilots = k.count * 2;
-    let mut j = 0;
-    while j < pilots {
-        put_used(c, row, pilot_number(k, j), p, grid);
-        j += 1;
+    let mut i = 0;
+    while i < k.count {
+        put_used(c, row, pilot_number(k, i * 2), p, grid);
+        put_used(c, row, pilot_number(k, i * 2 + 1), p, grid);
+        i += 1;
     }
 }
 
