@@ -261,7 +261,7 @@ def plan_numbers(dice, largest):
     numbers = [len(zones), size] + [x for zone in zones for x in zone] + [0] * (24 - 3 * len(zones))
     if dice.randrange(3) == 0:
         places = [0, 1] + 3 * list(range(2, 2 + 3 * len(zones))) + [25]
-        for i in dice.choices(places, k=dice.choice([1, 1, 2])):
+        for i in sorted(set(dice.choices(places, k=dice.choice([1, 1, 2])))):
             other = other_size if i == 1 else other_number
             numbers[i] = min(largest, other(dice, numbers[i], largest))
     return numbers
