@@ -1,6 +1,6 @@
 #!/bin/sh
-# Runs the examples of one language and fails where one prints, or ends with, something else than it should. Most of what
-# is expected are known points of document 01.
+# Runs the examples of one language and fails where one prints, or ends with, something else than it should. Most of
+# what is expected are known points of document 01.
 #
 #     sh examples/expected.sh PREFIX
 #

@@ -83,8 +83,8 @@ def pointer(dice, address, length):
 
 # --- the calls --------------------------------------------------------------------------------
 
-# A request is a call's arguments, what the arena is given before, the refusal, what is written to the arena, and the cases
-# that are met where it is accepted. `refusals` and `cases` of a call are those that must have occurred in the end.
+# A request is a call's arguments, what the arena is given before, the refusal, what is written to the arena, and the
+# cases that are met where it is accepted. `refusals` and `cases` of a call are those that must have occurred in the end.
 
 
 class Place:

@@ -1,5 +1,5 @@
-/* The header from C and from C++: this file is compiled and run as either. One accepted use of each call, with an answer
-   that document 01 knows where it knows one. Run by header.sh. */
+/* The header from C and from C++: this file is compiled and run as either. One accepted use of each call, with an
+   answer that document 01 knows where it knows one. Run by header.sh. */
 #include "bellpulsar.h"
 
 #include <stdio.h>
