@@ -1,23 +1,57 @@
 /* Bellpulsar: the subcarrier map of IEEE 802.16e OFDMA, proved.
  *
- * Every call returns 0, or the number of the first question of document 01 that is answered no;
- * on a refusal nothing is written. Pointers are not null and do not overlap, except that a buffer of length 0 may have
- * any pointer. Any number may stand in any field.
+ * Link with libbellpulsar.a or libbellpulsar.so; nothing else is needed but the C library. The engine keeps no state, so
+ * calls may run side by side on different buffers.
  *
- * mode: 0 PUSC downlink, 1 PUSC uplink, 2 optional FUSC, 3 AMC (six bins by one symbol).
- * size: the FFT size. cell: the permutation base.
+ * ANSWERS. Every call returns 0, or the number of the first question of document 01 that is answered no. The questions are
+ * put in the order in which a call lists its refusals, each only after a yes to all before it. On a refusal nothing is
+ * written: every out parameter and buffer keeps its contents. Buffers that are `const` are never written.
  *
- * Refusals: 1 the mode is not listed; 2 the size is not that mode's; 3 the cell is out of range;
- * 4 the slot is not below 512, or the zone's symbol not below 512 times the slot length;
- * 5 the subchannel is out of range; 6 the index is not below 48; 7 the carrier is not below the size;
- * 8 the points are not just 96 floats a subchannel; 9 the grid is not just 2 * size floats for each symbol of a slot.
- * Of plans: 10 the bytes end within a value; 11 a value is not in its shortest form or too long; 12 the count is not 1 to 8,
- * or a place past it is not zero; 13 the slots are not 1 to 512; 14 the order of the zones; 15 bytes are left over; 16 the
- * destination is too short.
+ * POINTERS are aligned for their type, and what is written overlaps nothing else. They are not null and are valid for
+ * their stated length whatever the other fields hold, except that a buffer of length 0 may have any pointer.
  *
- * A point is two floats, in-phase first; its bits are copied as they are, those of a NaN too. Lengths count floats.
- * The points of a slot stand by subchannel and index, 48 points a subchannel. The grid of a slot stands symbol after
- * symbol, each by rising carrier, a point a carrier. A slot has 2 symbols in mode 0, 3 in mode 1, 1 in modes 2 and 3.
+ * FIELDS. Any number may stand in any field and any length may be given: what is out of range is refused. In range are:
+ *
+ *   mode               size   cell      subchannel   slot     symbol    points_len   grid_len
+ *   0 PUSC downlink    2048   0..31     0..59        0..511   0..1023         5760       8192
+ *   1 PUSC uplink      2048   0..69     0..69        0..511   0..1535         6720      12288
+ *   2 optional FUSC     256   0..15     0..3         0..511   0..511           384        512
+ *   2 optional FUSC     512   0..63     0..7         0..511   0..511           768       1024
+ *   2 optional FUSC    1024   0..255    0..15        0..511   0..511          1536       2048
+ *   2 optional FUSC    2048   0..1023   0..31        0..511   0..511          3072       4096
+ *   3 AMC               256   0..2351   0..3         0..511   0..511           384        512
+ *   3 AMC               512   0..2351   0..7         0..511   0..511           768       1024
+ *   3 AMC              1024   0..2351   0..15        0..511   0..511          1536       2048
+ *   3 AMC              2048   0..2351   0..31        0..511   0..511          3072       4096
+ *
+ *   index: 0..47, the points of one subchannel in one slot. carrier: 0..size-1, by rising frequency, DC at size / 2.
+ *
+ * size is the FFT size, cell the permutation base. symbol is the symbol's number in the zone: the slot times the slot's
+ * length (2 symbols in mode 0, 3 in mode 1, 1 in modes 2 and 3) plus the offset in the slot. AMC is six bins by one symbol.
+ *
+ * POINTS AND GRIDS. A point is two floats, in-phase first; its bits are copied as they are, those of a NaN too. Lengths
+ * count floats and are exact: a longer buffer is refused as a shorter one is.
+ * The points of a slot stand by subchannel, then index: point `index` of `subchannel` is at 2 * (48 * subchannel + index).
+ * The grid of a slot stands symbol after symbol, each by rising carrier: the point on `carrier` in the symbol with this
+ * offset in the slot is at 2 * (offset * size + carrier).
+ *
+ * REFUSALS
+ *    1 the mode is none of 0, 1, 2, 3 (in a zone plan: none of 0, 2, 3)
+ *    2 the size is not one of that mode's
+ *    3 the cell is out of range
+ *    4 the slot, or the zone's symbol, is out of range
+ *    5 the subchannel is out of range
+ *    6 the index is not below 48
+ *    7 the carrier is not below the size
+ *    8 points_len is not that of the mode and size
+ *    9 grid_len is not that of the mode and size
+ *   10 a plan's bytes end within a value, before its third group
+ *   11 a value goes on after its third group, or is not in its shortest form
+ *   12 a plan's count of zones is not 1 to 8, or (writing) a place past the count is not all zero
+ *   13 a zone's slots are not 1 to 512
+ *   14 a zone is out of order: at size 2048 the first is mode 0 with cell 0; at every size only mode 3 follows mode 3
+ *   15 bytes are left over behind a plan
+ *   16 the destination is too short for the plan
  */
 #ifndef BELLPULSAR_H
 #define BELLPULSAR_H
@@ -29,50 +63,86 @@
 extern "C" {
 #endif
 
-/* Where point `index` of a subchannel lies: the zone's symbol and the carrier. Refusals 1, 2, 3, 4, 5, 6. */
+/* Where point `index` of a subchannel lies in a slot.
+ *
+ * Written where it is accepted: *symbol, the zone's symbol (in the slot asked for), and *carrier.
+ * Refusals, in this order: 1 mode, 2 size, 3 cell, 4 slot, 5 subchannel, 6 index. */
 uint32_t bp_place(uint32_t mode, uint32_t size, uint32_t cell, uint32_t slot, uint32_t subchannel, uint32_t index,
                   uint32_t *symbol, uint32_t *carrier);
 
-/* What a carrier holds in a symbol of the zone. kind: 0 guard, 1 DC, 2 pilot, 3 data.
- * slot, subchannel and index are written where kind is 3, else left alone. Refusals 1, 2, 3, 4, 7. */
+/* What a carrier holds in a symbol of the zone: the reverse of bp_place.
+ *
+ * Written where it is accepted: *kind, 0 guard, 1 DC, 2 pilot, 3 data; and where that is 3 (else they keep their
+ * contents) *slot, *subchannel and *index, whose point bp_place puts there.
+ * Refusals, in this order: 1 mode, 2 size, 3 cell, 4 symbol, 7 carrier. */
 uint32_t bp_locate(uint32_t mode, uint32_t size, uint32_t cell, uint32_t symbol, uint32_t carrier,
                    uint32_t *kind, uint32_t *slot, uint32_t *subchannel, uint32_t *index);
 
-/* Lays a slot's points on its grid: the whole grid is written, the points on data, the pilot point on pilots, +0.0 on
- * guards and DC. Refusals 1, 2, 3, 4, 8, 9. */
+/* Lays a slot's points on its grid.
+ *
+ * pilot: the point for every pilot; it is read on a refusal too. points: points_len floats, all points of the slot.
+ * grid: grid_len floats, whatever they hold.
+ * Written where it is accepted: the whole grid, the points on data carriers, the pilot point on pilots, +0.0 on guards
+ * and DC.
+ * Refusals, in this order: 1 mode, 2 size, 3 cell, 4 slot, 8 points_len, 9 grid_len. */
 uint32_t bp_fill(uint32_t mode, uint32_t size, uint32_t cell, uint32_t slot, const float pilot[2],
                  const float *points, size_t points_len, float *grid, size_t grid_len);
 
-/* Takes a slot's points off its grid: all points are written; only data carriers are read. Refusals 1, 2, 3, 4, 8, 9. */
+/* Takes a slot's points off its grid: the reverse of bp_fill.
+ *
+ * grid: grid_len floats; only data carriers are read, pilots, guards and DC may hold anything.
+ * Written where it is accepted: all points_len floats of points.
+ * Refusals, in this order: 1 mode, 2 size, 3 cell, 4 slot, 8 points_len, 9 grid_len. */
 uint32_t bp_empty(uint32_t mode, uint32_t size, uint32_t cell, uint32_t slot,
                   const float *grid, size_t grid_len, float *points, size_t points_len);
 
-/* The point on a carrier in a symbol of the zone, read from the grid of the symbol's slot, and whose it is.
- * kind: 0 nothing (guard or DC, whatever the grid holds there), 2 pilot, 3 data. point is written where kind is 2 or 3;
- * slot, subchannel and index where it is 3; else they are left alone. Refusals 1, 2, 3, 4, 7, 9. */
+/* The point on a carrier in a symbol of the zone, and whose it is.
+ *
+ * grid: grid_len floats, the whole grid of the symbol's slot; the point is read from it as it stands.
+ * Written where it is accepted: *kind, 0 nothing (a guard or DC, whatever the grid holds there), 2 pilot, 3 data;
+ * point[0] and point[1] where that is 2 or 3; *slot, *subchannel and *index where it is 3. What is not written keeps its
+ * contents.
+ * Refusals, in this order: 1 mode, 2 size, 3 cell, 4 symbol, 7 carrier, 9 grid_len. */
 uint32_t bp_look(uint32_t mode, uint32_t size, uint32_t cell, uint32_t symbol, const float *grid, size_t grid_len,
                  uint32_t carrier, uint32_t *kind, float point[2],
                  uint32_t *slot, uint32_t *subchannel, uint32_t *index);
 
 /* Optional FUSC: in which groups subchannel_a of cell_a and subchannel_b of cell_b are on one carrier.
- * Group k of a symbol is its data numbers N*k to N*k+N-1, N being size / 64; every symbol has the same answer.
- * hits[k] is written for each group k, 1 where the two collide and else 0; count is how many are 1.
- * On a refusal neither is written. One cell may be given twice. Refusals 2, 3 (cell_a), 3 (cell_b), 5 (subchannel_a),
- * 5 (subchannel_b), put in this order. */
+ *
+ * Sizes, cells and subchannels are those of mode 2. Group k of a symbol (0..47) is its data numbers N*k to N*k+N-1, N
+ * being size / 64; each subchannel has one point there, and every symbol has the same answer. One cell may be given twice.
+ * Written where it is accepted: all of hits, hits[k] being 1 where the two collide in group k and else 0; and *count, how
+ * many are 1.
+ * Refusals, in this order: 2 size, 3 cell_a, 3 cell_b, 5 subchannel_a, 5 subchannel_b. */
 uint32_t bp_ofusc_collisions(uint32_t size, uint32_t cell_a, uint32_t subchannel_a,
                              uint32_t cell_b, uint32_t subchannel_b, uint8_t hits[48], uint32_t *count);
 
-/* AMC: which indices both cells put on one carrier, in every subchannel, slot and size alike.
- * hits[j] is written for each index j, 1 where they collide and else 0; count is how many are 1.
- * On a refusal neither is written. One cell may be given twice. Refusals 3 (cell_a), 3 (cell_b). */
+/* AMC: which indices of a subchannel both cells put on one carrier, the same in every subchannel, slot and size.
+ *
+ * Cells are those of mode 3, 0..2351. One cell may be given twice.
+ * Written where it is accepted: all of hits, hits[j] being 1 where the two collide at index j and else 0; and *count, how
+ * many are 1.
+ * Refusals, in this order: 3 cell_a, 3 cell_b. */
 uint32_t bp_amc_collisions(uint32_t cell_a, uint32_t cell_b, uint8_t hits[48], uint32_t *count);
 
-/* The zone plan that `len` bytes are. zones: mode, cell, slots of each of the eight places, those past the count zero.
- * Refusals 10, 11, 12, 2, 1, 3, 13, 14, 15, the first that is met. `bytes` may be any pointer where `len` is 0. */
+/* Reads a zone plan from its bytes.
+ *
+ * The bytes are values: the count of zones (1..8), the size (256, 512, 1024, 2048), then mode (0, 2 or 3), cell and slots
+ * (1..512) of each zone. A value is one to three groups of seven bits, lowest first, with the top bit set where more
+ * follow, in its shortest form. len may be any number; no plan has more than 43 bytes.
+ * Written where it is accepted: *count, *size, and all of zones: mode, cell and slots of eight places one after the other,
+ * the places past the count all zero.
+ * Refusals, in this order: 10 and 11 at each value as it is read; 12 directly after the count; 2 directly after the size;
+ * after each zone's three values 1 mode, 2 size for that mode, 3 cell, 13 slots, 14 order; at the end 15. */
 uint32_t bp_plan_read(const uint8_t *bytes, size_t len, uint32_t *count, uint32_t *size, uint32_t zones[24]);
 
-/* Writes a plan at the start of `dest`, and how many bytes it takes to `written`; further bytes stay.
- * Refusals 12, 2, for each zone 1, 2, 3, 13, 14, then 16. `dest` may be any pointer where `dest_len` is 0. */
+/* Writes a zone plan as its bytes: the reverse of bp_plan_read.
+ *
+ * count, size and zones are as bp_plan_read gives them; places past the count must be all zero.
+ * Written where it is accepted: the plan's bytes, at most 43, at the start of dest, and *written, how many they are; the
+ * bytes of dest behind them keep their contents.
+ * Refusals, in this order: 12 count and the places past it; 2 size; for each zone in turn 1 mode, 2 size for that mode,
+ * 3 cell, 13 slots, 14 order; at the end 16 dest_len. */
 uint32_t bp_plan_write(uint32_t count, uint32_t size, const uint32_t zones[24],
                        uint8_t *dest, size_t dest_len, uint32_t *written);
 

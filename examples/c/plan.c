@@ -1,8 +1,20 @@
-/* Reads a zone plan, prints its zones, and writes it again: plan BYTE.. (each byte two hex digits) */
+/* Reads a zone plan, prints its zones, and writes it again: plan BYTE.. (each byte two hex digits). At most 128 bytes
+   are read, which decide: no plan is that long. */
 #include <stdio.h>
 #include <stdlib.h>
 
 #include "bellpulsar.h"
+
+static uint8_t byte(const char *word)
+{
+    char *end;
+    unsigned long n = strtoul(word, &end, 16);
+    if (end == word || *end != '\0' || n > 0xFF) {
+        fprintf(stderr, "not a number: %s\n", word);
+        exit(2);
+    }
+    return (uint8_t)n;
+}
 
 int main(int argc, char **argv)
 {
@@ -10,7 +22,7 @@ int main(int argc, char **argv)
     size_t len = 0;
     uint32_t count, size, zones[24], written;
     for (int i = 1; i < argc && len < sizeof bytes; i++)
-        bytes[len++] = (uint8_t)strtoul(argv[i], NULL, 16);
+        bytes[len++] = byte(argv[i]);
 
     uint32_t refused = bp_plan_read(bytes, len, &count, &size, zones);
     if (refused == 0)

@@ -6,6 +6,8 @@ out=target/capi
 
 ./build.sh
 mkdir -p "$out"
+sh tests/capi/header.sh
+python3 tests/capi/header_table.py
 python3 tests/capi/table.py > "$out/table.h"
 python3 tests/capi/grid_table.py > "$out/grid_table.h"
 for test in capi_test grid_test plan_test; do

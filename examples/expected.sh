@@ -1,0 +1,71 @@
+#!/bin/sh
+# Runs the examples of one language and fails where one prints, or ends with, something else than it should. Most of
+# what is expected are known points of document 01.
+#
+#     sh examples/expected.sh PREFIX
+#
+# PREFIX and the example's name make the command: "target/" runs target/point, "target/rust_example " runs
+# target/rust_example with point as its first argument.
+set -eu
+prefix=$1
+
+# expect STATUS TEXT NAME ARGUMENTS..
+expect() {
+    status=$1
+    want=$2
+    name=$3
+    shift 3
+    ended=0
+    got=$($prefix$name "$@" 2>/dev/null) || ended=$?
+    if [ "$got" != "$want" ] || [ "$ended" -ne "$status" ]; then
+        printf '%s%s %s ended with %s and printed:\n%s\ninstead of %s and:\n%s\n' \
+            "$prefix" "$name" "$*" "$ended" "$got" "$status" "$want"
+        exit 1
+    fi
+}
+
+expect 0 "symbol 0 carrier 87
+holds slot 0 subchannel 0 index 0" point 2 1024 17 0 0 0
+expect 0 "symbol 1 carrier 552
+holds slot 1 subchannel 3 index 5" point 2 1024 0 1 3 5
+expect 0 "symbol 0 carrier 1862
+holds slot 0 subchannel 1 index 11" point 0 2048 0 0 1 11
+expect 1 "refused 1" point 4 1024 256 0 0 0
+expect 1 "refused 2" point 2 128 256 0 0 0
+expect 1 "refused 3" point 2 1024 256 0 0 0
+expect 1 "refused 4" point 3 256 2351 512 0 0
+expect 1 "refused 5" point 1 2048 69 511 70 48
+expect 1 "refused 6" point 2 1024 17 0 0 48
+# A number that 32 bits do not hold is refused, not cut to one that they hold.
+expect 1 "refused 1" point 4294967298 1024 17 0 0 0
+expect 1 "refused 3" point 2 1024 -1 0 0 0
+expect 1 "refused 6" point 2 1024 17 0 0 340282366920938463463374607431768211456
+expect 2 "" point 2 1024 17 0 0 first
+expect 2 "" point 2 1024 17 0 0
+
+expect 0 "groups 0 1 31 32
+count 4" collisions 2048 0 2 1010 0
+expect 1 "refused 3" collisions 256 0 4 16 0
+expect 1 "refused 5" collisions 256 0 4 15 0
+expect 0 "indices 8 24 32
+count 3" collisions 48 176
+expect 1 "refused 3" collisions 48 2352
+expect 2 "" collisions 48
+
+expect 0 "symbol 1 carrier 377: point (48, -48) of slot 0 subchannel 1 index 0
+3360 points: all back" slot 1 2048 0 0
+expect 0 "symbol 9 carrier 133: point (48, -48) of slot 9 subchannel 1 index 0
+384 points: all back" slot 3 512 7 9
+expect 1 "refused 2" slot 2 4294967295 0 0
+
+expect 0 "size 2048
+mode 0 cell 0 slots 12
+bytes 01 80 10 00 00 0C" plan 01 80 10 00 00 0C
+expect 0 "size 1024
+mode 2 cell 17 slots 3
+mode 3 cell 176 slots 1
+bytes 02 80 08 02 11 03 03 B0 01 01" plan 02 80 08 02 11 03 03 B0 01 01
+expect 1 "refused 14" plan 01 80 10 02 00 0C
+expect 1 "refused 11" plan 81 00
+expect 1 "refused 10" plan
+expect 2 "" plan 100

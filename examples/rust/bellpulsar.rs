@@ -1,0 +1,362 @@
+//! Bellpulsar from Rust: the C interface of `include/bellpulsar.h` declared, and a safe wrapper over each of its calls.
+//!
+//! Put this file beside your program, write `mod bellpulsar;`, and link the static library:
+//!
+//!     rustc --edition 2021 -O yours.rs -L native=target/lib -l static=bellpulsar
+//!
+//! Any number may stand in any field, and a slice may have any length: what is out of range is refused by the engine
+//! itself, with the number of the first question of document 01 that is answered no. On a refusal no lent slice is
+//! written. Lengths, ranges and the order of the questions stand in the header.
+
+// A program need not use every call.
+#![allow(dead_code)]
+
+use std::fmt;
+
+#[rustfmt::skip] // As the header has them.
+mod c {
+    extern "C" {
+        pub fn bp_place(
+            mode: u32, size: u32, cell: u32, slot: u32, subchannel: u32, index: u32,
+            symbol: *mut u32, carrier: *mut u32,
+        ) -> u32;
+        pub fn bp_locate(
+            mode: u32, size: u32, cell: u32, symbol: u32, carrier: u32,
+            kind: *mut u32, slot: *mut u32, subchannel: *mut u32, index: *mut u32,
+        ) -> u32;
+        pub fn bp_fill(
+            mode: u32, size: u32, cell: u32, slot: u32, pilot: *const f32,
+            points: *const f32, points_len: usize, grid: *mut f32, grid_len: usize,
+        ) -> u32;
+        pub fn bp_empty(
+            mode: u32, size: u32, cell: u32, slot: u32,
+            grid: *const f32, grid_len: usize, points: *mut f32, points_len: usize,
+        ) -> u32;
+        pub fn bp_look(
+            mode: u32, size: u32, cell: u32, symbol: u32, grid: *const f32, grid_len: usize, carrier: u32,
+            kind: *mut u32, point: *mut f32, slot: *mut u32, subchannel: *mut u32, index: *mut u32,
+        ) -> u32;
+        pub fn bp_ofusc_collisions(
+            size: u32, cell_a: u32, subchannel_a: u32, cell_b: u32, subchannel_b: u32,
+            hits: *mut u8, count: *mut u32,
+        ) -> u32;
+        pub fn bp_amc_collisions(cell_a: u32, cell_b: u32, hits: *mut u8, count: *mut u32) -> u32;
+        pub fn bp_plan_read(
+            bytes: *const u8, len: usize, count: *mut u32, size: *mut u32, zones: *mut u32,
+        ) -> u32;
+        pub fn bp_plan_write(
+            count: u32, size: u32, zones: *const u32, dest: *mut u8, dest_len: usize, written: *mut u32,
+        ) -> u32;
+    }
+}
+
+/// A request that was refused: the number of the first question of document 01 that is answered no.
+#[derive(Clone, Copy, Debug, PartialEq, Eq)]
+pub struct Refusal(pub u32);
+
+impl Refusal {
+    /// The question in words.
+    pub fn question(self) -> &'static str {
+        match self.0 {
+            1 => "is the mode listed (in a plan: is it 0, 2 or 3)?",
+            2 => "is the size that mode's?",
+            3 => "is the cell in range?",
+            4 => "is the slot below 512, the zone's symbol below 512 times the slot length?",
+            5 => "is the subchannel in range?",
+            6 => "is the index below 48?",
+            7 => "is the carrier below the size?",
+            8 => "are the points just 96 floats for each subchannel?",
+            9 => "is the grid just 2 * size floats for each symbol of a slot?",
+            10 => "do the bytes reach to the value's end or its third group?",
+            11 => "does the value end by its third group, in shortest form?",
+            12 => "is the count 1 to 8 (writing: and every place past it zero)?",
+            13 => "are the slots 1 to 512?",
+            14 => "at 2048, is the first zone mode 0 with cell 0, and does nothing but mode 3 follow mode 3?",
+            15 => "are the bytes used up?",
+            16 => "is the destination long enough?",
+            _ => "a question that document 01 does not have",
+        }
+    }
+}
+
+impl fmt::Display for Refusal {
+    fn fmt(&self, f: &mut fmt::Formatter) -> fmt::Result {
+        write!(f, "refused {}: {}", self.0, self.question())
+    }
+}
+
+impl std::error::Error for Refusal {}
+
+/// 0 is done, any other number a refusal.
+fn done(number: u32) -> Result<(), Refusal> {
+    if number == 0 {
+        Ok(())
+    } else {
+        Err(Refusal(number))
+    }
+}
+
+/// Mode (0 PUSC downlink, 1 PUSC uplink, 2 optional FUSC, 3 AMC), FFT size and cell (the permutation base).
+#[derive(Clone, Copy, Debug, PartialEq, Eq)]
+pub struct Setup {
+    pub mode: u32,
+    pub size: u32,
+    pub cell: u32,
+}
+
+/// Whose point it is.
+#[derive(Clone, Copy, Debug, Default, PartialEq, Eq)]
+pub struct Address {
+    pub slot: u32,
+    pub subchannel: u32,
+    pub index: u32,
+}
+
+/// Where a point lies: the zone's symbol and the carrier.
+#[derive(Clone, Copy, Debug, Default, PartialEq, Eq)]
+pub struct Place {
+    pub symbol: u32,
+    pub carrier: u32,
+}
+
+/// In-phase and quadrature.
+pub type Point = [f32; 2];
+
+/// What a carrier holds.
+#[derive(Clone, Copy, Debug, PartialEq, Eq)]
+pub enum Content {
+    Guard,
+    Dc,
+    Pilot,
+    Data(Address),
+}
+
+/// What stands on a carrier of a grid: nothing on guards and DC.
+#[derive(Clone, Copy, Debug, PartialEq)]
+pub enum Seen {
+    Nothing,
+    Pilot(Point),
+    Data(Point, Address),
+}
+
+/// The groups (optional FUSC) or indices (AMC) that are on one carrier, and how many they are.
+#[derive(Clone, Copy, Debug, PartialEq, Eq)]
+pub struct Collisions {
+    pub hits: [bool; 48],
+    pub count: u32,
+}
+
+#[derive(Clone, Copy, Debug, Default, PartialEq, Eq)]
+pub struct Zone {
+    pub mode: u32,
+    pub cell: u32,
+    pub slots: u32,
+}
+
+/// A zone plan; the places past the count are all zero.
+#[derive(Clone, Copy, Debug, Default, PartialEq, Eq)]
+pub struct Plan {
+    pub count: u32,
+    pub size: u32,
+    pub zones: [Zone; 8],
+}
+
+/// Where a point lies.
+pub fn place(setup: Setup, address: Address) -> Result<Place, Refusal> {
+    let Setup { mode, size, cell } = setup;
+    let mut at = Place::default();
+    // Safety: both out parameters are distinct fields of `at`.
+    done(unsafe {
+        c::bp_place(
+            mode,
+            size,
+            cell,
+            address.slot,
+            address.subchannel,
+            address.index,
+            &mut at.symbol,
+            &mut at.carrier,
+        )
+    })?;
+    Ok(at)
+}
+
+/// What a carrier holds in a symbol of the zone.
+pub fn locate(setup: Setup, at: Place) -> Result<Content, Refusal> {
+    let Setup { mode, size, cell } = setup;
+    let (mut kind, mut of) = (0, Address::default());
+    // Safety: the out parameters are distinct variables.
+    done(unsafe {
+        c::bp_locate(
+            mode,
+            size,
+            cell,
+            at.symbol,
+            at.carrier,
+            &mut kind,
+            &mut of.slot,
+            &mut of.subchannel,
+            &mut of.index,
+        )
+    })?;
+    Ok(match kind {
+        0 => Content::Guard,
+        1 => Content::Dc,
+        2 => Content::Pilot,
+        3 => Content::Data(of),
+        _ => unreachable!("the header has no kind {kind}"),
+    })
+}
+
+/// Lays a slot's points on its grid; the whole grid is written.
+pub fn fill(
+    setup: Setup,
+    slot: u32,
+    pilot: Point,
+    points: &[f32],
+    grid: &mut [f32],
+) -> Result<(), Refusal> {
+    let Setup { mode, size, cell } = setup;
+    // Safety: each pointer comes with its slice's own length, and a slice lent mutably overlaps no other.
+    done(unsafe {
+        c::bp_fill(
+            mode,
+            size,
+            cell,
+            slot,
+            pilot.as_ptr(),
+            points.as_ptr(),
+            points.len(),
+            grid.as_mut_ptr(),
+            grid.len(),
+        )
+    })
+}
+
+/// Takes a slot's points off its grid; all points are written.
+pub fn empty(setup: Setup, slot: u32, grid: &[f32], points: &mut [f32]) -> Result<(), Refusal> {
+    let Setup { mode, size, cell } = setup;
+    // Safety: as in `fill`.
+    done(unsafe {
+        c::bp_empty(
+            mode,
+            size,
+            cell,
+            slot,
+            grid.as_ptr(),
+            grid.len(),
+            points.as_mut_ptr(),
+            points.len(),
+        )
+    })
+}
+
+/// The point on a carrier in a symbol of the zone, read from the grid of the symbol's slot, and whose it is.
+pub fn look(setup: Setup, symbol: u32, grid: &[f32], carrier: u32) -> Result<Seen, Refusal> {
+    let Setup { mode, size, cell } = setup;
+    let (mut kind, mut point, mut of) = (0, [0.0; 2], Address::default());
+    // Safety: the grid comes with its own length, and the out parameters are distinct variables.
+    done(unsafe {
+        c::bp_look(
+            mode,
+            size,
+            cell,
+            symbol,
+            grid.as_ptr(),
+            grid.len(),
+            carrier,
+            &mut kind,
+            point.as_mut_ptr(),
+            &mut of.slot,
+            &mut of.subchannel,
+            &mut of.index,
+        )
+    })?;
+    Ok(match kind {
+        0 => Seen::Nothing,
+        2 => Seen::Pilot(point),
+        3 => Seen::Data(point, of),
+        _ => unreachable!("the header has no kind {kind}"),
+    })
+}
+
+/// Optional FUSC: the groups in which two subchannels, each of its cell, are on one carrier.
+pub fn ofusc_collisions(
+    size: u32,
+    cell_a: u32,
+    subchannel_a: u32,
+    cell_b: u32,
+    subchannel_b: u32,
+) -> Result<Collisions, Refusal> {
+    let (mut hits, mut count) = ([0u8; 48], 0);
+    // Safety: `hits` has the 48 bytes that are written.
+    done(unsafe {
+        c::bp_ofusc_collisions(
+            size,
+            cell_a,
+            subchannel_a,
+            cell_b,
+            subchannel_b,
+            hits.as_mut_ptr(),
+            &mut count,
+        )
+    })?;
+    Ok(Collisions {
+        hits: hits.map(|hit| hit == 1),
+        count,
+    })
+}
+
+/// AMC: the indices that both cells put on one carrier.
+pub fn amc_collisions(cell_a: u32, cell_b: u32) -> Result<Collisions, Refusal> {
+    let (mut hits, mut count) = ([0u8; 48], 0);
+    // Safety: `hits` has the 48 bytes that are written.
+    done(unsafe { c::bp_amc_collisions(cell_a, cell_b, hits.as_mut_ptr(), &mut count) })?;
+    Ok(Collisions {
+        hits: hits.map(|hit| hit == 1),
+        count,
+    })
+}
+
+/// The zone plan that the bytes are.
+pub fn plan_read(bytes: &[u8]) -> Result<Plan, Refusal> {
+    let (mut plan, mut numbers) = (Plan::default(), [0u32; 24]);
+    // Safety: the bytes come with their own length, and `numbers` has the 24 that are written.
+    done(unsafe {
+        c::bp_plan_read(
+            bytes.as_ptr(),
+            bytes.len(),
+            &mut plan.count,
+            &mut plan.size,
+            numbers.as_mut_ptr(),
+        )
+    })?;
+    for (zone, three) in plan.zones.iter_mut().zip(numbers.chunks_exact(3)) {
+        *zone = Zone {
+            mode: three[0],
+            cell: three[1],
+            slots: three[2],
+        };
+    }
+    Ok(plan)
+}
+
+/// Writes a plan at the start of `dest` and tells how many bytes it takes; further bytes stay.
+pub fn plan_write(plan: &Plan, dest: &mut [u8]) -> Result<usize, Refusal> {
+    let (mut numbers, mut written) = ([0u32; 24], 0);
+    for (three, zone) in numbers.chunks_exact_mut(3).zip(plan.zones) {
+        three.copy_from_slice(&[zone.mode, zone.cell, zone.slots]);
+    }
+    // Safety: `numbers` has the 24 that are read, and the destination comes with its own length.
+    done(unsafe {
+        c::bp_plan_write(
+            plan.count,
+            plan.size,
+            numbers.as_ptr(),
+            dest.as_mut_ptr(),
+            dest.len(),
+            &mut written,
+        )
+    })?;
+    Ok(written as usize)
+}

@@ -1,0 +1,154 @@
+//! One use of each call:
+//!
+//!     point MODE SIZE CELL SLOT SUBCHANNEL INDEX       where a point is placed, and what is found there
+//!     collisions SIZE CELL SUBCHANNEL CELL SUBCHANNEL  where two cells collide in optional FUSC
+//!     collisions CELL CELL                             where two cells collide in AMC
+//!     slot MODE SIZE CELL SLOT                         fills a slot's grid, looks at the carrier of
+//!                                                      subchannel 1, index 0, and empties the grid again
+//!     plan BYTE..                                      reads a zone plan (each byte two hex digits),
+//!                                                      prints its zones, and writes it again
+
+mod bellpulsar;
+
+use bellpulsar::{Address, Collisions, Content, Place, Refusal, Seen, Setup};
+use std::num::IntErrorKind;
+use std::process::exit;
+
+fn usage() -> ! {
+    eprintln!("usage: point MODE SIZE CELL SLOT SUBCHANNEL INDEX");
+    eprintln!("       collisions SIZE CELL SUBCHANNEL CELL SUBCHANNEL, or collisions CELL CELL");
+    eprintln!("       slot MODE SIZE CELL SLOT");
+    eprintln!("       plan BYTE..");
+    exit(2)
+}
+
+fn no_number(word: &str) -> ! {
+    eprintln!("not a number: {word}");
+    exit(2)
+}
+
+/// A field's number from a word. One that 32 bits do not hold, a negative one too, is the largest that they do: it is
+/// out of every range.
+fn field(word: &str) -> u32 {
+    match word.parse::<i128>() {
+        Ok(number) => number.try_into().unwrap_or(u32::MAX),
+        Err(error) => match error.kind() {
+            IntErrorKind::PosOverflow | IntErrorKind::NegOverflow => u32::MAX,
+            _ => no_number(word),
+        },
+    }
+}
+
+/// A byte from one or two hex digits.
+fn byte(word: &str) -> u8 {
+    u8::from_str_radix(word, 16).unwrap_or_else(|_| no_number(word))
+}
+
+fn point(setup: Setup, address: Address) -> Result<(), Refusal> {
+    let at = bellpulsar::place(setup, address)?;
+    let content = bellpulsar::locate(setup, at)?;
+    println!("symbol {} carrier {}", at.symbol, at.carrier);
+    if let Content::Data(of) = content {
+        println!(
+            "holds slot {} subchannel {} index {}",
+            of.slot, of.subchannel, of.index
+        );
+    }
+    Ok(())
+}
+
+fn collisions(what: &str, found: Result<Collisions, Refusal>) -> Result<(), Refusal> {
+    let found = found?;
+    let hit: String = (0..48)
+        .filter(|&k| found.hits[k])
+        .map(|k| format!(" {k}"))
+        .collect();
+    println!("{what}{hit}\ncount {}", found.count);
+    Ok(())
+}
+
+/// How many points a slot has, and how many symbols.
+fn slot_shape(setup: Setup) -> (usize, usize) {
+    match setup.mode {
+        0 => (48 * 60, 2),
+        1 => (48 * 70, 3),
+        _ => (48 * (setup.size as usize / 64), 1),
+    }
+}
+
+fn slot(setup: Setup, slot: u32) -> Result<(), Refusal> {
+    // Asked first: only numbers that are in range make buffers.
+    let address = Address {
+        slot,
+        subchannel: 1,
+        index: 0,
+    };
+    let Place { symbol, carrier } = bellpulsar::place(setup, address)?;
+    let (count, symbols) = slot_shape(setup);
+    let points: Vec<f32> = (0..count).flat_map(|n| [n as f32, -(n as f32)]).collect();
+    let mut grid = vec![0.0; 2 * setup.size as usize * symbols];
+    let mut back = vec![0.0; points.len()];
+    bellpulsar::fill(setup, slot, [1.0, 0.0], &points, &mut grid)?;
+    let seen = bellpulsar::look(setup, symbol, &grid, carrier)?;
+    bellpulsar::empty(setup, slot, &grid, &mut back)?;
+    if let Seen::Data([i, q], of) = seen {
+        println!(
+            "symbol {symbol} carrier {carrier}: point ({i}, {q}) of slot {} subchannel {} index {}",
+            of.slot, of.subchannel, of.index
+        );
+    }
+    let all = if back == points { "all" } else { "not all" };
+    println!("{count} points: {all} back");
+    Ok(())
+}
+
+fn plan(bytes: &[u8]) -> Result<(), Refusal> {
+    let plan = bellpulsar::plan_read(bytes)?;
+    let mut again = [0; 128];
+    let written = bellpulsar::plan_write(&plan, &mut again)?;
+    println!("size {}", plan.size);
+    for zone in &plan.zones[..plan.count as usize] {
+        println!("mode {} cell {} slots {}", zone.mode, zone.cell, zone.slots);
+    }
+    let text: String = again[..written]
+        .iter()
+        .map(|byte| format!(" {byte:02X}"))
+        .collect();
+    println!("bytes{text}");
+    Ok(())
+}
+
+fn run(name: &str, words: &[String]) -> Result<(), Refusal> {
+    if name == "plan" {
+        return plan(&words.iter().map(|word| byte(word)).collect::<Vec<u8>>());
+    }
+    let fields: Vec<u32> = words.iter().map(|word| field(word)).collect();
+    match (name, fields.as_slice()) {
+        ("point", &[mode, size, cell, slot, subchannel, index]) => point(
+            Setup { mode, size, cell },
+            Address {
+                slot,
+                subchannel,
+                index,
+            },
+        ),
+        ("collisions", &[size, cell_a, subchannel_a, cell_b, subchannel_b]) => collisions(
+            "groups",
+            bellpulsar::ofusc_collisions(size, cell_a, subchannel_a, cell_b, subchannel_b),
+        ),
+        ("collisions", &[cell_a, cell_b]) => {
+            collisions("indices", bellpulsar::amc_collisions(cell_a, cell_b))
+        }
+        ("slot", &[mode, size, cell, number]) => slot(Setup { mode, size, cell }, number),
+        _ => usage(),
+    }
+}
+
+fn main() {
+    let words: Vec<String> = std::env::args().skip(1).collect();
+    let (name, words) = words.split_first().unwrap_or_else(|| usage());
+    if let Err(Refusal(number)) = run(name, words) {
+        println!("refused {number}");
+        exit(1);
+    }
+}

@@ -1,0 +1,7 @@
+#!/bin/sh
+# Builds and runs the example: run.sh point|collisions|slot|plan ARGUMENTS
+set -eu
+cd "$(dirname "$0")/../.."
+./build.sh
+rustc --edition 2021 -O examples/rust/example.rs -L native=target/lib -l static=bellpulsar -o target/rust_example
+exec target/rust_example "$@"

@@ -1,0 +1,392 @@
+"""Random requests through the C interface, good and bad, each held to the reference.
+
+    python3 tests/random_requests.py [SEED]
+
+Ten thousand requests a call. Every answer, every byte that is written and every byte that is not is compared (lent.py).
+Fails where one differs, and also where a refusal, a kind of carrier, or a mode and size that a call has never occurred.
+"""
+
+import random
+import sys
+from array import array
+from collections import Counter
+from functools import lru_cache
+from operator import itemgetter
+
+import lent
+import reference as ref
+from lent import Arena, words
+
+SEED = 802
+REQUESTS = 10000
+ROUND = 40  # requests of each call over one mode, size, cell and slot
+SETUPS = [(mode, size) for mode in range(4) for size in ref.sizes(mode)]
+KINDS = {ref.GUARD: 0, ref.DC: 1, ref.PILOT: 2, ref.DATA: 3}
+LARGEST = 2**32 - 1
+POINTS_ROOM, GRID_ROOM = 2 * 96 * 70, 2 * 2 * 3 * 2048  # floats, twice the largest
+
+
+# --- fields -----------------------------------------------------------------------------------
+
+
+def within(dice, limit):
+    """A number below the limit, the ends more often."""
+    return dice.choice([0, limit - 1] + [dice.randrange(limit)] * 4)
+
+
+def beyond(dice, good, limit):
+    """A number that is past a range, or at times within it: close by, cut to a good one, or any."""
+    near = [limit, limit + 1, limit - 1, LARGEST]
+    cut = [good + 2**8, good + 2**16, good + 2**31]
+    return dice.choice(near + cut + [dice.randrange(limit, 2**32), dice.getrandbits(32)])
+
+
+def other_size(dice, good, _):
+    sizes = ref.BIN_SIZES + [0, 1, 64, 128, 768, 1536, 4096, good - 1, good + 1, good + 2**16, LARGEST]
+    return dice.choice(sizes + [dice.getrandbits(32)])
+
+
+def spoiled(dice, good, limits, others={}):
+    """The fields as they are, or (half of the time) with some of them changed, most often one."""
+    fields = list(good)
+    if dice.randrange(2):
+        for i in dice.sample(range(len(fields)), min(len(fields), dice.choice([1, 1, 1, 2, 3]))):
+            fields[i] = others.get(i, beyond)(dice, good[i], limits[i])
+    return fields
+
+
+def setup_limits(mode, size):
+    """The first number past each of mode, size and cell; the size's is not used."""
+    return [4, 0, ref.cells(mode, size)]
+
+
+def some_carrier(dice, mode, size):
+    """A carrier of the symbol; the edges of the band and DC more often."""
+    left, used = ref.left_guards(mode, size), ref.used_numbers(mode, size)
+    dc, end = ref.dc(size), left + used + 1
+    edges = [0, left - 1, left, dc - 1, dc, dc, dc + 1, end - 1, end, size - 1]
+    return dice.choice(edges + [dice.randrange(size)] * 30)
+
+
+def some_length(dice, right, other, room, last):
+    """A buffer's length: most often right, else off by little, none, the other buffer's, doubled, or past 32 bits."""
+    if dice.randrange(5):
+        return right
+    lengths = [right + 1, right + 2, right - 1, right - 2, 0, 1, other, 2 * right, right // 2, dice.randrange(room)]
+    return dice.choice(lengths + [lent.LONG + right] * (last and lent.HAS_LONG))
+
+
+def pointer(dice, address, length):
+    """The buffer's address; where it has no length, at times another or none."""
+    return address if length else dice.choice([address, address, 0, 4, 2**47])
+
+
+# --- the calls --------------------------------------------------------------------------------
+
+# A request is a call's arguments, what the arena is given before, the refusal, what is written to the arena, and the
+# cases that are met where it is accepted. `refusals` and `cases` of a call are those that must have occurred in the end.
+
+
+class Place:
+    name, arena = "bp_place", Arena(4, 4)
+    refusals, cases = [1, 2, 3, 4, 5, 6], SETUPS
+
+    def request(self, dice, noise, mode, size, cell, slot):
+        limits = setup_limits(mode, size) + [ref.SLOTS, ref.subchannels(mode, size), ref.POINTS]
+        good = [mode, size] + [within(dice, limit) for limit in limits[2:]]
+        fields = spoiled(dice, good, limits, {1: other_size})
+        number, symbol, carrier = ref.place(*fields)
+        written = [] if number else [(0, words([symbol])), (1, words([carrier]))]
+        return fields + list(map(self.arena.address, (0, 1))), [], number, written, [tuple(fields[:2])]
+
+
+class Locate:
+    name, arena = "bp_locate", Arena(4, 4, 4, 4)
+    refusals, cases = [1, 2, 3, 4, 7], SETUPS + [ref.GUARD, ref.DC, ref.PILOT, ref.DATA]
+
+    def request(self, dice, noise, mode, size, cell, slot):
+        length = ref.SLOT_LENGTH[mode]
+        limits = setup_limits(mode, size) + [ref.SLOTS * length, size]
+        good = [mode, size, cell, slot * length + dice.randrange(length), some_carrier(dice, mode, size)]
+        fields = spoiled(dice, good, limits, {1: other_size})
+        number, what = ref.locate(*fields)
+        written = [] if number else [(i, words([x])) for i, x in enumerate((KINDS[what[0]],) + what[1:])]
+        met = [] if number else [tuple(fields[:2]), what[0]]
+        return fields + list(map(self.arena.address, range(4))), [], number, written, met
+
+
+@lru_cache(maxsize=64)
+def fill_sources(mode, size, cell, slot):
+    """For each float of the filled grid, which of (0, the pilot's two, the points') it is: the reference fills a grid
+    with these numbers."""
+    points = list(range(3, 3 + 96 * ref.subchannels(mode, size)))
+    return itemgetter(*ref.fill(mode, size, cell, slot, [1, 2], points, [0] * ref.grid_floats(mode, size))[1])
+
+
+@lru_cache(maxsize=64)
+def empty_sources(mode, size, cell, slot):
+    """For each float of the points, which one of the grid it is."""
+    points = [0] * (96 * ref.subchannels(mode, size))
+    return itemgetter(*ref.empty(mode, size, cell, slot, list(range(ref.grid_floats(mode, size))), points)[1])
+
+
+def buffer_fields(dice, mode, size, cell, slot, points_last):
+    """The fields and both lengths of fill or empty."""
+    fields = spoiled(dice, [mode, size, cell, slot], setup_limits(mode, size) + [ref.SLOTS], {1: other_size})
+    points, grid = 96 * ref.subchannels(mode, size), ref.grid_floats(mode, size)
+    points_len = some_length(dice, points, grid, POINTS_ROOM, points_last)
+    grid_len = some_length(dice, grid, points, GRID_ROOM, not points_last)
+    return fields, points_len, grid_len
+
+
+class Fill:
+    name, arena = "bp_fill", Arena(8, 4 * POINTS_ROOM, 4 * GRID_ROOM)
+    refusals, cases = [1, 2, 3, 4, 8, 9], SETUPS
+
+    def request(self, dice, noise, mode, size, cell, slot):
+        fields, points_len, grid_len = buffer_fields(dice, mode, size, cell, slot, points_last=False)
+        number = ref.buffers_refusal(*fields, points_len, grid_len)
+        pilot, points, grid = map(self.arena.address, range(3))
+        arguments = fields + [pilot, pointer(dice, points, points_len), points_len]
+        arguments += [pointer(dice, grid, grid_len), grid_len]
+        if number:
+            return arguments, [], number, [], []
+        floats = array("I", noise.run(dice, 8 + 4 * points_len))
+        after = fill_sources(*fields)(array("I", [0]) + floats)
+        given = [(0, floats[:2].tobytes()), (1, floats[2:].tobytes())]
+        return arguments, given, 0, [(2, array("I", after).tobytes())], [tuple(fields[:2])]
+
+
+class Empty:
+    name, arena = "bp_empty", Arena(4 * GRID_ROOM, 4 * POINTS_ROOM)
+    refusals, cases = [1, 2, 3, 4, 8, 9], SETUPS
+
+    def request(self, dice, noise, mode, size, cell, slot):
+        fields, points_len, grid_len = buffer_fields(dice, mode, size, cell, slot, points_last=True)
+        number = ref.buffers_refusal(*fields, points_len, grid_len)
+        grid, points = map(self.arena.address, range(2))
+        arguments = fields + [pointer(dice, grid, grid_len), grid_len, pointer(dice, points, points_len), points_len]
+        if number:
+            return arguments, [], number, [], []
+        floats = array("I", noise.run(dice, 4 * grid_len))
+        after = empty_sources(*fields)(floats)
+        return arguments, [(0, floats.tobytes())], 0, [(1, array("I", after).tobytes())], [tuple(fields[:2])]
+
+
+class Look:
+    name, arena = "bp_look", Arena(4, 8, 4, 4, 4, 4 * GRID_ROOM)
+    refusals, cases = [1, 2, 3, 4, 7, 9], SETUPS + ["nothing", ref.PILOT, ref.DATA]
+
+    def request(self, dice, noise, mode, size, cell, slot):
+        length, floats = ref.SLOT_LENGTH[mode], ref.grid_floats(mode, size)
+        limits = setup_limits(mode, size) + [ref.SLOTS * length, size]
+        good = [mode, size, cell, slot * length + dice.randrange(length), some_carrier(dice, mode, size)]
+        fields = spoiled(dice, good, limits, {1: other_size})
+        symbol, carrier = fields[3:]
+        grid_len = some_length(dice, floats, 96 * ref.subchannels(mode, size), GRID_ROOM, True)
+        number = ref.look_refusal(*fields[:4], grid_len, carrier)
+        outs, grid = list(map(self.arena.address, range(5))), pointer(dice, self.arena.address(5), grid_len)
+        arguments = fields[:4] + [grid, grid_len, carrier] + outs
+        if number:
+            return arguments, [], number, [], []
+        patterns = array("I", noise.run(dice, 4 * grid_len))
+        what = ref.look(*fields[:4], patterns, carrier)[1]
+        written = [(0, words([KINDS.get(what[0], 0)]))]
+        if what[0] != "nothing":
+            written.append((1, words(what[1])))
+            written += [(2 + i, words([x])) for i, x in enumerate(what[2:])]
+        return arguments, [(5, patterns.tobytes())], 0, written, [tuple(fields[:2]), what[0]]
+
+
+class OfuscCollisions:
+    name, arena = "bp_ofusc_collisions", Arena(48, 4)
+    refusals, cases = [2, 3, 5], [(ref.OFUSC, size) for size in ref.BIN_SIZES]
+
+    def request(self, dice, noise, *_):
+        size = dice.choice(ref.BIN_SIZES)
+        cells, subchannels = ref.cells(ref.OFUSC, size), ref.subchannels(ref.OFUSC, size)
+        limits = [0, cells, subchannels, cells, subchannels]
+        good = [size] + [within(dice, limit) for limit in limits[1:]]
+        for i in (1, 2):
+            if dice.randrange(8) == 0:
+                good[i + 2] = good[i]
+        fields = spoiled(dice, good, limits, {0: other_size})
+        return self.answered(fields, ref.ofusc_collisions(*fields), [(ref.OFUSC, fields[0])])
+
+    def answered(self, fields, answer, met):
+        number, hits, count = answer
+        written = [] if number else [(0, bytes(hits)), (1, words([count]))]
+        return fields + list(map(self.arena.address, (0, 1))), [], number, written, met
+
+
+class AmcCollisions(OfuscCollisions):
+    name = "bp_amc_collisions"
+    refusals, cases = [3], []
+
+    def request(self, dice, noise, *_):
+        cells = ref.cells(ref.AMC, 2048)
+        good = [within(dice, cells), within(dice, cells)]
+        if dice.randrange(8) == 0:
+            good[1] = good[0]
+        fields = spoiled(dice, good, [cells, cells])
+        return self.answered(fields, ref.amc_collisions(*fields), [])
+
+
+# --- plans ------------------------------------------------------------------------------------
+
+
+def good_plan(dice):
+    """A plan that is accepted: size and zones."""
+    size, zones = dice.choice(ref.BIN_SIZES), []
+    if size == 2048:
+        zones.append((ref.PUSC_DL, 0, 1 + within(dice, ref.SLOTS)))
+    for _ in range(dice.randrange(0 if zones else 1, 9 - len(zones))):
+        modes = [ref.OFUSC, ref.AMC] + [ref.PUSC_DL] * (size == 2048)
+        mode = ref.AMC if zones and zones[-1][0] == ref.AMC else dice.choice(modes)
+        zones.append((mode, within(dice, ref.cells(mode, size)), 1 + within(dice, ref.SLOTS)))
+    return size, zones
+
+
+def other_number(dice, good, largest):
+    """A number for one of a plan: the limits of its fields, or any."""
+    close = [0, 1, 2, 3, 4, 8, 9, 31, 32, 127, 128, 512, 513, 2351, 2352, 16383, 16384, good + 1, good + 2**8]
+    return dice.choice(close + [dice.randrange(largest + 1), largest])
+
+
+def plan_numbers(dice, largest):
+    """Count, size and the numbers of eight places; at times the zones in another order, or some numbers changed."""
+    size, zones = good_plan(dice)
+    if dice.randrange(8) == 0:
+        dice.shuffle(zones)
+    numbers = [len(zones), size] + [x for zone in zones for x in zone] + [0] * (24 - 3 * len(zones))
+    if dice.randrange(3) == 0:
+        places = [0, 1] + 3 * list(range(2, 2 + 3 * len(zones))) + [25]
+        for i in sorted(set(dice.choices(places, k=dice.choice([1, 1, 2])))):
+            other = other_size if i == 1 else other_number
+            numbers[i] = min(largest, other(dice, numbers[i], largest))
+    return numbers
+
+
+def changed_bytes(dice, data):
+    """Bytes cut, prolonged, with a bit changed, a group put in or others put between."""
+    at, byte = dice.randrange(len(data)), dice.randrange(256)
+    before, here, after = data[:at], data[at], data[at + 1 :]
+    bit = [here ^ 1 << dice.randrange(8)]
+    group = [here | 0x80, 0]
+    between = [byte] * dice.randrange(1, 9) + [here]
+    return dice.choice([before, data + [byte], before + bit + after, before + group + after, before + between + after])
+
+
+def plan_bytes(dice):
+    """The bytes of a plan, good or not; at times any bytes."""
+    if dice.randrange(20) == 0:
+        return [dice.randrange(256) for _ in range(dice.randrange(9))]
+    numbers = plan_numbers(dice, 2**21 - 1)
+    used = numbers[: 2 + 3 * min(numbers[0], ref.PLACES)] if dice.randrange(8) else numbers
+    data = [byte for number in used for byte in ref.write_value(number)]
+    return data if dice.randrange(3) else changed_bytes(dice, data)
+
+
+class PlanRead:
+    name, arena = "bp_plan_read", Arena(4, 4, 96, 256)
+    refusals, cases = [1, 2, 3, 10, 11, 12, 13, 14, 15], []
+
+    def request(self, dice, noise, *_):
+        data = plan_bytes(dice)
+        length = len(data)
+        if lent.HAS_LONG and dice.randrange(20) == 0:
+            # No plan is longer than 128 bytes, so these decide.
+            data += [dice.randrange(256) for _ in range(128 - length)]
+            length += lent.LONG
+        number, count, size, zones = ref.read_plan(data)
+        outs = list(map(self.arena.address, range(3)))
+        arguments = [pointer(dice, self.arena.address(3), length), length] + outs
+        flat = [x for zone in zones for x in zone]
+        written = [] if number else [(0, words([count])), (1, words([size])), (2, words(flat))]
+        return arguments, [(3, bytes(data))], number, written, []
+
+
+class PlanWrite:
+    name, arena = "bp_plan_write", Arena(96, 4, 256)
+    refusals, cases = [1, 2, 3, 12, 13, 14, 16], []
+
+    def request(self, dice, noise, *_):
+        numbers = plan_numbers(dice, LARGEST)
+        zones = [tuple(numbers[i : i + 3]) for i in range(2, 26, 3)]
+        need = sum(len(ref.write_value(x)) for x in numbers[: 2 + 3 * min(numbers[0], 8)])
+        length = dice.choice([need, need, 43, 48, 128, need + 1, need - 1, dice.randrange(need), 0])
+        number, count, after = ref.write_plan(numbers[0], numbers[1], zones, [0] * length)
+        if number == 16 and lent.HAS_LONG and dice.randrange(4) == 0:
+            # Long enough, though its lowest 32 bits are not.
+            number, count, after = ref.write_plan(numbers[0], numbers[1], zones, [0] * 128)
+            length += lent.LONG
+        places, out, dest = map(self.arena.address, range(3))
+        arguments = numbers[:2] + [places, pointer(dice, dest, length), length, out]
+        written = [] if number else [(1, words([count])), (2, bytes(after[:count]))]
+        return arguments, [(0, words(numbers[2:]))], number, written, []
+
+
+CALLS = [Place, Locate, Fill, Empty, Look, OfuscCollisions, AmcCollisions, PlanRead, PlanWrite]
+
+
+# --- the run ----------------------------------------------------------------------------------
+
+
+class Tally:
+    """What was met in the requests of one call."""
+
+    def __init__(self, call):
+        self.call, self.numbers, self.met = call(), Counter(), set()
+
+    def add(self, number, met):
+        self.numbers[number] += 1
+        if number == 0:
+            self.met.update(met)
+
+    def text(self):
+        refused = ", ".join("%d: %d" % (n, self.numbers[n]) for n in sorted(self.numbers) if n)
+        total = sum(self.numbers.values())
+        return "%-20s %d requests, %d accepted; refused %s" % (self.call.name, total, self.numbers[0], refused)
+
+    def missing(self):
+        """The answers and the cases that never occurred."""
+        answers = [number for number in [0] + self.call.refusals if number not in self.numbers]
+        return answers + [case for case in self.call.cases if case not in self.met]
+
+
+def put(library, dice, noise, tally, setup):
+    """One request; ends the test where the engine does otherwise than the reference."""
+    call = tally.call
+    arguments, given, number, written, met = call.request(dice, noise, *setup)
+    contents = noise.run(dice, call.arena.size)
+    function = getattr(library, call.name)
+    difference = call.arena.difference(contents, function, arguments, given, number, written)
+    if difference:
+        short = [data.hex(" ") for _, data in given if len(data) <= 128]
+        sys.exit("%s %s; arguments %s, given %s" % (call.name, difference, arguments, short))
+    tally.add(number, met)
+
+
+def main():
+    seed = int(sys.argv[1]) if len(sys.argv) > 1 else SEED
+    print("random requests: seed %d" % seed)
+    if not lent.HAS_LONG:
+        print("lengths past 32 bits are left out: no address space for them here")
+    library, dice = lent.load(), random.Random(seed)
+    noise = lent.Noise(dice)
+    tallies = [Tally(call) for call in CALLS]
+    for turn in range(REQUESTS // ROUND):
+        mode, size = SETUPS[turn % len(SETUPS)]
+        setup = mode, size, within(dice, ref.cells(mode, size)), within(dice, ref.SLOTS)
+        for tally in tallies:
+            for _ in range(ROUND):
+                put(library, dice, noise, tally, setup)
+    for tally in tallies:
+        print(tally.text())
+        if sum(tally.numbers.values()) < REQUESTS or tally.missing():
+            sys.exit("%s: too few requests, or never met: %s" % (tally.call.name, tally.missing()))
+    print("random requests: all agree with the reference")
+
+
+if __name__ == "__main__":
+    main()

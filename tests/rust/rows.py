@@ -1,0 +1,115 @@
+"""Prints the requests and answers that callers.rs reads, from fixed seeds: one a line, its name and then numbers.
+
+    python3 tests/rust/rows.py > target/rust/rows.txt
+
+    place     mode size cell slot subchannel index; refusal symbol carrier
+    locate    mode size cell symbol carrier; refusal kind slot subchannel index
+    grid      mode size cell slot pilot(2) points_len; the points, the grid, as bit patterns
+    lengths   mode size cell slot points_len grid_len; refusal of fill and empty
+    look      the number of a grid above, symbol carrier; kind point(2) slot subchannel index
+    unseen    mode size cell symbol carrier grid_len; refusal of look
+    ofusc     size cell subchannel cell subchannel; refusal count hits(48)
+    amc       cell cell; refusal count hits(48)
+    read      length bytes; refusal count size zones(24)
+    write     length count size zones(24); refusal written, 48 bytes of which the first were lent
+
+What is not given by an answer stands as 0.
+"""
+
+import os
+import random
+import sys
+
+TESTS = os.path.dirname(os.path.dirname(os.path.abspath(__file__)))
+sys.path[:0] = [TESTS, os.path.join(TESTS, "capi")]
+
+import grid_table
+import reference as ref
+import table
+import vectors
+
+KINDS = {"nothing": 0, ref.PILOT: 2, ref.DATA: 3}
+
+
+def line(name, numbers):
+    print(name, *numbers)
+
+
+def wrong_length(dice, right, other):
+    return dice.choice([right + 1, right + 2, right - 1, right - 2, 0, other, 2 * right])
+
+
+def wrong_sets(good, wrong):
+    """The fields with every set of them wrong but the empty one: so a wrong field stands beside a wrong length too."""
+    for chosen in range(1, 2 ** len(good)):
+        yield [wrong[i] if chosen >> i & 1 else good[i] for i in range(len(good))]
+
+
+def lengths_rows(dice, mode, size):
+    points, grid = 96 * ref.subchannels(mode, size), ref.grid_floats(mode, size)
+    good = [mode, size, ref.cells(mode, size) - 1, 511, points, grid]
+    for _ in range(3):
+        lengths = [wrong_length(dice, points, grid), wrong_length(dice, grid, points)]
+        for fields in wrong_sets(good, [4, 128, ref.cells(mode, size), 512] + lengths):
+            yield fields + [ref.buffers_refusal(*fields)]
+
+
+def unseen_rows(dice, mode, size):
+    symbols, grid = 512 * ref.SLOT_LENGTH[mode], ref.grid_floats(mode, size)
+    good = [mode, size, ref.cells(mode, size) - 1, symbols - 1, dice.randrange(size), grid]
+    length = wrong_length(dice, grid, 96 * ref.subchannels(mode, size))
+    for fields in wrong_sets(good, [4, 128, ref.cells(mode, size), symbols, size, length]):
+        yield fields + [ref.look_refusal(*fields[:4], fields[5], fields[4])]
+
+
+def look_rows(dice, number, mode, size, cell, slot, grid):
+    """Each offset of the slot: the edges of the band, DC, and others."""
+    length = ref.SLOT_LENGTH[mode]
+    for symbol in range(slot * length, (slot + 1) * length):
+        for carrier in [0, ref.left_guards(mode, size), size // 2, size - 1] + dice.sample(range(size), 60):
+            what = ref.look(mode, size, cell, symbol, grid, carrier)[1]
+            told = list(what[1] if what[1:] else [0, 0]) + list(what[2:])
+            yield [number, symbol, carrier, KINDS[what[0]]] + told + [0] * (5 - len(told))
+
+
+def print_grids(dice):
+    for number, (mode, size) in enumerate(table.SETUPS):
+        cell, slot, pilot, points, grid = grid_table.case(dice, mode, size)
+        line("grid", [mode, size, cell, slot] + pilot + [len(points)] + points + grid)
+        for row in look_rows(dice, number, mode, size, cell, slot, grid):
+            line("look", row)
+
+
+def print_collisions(name, rows):
+    for row in rows:
+        number, hits, count = row[-1]
+        line(name, row[:-1] + [number, count] + hits)
+
+
+def print_plans():
+    """The requests of the stored plan vectors, but for those with a number that 32 bits do not hold."""
+    for request in vectors.plans_requests():
+        if max(request[1:]) < 2**32:
+            line({"r": "read", "w": "write"}[request[0]], list(request[1:]) + vectors.plans_answer(request).split())
+
+
+def main():
+    dice = random.Random(1)
+    for mode, size in table.SETUPS:
+        for name, rows in [
+            ("place", table.place_rows),
+            ("locate", table.locate_rows),
+            ("lengths", lengths_rows),
+            ("unseen", unseen_rows),
+        ]:
+            for row in rows(dice, mode, size):
+                line(name, row)
+    print_grids(dice)
+    for size in ref.BIN_SIZES:
+        print_collisions("ofusc", table.ofusc_rows(dice, size))
+    print_collisions("amc", table.amc_rows(dice))
+    print_plans()
+
+
+if __name__ == "__main__":
+    main()
