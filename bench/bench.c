@@ -1,5 +1,5 @@
 // Holds the engine against plain C of the same formulas, call by call: first both must give the same answers, then both
-// are timed.
+// are timed. bench --check leaves the timing out.
 #include "bellpulsar.h"
 #include "plain.h"
 #include "plain_ranges.h"
@@ -128,6 +128,9 @@ struct row {
     uint32_t timed, units;
 };
 
+static bool timing;
+static uint32_t rows, compared, refused;
+
 static void fail(const struct row *r, uint32_t i, const char *what) {
     printf("bench: %s, %s, request %u: %s\n", r->call, r->setup, i, what);
     exit(1);
@@ -142,7 +145,10 @@ static void compare(const struct row *r) {
         if (r->run(&plain, &plain_outcome, i, i + 1) != refusal) fail(r, i, "the sides refuse differently");
         if (memcmp(&engine_outcome, &plain_outcome, sizeof plain_outcome)) fail(r, i, "the sides write differently");
         if (i < r->timed && refusal) fail(r, i, "refused, and should be timed");
+        refused += refusal != 0;
     }
+    compared += r->timed + STRAYS;
+    rows++;
 }
 
 static double seconds(void) {
@@ -184,7 +190,7 @@ static void time_row(const struct row *r) {
 
 static void do_row(struct row r) {
     compare(&r);
-    time_row(&r);
+    if (timing) time_row(&r);
 }
 
 // --- the table -------------------------------------------------------------------------------------------------------
@@ -234,11 +240,16 @@ static void heading(void) {
            "|--------------------------|---------------------|---------:|---------:|------:|\n");
 }
 
-int main(void) {
+int main(int argc, char **argv) {
+    timing = argc == 1;
+    if (argc > 2 || (argc == 2 && strcmp(argv[1], "--check") != 0)) {
+        fprintf(stderr, "usage: bench [--check]\n");
+        return 2;
+    }
     plain_tables();
     for (int i = 0; i < MOST_POINTS; i++) source_points[i] = (float)i + 0.5f;
     for (int i = 0; i < MOST_GRID; i++) source_grid[i] = (float)i + 0.25f;
-    heading();
+    if (timing) heading();
     map_rows("fill", run_fill, true);
     map_rows("empty", run_empty, true);
     map_rows("place", run_place, false);
@@ -247,5 +258,6 @@ int main(void) {
     collision_rows();
     plan_rows("plan read", run_plan_read);
     plan_rows("plan write", run_plan_write);
+    if (!timing) printf("bench: %u rows, %u requests, %u of them refused: both sides agree\n", rows, compared, refused);
     return 0;
 }
