@@ -12,11 +12,12 @@ static uint32_t below(uint32_t n) {
     return (uint32_t)((uint64_t)state * n >> 32);
 }
 
-// One in `odds` times puts a limit of document 01 or a number next to it into a field.
-static void disturb(uint32_t *field, uint32_t odds) {
-    static const uint32_t limits[] = {0,   2,   4,   8,    16,   32,   48,   60,    64,    70,            128,
+// One in `odds` times puts into a field its own limit, or a limit of another one, or a number next to these.
+static void disturb(uint32_t *field, uint32_t limit, uint32_t odds) {
+    static const uint32_t limits[] = {0,   2,   4,   8,    16,   32,   48,   60,   64,    70,            128,
                                       256, 384, 512, 1024, 1536, 2048, 2352, 8192, 12288, UINT32_MAX - 1};
-    if (below(odds) == 0) *field = limits[below(sizeof limits / sizeof limits[0])] + below(3) - 1;
+    uint32_t other = limits[below(sizeof limits / sizeof limits[0])];
+    if (below(odds) == 0) *field = (below(2) ? limit : other) + below(3) - 1;
 }
 
 static struct request accepted_request(uint32_t mode, uint32_t size) {
@@ -38,9 +39,24 @@ static struct request accepted_request(uint32_t mode, uint32_t size) {
 }
 
 static void disturb_request(struct request *q) {
-    uint32_t *fields[] = {&q->mode,   &q->size,    &q->cell,   &q->slot,         &q->subchannel, &q->index,
-                          &q->symbol, &q->carrier, &q->cell_b, &q->subchannel_b, &q->points_len, &q->grid_len};
-    for (uint32_t i = 0; i < sizeof fields / sizeof fields[0]; i++) disturb(fields[i], 6);
+    uint32_t cell_count = cells(q->mode, q->size), subchannel_count = subchannels(q->mode, q->size);
+    const struct {
+        uint32_t *field, limit;
+    } fields[] = {
+        {&q->mode, AMC + 1},
+        {&q->size, q->size},
+        {&q->cell, cell_count},
+        {&q->slot, SLOTS},
+        {&q->subchannel, subchannel_count},
+        {&q->index, INDICES},
+        {&q->symbol, SLOTS * symbols(q->mode)},
+        {&q->carrier, q->size},
+        {&q->cell_b, cell_count},
+        {&q->subchannel_b, subchannel_count},
+        {&q->points_len, q->points_len},
+        {&q->grid_len, q->grid_len},
+    };
+    for (uint32_t i = 0; i < sizeof fields / sizeof fields[0]; i++) disturb(fields[i].field, fields[i].limit, 6);
 }
 
 void draw_requests(uint32_t mode, uint32_t size) {
@@ -99,9 +115,14 @@ static void encode(struct plan *p) {
 }
 
 static void disturb_plan(struct plan *p) {
-    disturb(&p->count, 12);
-    disturb(&p->size, 12);
-    for (uint32_t i = 0; i < 24; i++) disturb(&p->zones[i], 60);
+    for (uint32_t k = 0; k < 8; k++) {
+        uint32_t *zone = p->zones + 3 * k;
+        disturb(&zone[1], cells(zone[0], p->size), 60);
+        disturb(&zone[0], AMC, 60);
+        disturb(&zone[2], SLOTS + 1, 60);
+    }
+    disturb(&p->count, 8, 12);
+    disturb(&p->size, p->size, 12);
     p->dest_len = below(4) ? PLAN_ROOM : p->len - below(2);
     for (uint32_t i = 0; i < p->len; i++)
         if (below(60) == 0) p->bytes[i] = (uint8_t)(below(2) ? below(256) : p->bytes[i] ^ 128);
