@@ -1,12 +1,33 @@
-// Plain C of the formulas: one place at a time, each from mode, size, cell, slot, subchannel and index.
-// The benchmark's other side; it trusts its fields.
+// The benchmark's other side: the engine's calls in plain C. The same formulas, the same questions in the same order,
+// the same signatures; bellpulsar.h says what they mean.
+//
+// Each place is worked out by itself from mode, size, cell, slot, subchannel and index, also in fill and empty. place
+// goes by the inverse table of R, locate and look by those of Q, P and both B; plain_tables works them out once.
 #ifndef PLAIN_H
 #define PLAIN_H
 
-// Tables that plain C would hold: R turned round, and both sequences of optional FUSC. Once, before the calls.
+#include <stddef.h>
+#include <stdint.h>
+
+// The inverse tables and both sequences of optional FUSC. Once, before the calls.
 void plain_tables(void);
 
-void plain_fill(int mode, int size, int cell, int slot, const float pilot[2], const float *points, float *grid);
-void plain_empty(int mode, int size, int cell, int slot, const float *grid, float *points);
+uint32_t plain_place(uint32_t mode, uint32_t size, uint32_t cell, uint32_t slot, uint32_t subchannel, uint32_t index,
+                     uint32_t *symbol, uint32_t *carrier);
+uint32_t plain_locate(uint32_t mode, uint32_t size, uint32_t cell, uint32_t symbol, uint32_t carrier, uint32_t *kind,
+                      uint32_t *slot, uint32_t *subchannel, uint32_t *index);
+uint32_t plain_fill(uint32_t mode, uint32_t size, uint32_t cell, uint32_t slot, const float pilot[2],
+                    const float *points, size_t points_len, float *grid, size_t grid_len);
+uint32_t plain_empty(uint32_t mode, uint32_t size, uint32_t cell, uint32_t slot, const float *grid, size_t grid_len,
+                     float *points, size_t points_len);
+uint32_t plain_look(uint32_t mode, uint32_t size, uint32_t cell, uint32_t symbol, const float *grid, size_t grid_len,
+                    uint32_t carrier, uint32_t *kind, float point[2], uint32_t *slot, uint32_t *subchannel,
+                    uint32_t *index);
+uint32_t plain_ofusc_collisions(uint32_t size, uint32_t cell_a, uint32_t subchannel_a, uint32_t cell_b,
+                                uint32_t subchannel_b, uint8_t hits[48], uint32_t *count);
+uint32_t plain_amc_collisions(uint32_t cell_a, uint32_t cell_b, uint8_t hits[48], uint32_t *count);
+uint32_t plain_plan_read(const uint8_t *bytes, size_t len, uint32_t *count, uint32_t *size, uint32_t zones[24]);
+uint32_t plain_plan_write(uint32_t count, uint32_t size, const uint32_t zones[24], uint8_t *dest, size_t dest_len,
+                          uint32_t *written);
 
 #endif

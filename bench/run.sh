@@ -1,8 +1,11 @@
 #!/bin/sh
-# Times filling and emptying against plain C in the same run.
+# Times every call against plain C in the same run; run.sh --check only compares the answers.
 set -eu
 cd "$(dirname "$0")/.."
 ./build.sh
-"${CC:-cc}" -std=c11 -D_POSIX_C_SOURCE=199309L -O3 -Wall -Wextra -I include bench/grid.c bench/plain.c \
-    target/lib/libbellpulsar.a -o target/bench
-exec target/bench
+cc=${CC:-cc}
+flags="-std=c11 -O3"
+"$cc" $flags -D_POSIX_C_SOURCE=199309L -Wall -Wextra -Wpedantic -Werror -I include \
+    -DBENCH_FLAGS="\"$flags\"" -DBENCH_COMPILER="\"$("$cc" --version | head -n 1)\"" \
+    bench/bench.c bench/requests.c bench/plain_map.c bench/plain_plan.c target/lib/libbellpulsar.a -o target/bench
+exec target/bench "$@"

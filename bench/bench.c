@@ -1,0 +1,263 @@
+// Holds the engine against plain C of the same formulas, call by call: first both must give the same answers, then both
+// are timed. bench --check leaves the timing out.
+#include "bellpulsar.h"
+#include "plain.h"
+#include "plain_ranges.h"
+#include "requests.h"
+
+#include <stdio.h>
+#include <stdlib.h>
+#include <string.h>
+#include <time.h>
+
+enum { ROUNDS = 15, ROUND_MS = 10 }; // a round is as long as that or up to twice as long
+enum { MOST_POINTS = 2 * 48 * 70, MOST_GRID = 2 * 3 * 2048 };
+
+// The calls of one side.
+struct side {
+    uint32_t (*place)(uint32_t, uint32_t, uint32_t, uint32_t, uint32_t, uint32_t, uint32_t *, uint32_t *);
+    uint32_t (*locate)(uint32_t, uint32_t, uint32_t, uint32_t, uint32_t, uint32_t *, uint32_t *, uint32_t *,
+                       uint32_t *);
+    uint32_t (*fill)(uint32_t, uint32_t, uint32_t, uint32_t, const float *, const float *, size_t, float *, size_t);
+    uint32_t (*empty)(uint32_t, uint32_t, uint32_t, uint32_t, const float *, size_t, float *, size_t);
+    uint32_t (*look)(uint32_t, uint32_t, uint32_t, uint32_t, const float *, size_t, uint32_t, uint32_t *, float *,
+                     uint32_t *, uint32_t *, uint32_t *);
+    uint32_t (*ofusc_collisions)(uint32_t, uint32_t, uint32_t, uint32_t, uint32_t, uint8_t *, uint32_t *);
+    uint32_t (*amc_collisions)(uint32_t, uint32_t, uint8_t *, uint32_t *);
+    uint32_t (*plan_read)(const uint8_t *, size_t, uint32_t *, uint32_t *, uint32_t *);
+    uint32_t (*plan_write)(uint32_t, uint32_t, const uint32_t *, uint8_t *, size_t, uint32_t *);
+};
+
+static const struct side engine = {
+    bp_place,          bp_locate,    bp_fill,      bp_empty, bp_look, bp_ofusc_collisions,
+    bp_amc_collisions, bp_plan_read, bp_plan_write};
+static const struct side plain = {
+    plain_place,          plain_locate,    plain_fill,      plain_empty, plain_look, plain_ofusc_collisions,
+    plain_amc_collisions, plain_plan_read, plain_plan_write};
+
+// All that a call may write.
+struct outcome {
+    uint32_t symbol, carrier, kind, slot, subchannel, index, count, size, written, zones[24];
+    uint8_t hits[48], bytes[PLAN_ROOM];
+    float point[2], points[MOST_POINTS], grid[MOST_GRID];
+};
+
+static struct outcome engine_outcome, plain_outcome;
+static float pilot[2] = {-1.0f, -2.0f}, source_points[MOST_POINTS], source_grid[MOST_GRID];
+
+// --- the calls -------------------------------------------------------------------------------------------------------
+
+// Each makes one call for every request from `from` to before `to` and gives the sum of their refusals. The calls stand
+// in other files, so that the compiler can neither leave one out nor take one out of the loop.
+
+typedef uint32_t run_fn(const struct side *side, struct outcome *o, uint32_t from, uint32_t to);
+
+static uint32_t run_fill(const struct side *side, struct outcome *o, uint32_t from, uint32_t to) {
+    uint32_t sum = 0;
+    for (const struct request *q = requests + from; q < requests + to; q++)
+        sum += side->fill(q->mode, q->size, q->cell, q->slot, pilot, source_points, q->points_len, o->grid,
+                          q->grid_len);
+    return sum;
+}
+
+static uint32_t run_empty(const struct side *side, struct outcome *o, uint32_t from, uint32_t to) {
+    uint32_t sum = 0;
+    for (const struct request *q = requests + from; q < requests + to; q++)
+        sum += side->empty(q->mode, q->size, q->cell, q->slot, source_grid, q->grid_len, o->points, q->points_len);
+    return sum;
+}
+
+static uint32_t run_place(const struct side *side, struct outcome *o, uint32_t from, uint32_t to) {
+    uint32_t sum = 0;
+    for (const struct request *q = requests + from; q < requests + to; q++)
+        sum += side->place(q->mode, q->size, q->cell, q->slot, q->subchannel, q->index, &o->symbol, &o->carrier);
+    return sum;
+}
+
+static uint32_t run_locate(const struct side *side, struct outcome *o, uint32_t from, uint32_t to) {
+    uint32_t sum = 0;
+    for (const struct request *q = requests + from; q < requests + to; q++)
+        sum += side->locate(q->mode, q->size, q->cell, q->symbol, q->carrier, &o->kind, &o->slot, &o->subchannel,
+                            &o->index);
+    return sum;
+}
+
+static uint32_t run_look(const struct side *side, struct outcome *o, uint32_t from, uint32_t to) {
+    uint32_t sum = 0;
+    for (const struct request *q = requests + from; q < requests + to; q++)
+        sum += side->look(q->mode, q->size, q->cell, q->symbol, source_grid, q->grid_len, q->carrier, &o->kind,
+                          o->point, &o->slot, &o->subchannel, &o->index);
+    return sum;
+}
+
+static uint32_t run_ofusc_collisions(const struct side *side, struct outcome *o, uint32_t from, uint32_t to) {
+    uint32_t sum = 0;
+    for (const struct request *q = requests + from; q < requests + to; q++)
+        sum += side->ofusc_collisions(q->size, q->cell, q->subchannel, q->cell_b, q->subchannel_b, o->hits, &o->count);
+    return sum;
+}
+
+static uint32_t run_amc_collisions(const struct side *side, struct outcome *o, uint32_t from, uint32_t to) {
+    uint32_t sum = 0;
+    for (const struct request *q = requests + from; q < requests + to; q++)
+        sum += side->amc_collisions(q->cell, q->cell_b, o->hits, &o->count);
+    return sum;
+}
+
+static uint32_t run_plan_read(const struct side *side, struct outcome *o, uint32_t from, uint32_t to) {
+    uint32_t sum = 0;
+    for (const struct plan *p = plans + from; p < plans + to; p++)
+        sum += side->plan_read(p->bytes, p->len, &o->count, &o->size, o->zones);
+    return sum;
+}
+
+static uint32_t run_plan_write(const struct side *side, struct outcome *o, uint32_t from, uint32_t to) {
+    uint32_t sum = 0;
+    for (const struct plan *p = plans + from; p < plans + to; p++)
+        sum += side->plan_write(p->count, p->size, p->zones, o->bytes, p->dest_len, &o->written);
+    return sum;
+}
+
+// --- a row of the table ----------------------------------------------------------------------------------------------
+
+// A call in one setup. `timed` requests are timed, the strays after them only compared; times are for one of `units` a
+// request.
+struct row {
+    const char *call, *setup;
+    run_fn *run;
+    uint32_t timed, units;
+};
+
+static bool timing;
+static uint32_t rows, compared, refused;
+
+static void fail(const struct row *r, uint32_t i, const char *what) {
+    printf("bench: %s, %s, request %u: %s\n", r->call, r->setup, i, what);
+    exit(1);
+}
+
+// Every request alone: both sides give the same refusal, write the same and leave the same alone.
+static void compare(const struct row *r) {
+    for (uint32_t i = 0; i < r->timed + STRAYS; i++) {
+        memset(&engine_outcome, 0xA5, sizeof engine_outcome);
+        memset(&plain_outcome, 0xA5, sizeof plain_outcome);
+        uint32_t refusal = r->run(&engine, &engine_outcome, i, i + 1);
+        if (r->run(&plain, &plain_outcome, i, i + 1) != refusal) fail(r, i, "the sides refuse differently");
+        if (memcmp(&engine_outcome, &plain_outcome, sizeof plain_outcome)) fail(r, i, "the sides write differently");
+        if (i < r->timed && refusal) fail(r, i, "refused, and should be timed");
+        refused += refusal != 0;
+    }
+    compared += r->timed + STRAYS;
+    rows++;
+}
+
+static double seconds(void) {
+    struct timespec t;
+    clock_gettime(CLOCK_PROCESS_CPUTIME_ID, &t);
+    return (double)t.tv_sec + 1e-9 * (double)t.tv_nsec;
+}
+
+static double seconds_of(const struct row *r, const struct side *side, struct outcome *o, uint32_t passes) {
+    double start = seconds();
+    for (uint32_t i = 0; i < passes; i++)
+        if (r->run(side, o, 0, r->timed)) fail(r, 0, "refused while it was timed");
+    return seconds() - start;
+}
+
+// How many passes over the requests fill a round; warms the side up.
+static uint32_t passes_a_round(const struct row *r, const struct side *side, struct outcome *o) {
+    uint32_t passes = 1;
+    while (seconds_of(r, side, o, passes) < 1e-3 * ROUND_MS) passes *= 2;
+    return passes;
+}
+
+static double lesser(double a, double b) { return a < b ? a : b; }
+
+// The best of several rounds of both sides, taken in turn, in ns.
+static void time_row(const struct row *r) {
+    uint32_t a_passes = passes_a_round(r, &engine, &engine_outcome);
+    uint32_t b_passes = passes_a_round(r, &plain, &plain_outcome);
+    double a = 1e9, b = 1e9;
+    for (uint32_t i = 0; i < ROUNDS; i++) {
+        a = lesser(a, seconds_of(r, &engine, &engine_outcome, a_passes));
+        b = lesser(b, seconds_of(r, &plain, &plain_outcome, b_passes));
+    }
+    a *= 1e9 / ((double)a_passes * r->timed * r->units);
+    b *= 1e9 / ((double)b_passes * r->timed * r->units);
+    printf("| %-24s | %-19s | %8.2f | %8.2f | %5.2f |\n", r->call, r->setup, a, b, a / b);
+    fflush(stdout);
+}
+
+static void do_row(struct row r) {
+    compare(&r);
+    if (timing) time_row(&r);
+}
+
+// --- the table -------------------------------------------------------------------------------------------------------
+
+// Each mode at its smallest and largest size.
+static const struct setup {
+    const char *name;
+    uint32_t mode, size;
+} setups[] = {
+    {"PUSC downlink, 2048", PUSC_DL, 2048}, {"PUSC uplink, 2048", PUSC_UL, 2048}, {"optional FUSC, 256", OFUSC, 256},
+    {"optional FUSC, 2048", OFUSC, 2048},   {"AMC, 256", AMC, 256},               {"AMC, 2048", AMC, 2048},
+};
+enum { SETUPS = sizeof setups / sizeof setups[0] };
+
+static void map_rows(const char *call, run_fn *run, bool by_point) {
+    for (const struct setup *s = setups; s < setups + SETUPS; s++) {
+        uint32_t points = INDICES * subchannels(s->mode, s->size);
+        draw_requests(s->mode, s->size);
+        do_row((struct row){call, s->name, run, REQUESTS, by_point ? points : 1});
+    }
+}
+
+static void collision_rows(void) {
+    draw_requests(OFUSC, 256);
+    do_row((struct row){"optional FUSC collisions", "256", run_ofusc_collisions, REQUESTS, 1});
+    draw_requests(OFUSC, 2048);
+    do_row((struct row){"optional FUSC collisions", "2048", run_ofusc_collisions, REQUESTS, 1});
+    draw_requests(AMC, 2048);
+    do_row((struct row){"AMC collisions", "any size", run_amc_collisions, REQUESTS, 1});
+}
+
+static void plan_rows(const char *call, run_fn *run) {
+    draw_plans(SHORTEST_PLAN);
+    do_row((struct row){call, "1 zone, 6 bytes", run, PLANS, 1});
+    draw_plans(LONGEST_PLAN);
+    do_row((struct row){call, "8 zones, 43 bytes", run, PLANS, 1});
+}
+
+static void heading(void) {
+    printf("ns a point for fill and empty, ns a call for the others; the loop around a call is in its time.\n"
+           "Warm buffers: %d requests (%d plans), drawn at random from what the call accepts, again and again.\n"
+           "Best of %d rounds of %d to %d ms of processor time, both sides in turn.\n"
+           "Each row first compared both sides on its requests and on %d more, many of which are refused.\n"
+           "Plain C: %s, %s. The engine: its static archive.\n\n",
+           REQUESTS, PLANS, ROUNDS, ROUND_MS, 2 * ROUND_MS, STRAYS, BENCH_COMPILER, BENCH_FLAGS);
+    printf("| call                     | setup               |   engine |  plain C | ratio |\n"
+           "|--------------------------|---------------------|---------:|---------:|------:|\n");
+}
+
+int main(int argc, char **argv) {
+    timing = argc == 1;
+    if (argc > 2 || (argc == 2 && strcmp(argv[1], "--check") != 0)) {
+        fprintf(stderr, "usage: bench [--check]\n");
+        return 2;
+    }
+    plain_tables();
+    for (int i = 0; i < MOST_POINTS; i++) source_points[i] = (float)i + 0.5f;
+    for (int i = 0; i < MOST_GRID; i++) source_grid[i] = (float)i + 0.25f;
+    if (timing) heading();
+    map_rows("fill", run_fill, true);
+    map_rows("empty", run_empty, true);
+    map_rows("place", run_place, false);
+    map_rows("locate", run_locate, false);
+    map_rows("look", run_look, false);
+    collision_rows();
+    plan_rows("plan read", run_plan_read);
+    plan_rows("plan write", run_plan_write);
+    if (!timing) printf("bench: %u rows, %u requests, %u of them refused: both sides agree\n", rows, compared, refused);
+    return 0;
+}

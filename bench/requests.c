@@ -1,0 +1,145 @@
+#include "requests.h"
+#include "plain_ranges.h"
+
+struct request requests[REQUESTS + STRAYS];
+struct plan plans[PLANS + STRAYS];
+
+static uint32_t state;
+
+// A number below n.
+static uint32_t below(uint32_t n) {
+    state = state * 1664525u + 1013904223u;
+    return (uint32_t)((uint64_t)state * n >> 32);
+}
+
+// One in `odds` times puts into a field its own limit, or a limit of another one, or a number next to these.
+static void disturb(uint32_t *field, uint32_t limit, uint32_t odds) {
+    static const uint32_t limits[] = {0,   2,   4,   8,    16,   32,   48,   60,   64,    70,            128,
+                                      256, 384, 512, 1024, 1536, 2048, 2352, 8192, 12288, UINT32_MAX - 1};
+    uint32_t other = limits[below(sizeof limits / sizeof limits[0])];
+    if (below(odds) == 0) *field = (below(2) ? limit : other) + below(3) - 1;
+}
+
+static struct request accepted_request(uint32_t mode, uint32_t size) {
+    uint32_t cell_count = cells(mode, size), subchannel_count = subchannels(mode, size);
+    return (struct request){
+        .mode = mode,
+        .size = size,
+        .cell = below(cell_count),
+        .slot = below(SLOTS),
+        .subchannel = below(subchannel_count),
+        .index = below(INDICES),
+        .symbol = below(SLOTS * symbols(mode)),
+        .carrier = below(size),
+        .cell_b = below(cell_count),
+        .subchannel_b = below(subchannel_count),
+        .points_len = 2 * INDICES * subchannel_count,
+        .grid_len = 2 * size * symbols(mode),
+    };
+}
+
+static void disturb_request(struct request *q) {
+    uint32_t cell_count = cells(q->mode, q->size), subchannel_count = subchannels(q->mode, q->size);
+    const struct {
+        uint32_t *field, limit;
+    } fields[] = {
+        {&q->mode, AMC + 1},
+        {&q->size, q->size},
+        {&q->cell, cell_count},
+        {&q->slot, SLOTS},
+        {&q->subchannel, subchannel_count},
+        {&q->index, INDICES},
+        {&q->symbol, SLOTS * symbols(q->mode)},
+        {&q->carrier, q->size},
+        {&q->cell_b, cell_count},
+        {&q->subchannel_b, subchannel_count},
+        {&q->points_len, q->points_len},
+        {&q->grid_len, q->grid_len},
+    };
+    for (uint32_t i = 0; i < sizeof fields / sizeof fields[0]; i++) disturb(fields[i].field, fields[i].limit, 6);
+}
+
+void draw_requests(uint32_t mode, uint32_t size) {
+    state = 64 * size + mode;
+    for (uint32_t i = 0; i < REQUESTS + STRAYS; i++) requests[i] = accepted_request(mode, size);
+    for (uint32_t i = REQUESTS; i < REQUESTS + STRAYS; i++) disturb_request(&requests[i]);
+}
+
+static void set_zone(struct plan *p, uint32_t k, uint32_t mode, uint32_t cell, uint32_t slots) {
+    p->zones[3 * k] = mode;
+    p->zones[3 * k + 1] = cell;
+    p->zones[3 * k + 2] = slots;
+}
+
+// One zone, each value but the size in one byte: 6 bytes.
+static void shortest_plan(struct plan *p) {
+    p->count = 1;
+    p->size = 256;
+    set_zone(p, 0, OFUSC, below(cells(OFUSC, p->size)), 1 + below(127));
+}
+
+// Eight zones, optional FUSC before AMC, each cell and number of slots in two bytes: 43 bytes.
+static void longest_plan(struct plan *p) {
+    uint32_t amc_from = below(9);
+    p->count = 8;
+    p->size = 1024;
+    for (uint32_t k = 0; k < p->count; k++) {
+        uint32_t mode = k < amc_from ? OFUSC : AMC;
+        set_zone(p, k, mode, 128 + below(cells(mode, p->size) - 128), 128 + below(SLOTS - 127));
+    }
+}
+
+// Any number of zones, now and then of a mode that may not stand there.
+static void any_plan(struct plan *p) {
+    p->count = 1 + below(8);
+    p->size = 256u << below(4);
+    uint32_t amc_from = 1 + below(8), other = p->size == 2048 ? PUSC_DL : OFUSC;
+    for (uint32_t k = 0; k < p->count; k++) {
+        uint32_t mode = below(12) == 0 ? below(4) : k < amc_from ? other : AMC;
+        uint32_t cell = k == 0 && below(12) ? 0 : below(cells(mode, p->size));
+        set_zone(p, k, mode, cell, 1 + below(SLOTS));
+    }
+}
+
+static void put_value(struct plan *p, uint32_t value) {
+    for (; value >= 128; value /= 128) p->bytes[p->len++] = (uint8_t)(128 + value % 128);
+    p->bytes[p->len++] = (uint8_t)value;
+}
+
+// The plan's bytes, and just room enough to write them.
+static void encode(struct plan *p) {
+    put_value(p, p->count);
+    put_value(p, p->size);
+    for (uint32_t i = 0; i < 3 * p->count; i++) put_value(p, p->zones[i]);
+    p->dest_len = p->len;
+}
+
+static void disturb_plan(struct plan *p) {
+    for (uint32_t k = 0; k < 8; k++) {
+        uint32_t *zone = p->zones + 3 * k;
+        disturb(&zone[1], cells(zone[0], p->size), 60);
+        disturb(&zone[0], AMC, 60);
+        disturb(&zone[2], SLOTS + 1, 60);
+    }
+    disturb(&p->count, 8, 12);
+    disturb(&p->size, p->size, 12);
+    p->dest_len = below(4) ? PLAN_ROOM : p->len - below(2);
+    for (uint32_t i = 0; i < p->len; i++)
+        if (below(60) == 0) p->bytes[i] = (uint8_t)(below(2) ? below(256) : p->bytes[i] ^ 128);
+    if (below(6) == 0) p->len = below(PLAN_ROOM + 1);
+}
+
+void draw_plans(enum plan_kind kind) {
+    state = kind;
+    for (struct plan *p = plans; p < plans + PLANS; p++) {
+        *p = (struct plan){0};
+        kind == SHORTEST_PLAN ? shortest_plan(p) : longest_plan(p);
+        encode(p);
+    }
+    for (struct plan *p = plans + PLANS; p < plans + PLANS + STRAYS; p++) {
+        *p = (struct plan){0};
+        any_plan(p);
+        encode(p);
+        disturb_plan(p);
+    }
+}

@@ -1,0 +1,30 @@
+// The requests that both sides are given, drawn from a fixed seed.
+#ifndef REQUESTS_H
+#define REQUESTS_H
+
+#include <stdint.h>
+
+// Each array starts with requests that are accepted; these are timed. The strays after them are compared alone: some of
+// their fields are changed to limits of document 01 and numbers next to them, so that many are refused.
+enum { REQUESTS = 512, PLANS = 128, STRAYS = 512, PLAN_ROOM = 48 };
+
+// All fields that a call of the map may have; the second cell and subchannel are those of the collision calls.
+struct request {
+    uint32_t mode, size, cell, slot, subchannel, index, symbol, carrier, cell_b, subchannel_b, points_len, grid_len;
+};
+
+// A plan as its fields and as its bytes, and the room for writing it.
+struct plan {
+    uint32_t count, size, zones[24], dest_len, len;
+    uint8_t bytes[PLAN_ROOM];
+};
+
+enum plan_kind { SHORTEST_PLAN, LONGEST_PLAN };
+
+extern struct request requests[REQUESTS + STRAYS];
+extern struct plan plans[PLANS + STRAYS];
+
+void draw_requests(uint32_t mode, uint32_t size);
+void draw_plans(enum plan_kind kind);
+
+#endif
