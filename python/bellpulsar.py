@@ -53,6 +53,7 @@ import array
 import contextlib
 import ctypes
 import enum
+import itertools
 import operator
 import os
 import sys
@@ -167,7 +168,7 @@ _uint = ctypes.c_uint32
 _out = ctypes.POINTER(_uint)
 _address = ctypes.c_void_p
 _length = ctypes.c_size_t
-_PilotPoint = ctypes.c_float * 2
+_Pair = ctypes.c_float * 2
 _Hits = ctypes.c_uint8 * 48
 _Zones = _uint * 24
 PLACES = 8  # the zones of a plan
@@ -175,9 +176,9 @@ PLACES = 8  # the zones of a plan
 _PROTOTYPES = {
     "bp_place": [_uint] * 6 + [_out] * 2,
     "bp_locate": [_uint] * 5 + [_out] * 4,
-    "bp_fill": [_uint] * 4 + [_PilotPoint, _address, _length, _address, _length],
+    "bp_fill": [_uint] * 4 + [_Pair, _address, _length, _address, _length],
     "bp_empty": [_uint] * 4 + [_address, _length, _address, _length],
-    "bp_look": [_uint] * 4 + [_address, _length, _uint, _out, _PilotPoint] + [_out] * 3,
+    "bp_look": [_uint] * 4 + [_address, _length, _uint, _out, _Pair] + [_out] * 3,
     "bp_ofusc_collisions": [_uint] * 5 + [_Hits, _out],
     "bp_amc_collisions": [_uint] * 2 + [_Hits, _out],
     "bp_plan_read": [_address, _length, _out, _out, _Zones],
@@ -224,7 +225,7 @@ def _numbers(*values):
     return [_number(value) for value in values]
 
 
-def _asked(refusal):
+def _raise_if_refused(refusal):
     if refusal:
         raise Refusal(refusal)
 
@@ -321,7 +322,7 @@ def _pilot_point(pilot):
     with _lent(pilot, "pilot", _FLOAT) as lent:
         if lent.length != 2:
             raise ValueError("pilot: two floats are needed, not %d" % lent.length)
-        return _PilotPoint.from_buffer_copy(ctypes.string_at(lent.address, 8))
+        return _Pair.from_buffer_copy(ctypes.string_at(lent.address, 8))
 
 
 # --- the map ----------------------------------------------------------------------------------
@@ -330,7 +331,7 @@ def _pilot_point(pilot):
 def place(mode, size, cell, slot, subchannel, index):
     """Where point `index` of a subchannel lies, as Place(symbol, carrier). Refusals 1, 2, 3, 4, 5, 6."""
     symbol, carrier = _uint(), _uint()
-    _asked(_engine.bp_place(*_numbers(mode, size, cell, slot, subchannel, index), symbol, carrier))
+    _raise_if_refused(_engine.bp_place(*_numbers(mode, size, cell, slot, subchannel, index), symbol, carrier))
     return Place(symbol.value, carrier.value)
 
 
@@ -343,7 +344,7 @@ def locate(mode, size, cell, symbol, carrier):
     kind is Kind.GUARD, Kind.DC, Kind.PILOT or Kind.DATA; the other three are None unless it is Kind.DATA.
     """
     kind, slot, subchannel, index = _uint(), _uint(), _uint(), _uint()
-    _asked(_engine.bp_locate(*_numbers(mode, size, cell, symbol, carrier), kind, slot, subchannel, index))
+    _raise_if_refused(_engine.bp_locate(*_numbers(mode, size, cell, symbol, carrier), kind, slot, subchannel, index))
     what = _KINDS[kind.value]
     if what is Kind.DATA:
         return Located(what, slot.value, subchannel.value, index.value)
@@ -367,7 +368,7 @@ def fill(mode, size, cell, slot, pilot, points, grid):
     pilot = _pilot_point(pilot)
     with _lent(points, "points", _FLOAT) as source, _lent(grid, "grid", _FLOAT, writable=True) as target:
         _apart(source, target)
-        _asked(_engine.bp_fill(*fields, pilot, source.address, source.length, target.address, target.length))
+        _raise_if_refused(_engine.bp_fill(*fields, pilot, source.address, source.length, target.address, target.length))
 
 
 def empty(mode, size, cell, slot, grid, points):
@@ -378,7 +379,7 @@ def empty(mode, size, cell, slot, grid, points):
     fields = _numbers(mode, size, cell, slot)
     with _lent(grid, "grid", _FLOAT) as source, _lent(points, "points", _FLOAT, writable=True) as target:
         _apart(target, source)
-        _asked(_engine.bp_empty(*fields, source.address, source.length, target.address, target.length))
+        _raise_if_refused(_engine.bp_empty(*fields, source.address, source.length, target.address, target.length))
 
 
 _SEEN = {0: Kind.NOTHING, 2: Kind.PILOT, 3: Kind.DATA}
@@ -392,9 +393,9 @@ def look(mode, size, cell, symbol, grid, carrier):
     a quiet one. Refusals 1, 2, 3, 4, 7, 9.
     """
     mode, size, cell, symbol, carrier = _numbers(mode, size, cell, symbol, carrier)
-    kind, point, slot, subchannel, index = _uint(), _PilotPoint(), _uint(), _uint(), _uint()
+    kind, point, slot, subchannel, index = _uint(), _Pair(), _uint(), _uint(), _uint()
     with _lent(grid, "grid", _FLOAT) as lent:
-        _asked(
+        _raise_if_refused(
             _engine.bp_look(
                 mode, size, cell, symbol, lent.address, lent.length, carrier, kind, point, slot, subchannel, index
             )
@@ -412,7 +413,7 @@ def look(mode, size, cell, symbol, grid, carrier):
 
 def _collisions(call, *fields):
     hits, count = _Hits(), _uint()
-    _asked(call(*_numbers(*fields), hits, count))
+    _raise_if_refused(call(*_numbers(*fields), hits, count))
     return Collisions(tuple(hit != 0 for hit in hits), count.value)
 
 
@@ -443,7 +444,7 @@ def plan_read(data):
     """
     count, size, places = _uint(), _uint(), _Zones()
     with _lent(data, "data", _BYTE) as lent:
-        _asked(_engine.bp_plan_read(lent.address, lent.length, count, size, places))
+        _raise_if_refused(_engine.bp_plan_read(lent.address, lent.length, count, size, places))
     zones = [Zone(*places[at : at + 3]) for at in range(0, 3 * count.value, 3)]
     return Plan(size.value, tuple(zones))
 
@@ -456,13 +457,12 @@ def plan_write(count, size, zones, dest):
     `plan_bytes` is the same without count, unused places and destination.
     """
     count, size = _numbers(count, size)
-    places = [_numbers(*zone) for zone in zones]
-    if [len(place) for place in places] != [3] * PLACES:
+    zones = [_numbers(*zone) for zone in zones]
+    if [len(zone) for zone in zones] != [3] * PLACES:
         raise ValueError("zones: eight places of three numbers each are needed")
-    written = _uint()
+    places, written = _Zones(*itertools.chain(*zones)), _uint()
     with _lent(dest, "dest", _BYTE, writable=True) as lent:
-        numbers = _Zones(*(number for place in places for number in place))
-        _asked(_engine.bp_plan_write(count, size, numbers, lent.address, lent.length, written))
+        _raise_if_refused(_engine.bp_plan_write(count, size, places, lent.address, lent.length, written))
     return written.value
 
 

@@ -36,10 +36,18 @@ QUESTION = {
 }
 
 
-def run(*arguments, **options):
+# As a user has it: buffered output, and the library of this tree.
+ENV = {name: value for name, value in os.environ.items() if name not in ("PYTHONUNBUFFERED", "BELLPULSAR_LIBRARY")}
+
+
+def run(*arguments, env=ENV, **options):
     """Of a command: standard output, standard error and exit status."""
     command = [COMMAND, *map(str, arguments)]
-    return subprocess.run(command, capture_output=True, timeout=60, **options)
+    return subprocess.run(command, capture_output=True, timeout=60, env=env, **options)
+
+
+def run_shell(line):
+    return subprocess.run(["sh", "-c", line], capture_output=True, timeout=60, env=ENV)
 
 
 class Case(unittest.TestCase):
@@ -428,18 +436,18 @@ class Failures(Case):
         for target, message in (("/dev/full", "No space left on device"), ("&-", "standard output is closed")):
             for words in ("place 2 1024 17 0 0 0", "picture slot 2 256 0 0"):
                 line = "'%s' %s >%s" % (COMMAND, words, target)
-                done = subprocess.run(["sh", "-c", line], stderr=subprocess.PIPE, timeout=60)
+                done = run_shell(line)
                 self.assertEqual((done.stderr.decode(), done.returncode), ("bellpulsar: %s\n" % message, 2))
 
     def test_closed_pipe(self):
         for words in ("show 0 2048 0 0", "picture slot 0 2048 5 3", "place 2 1024 17 0 0 0"):
             for reader in ("head -1", "true", "sleep 0"):
                 line = "'%s' %s | %s" % (COMMAND, words, reader)
-                done = subprocess.run(["sh", "-c", line], capture_output=True, timeout=60)
+                done = run_shell(line)
                 self.assertEqual((done.stderr, done.returncode), (b"", 0), line)
 
     def test_no_library(self):
-        done = run("place", 2, 1024, 17, 0, 0, 0, env=dict(os.environ, BELLPULSAR_LIBRARY="/none"))
+        done = run("place", 2, 1024, 17, 0, 0, 0, env=dict(ENV, BELLPULSAR_LIBRARY="/none"))
         self.assertEqual((done.stdout, done.returncode), (b"", 2))
         self.assertRegex(done.stderr.decode(), r"^bellpulsar: no Bellpulsar library at /none: run ./build.sh.*\n$")
 
@@ -453,8 +461,7 @@ class Failures(Case):
                 file.write("#!/bin/sh\n" + script)
             os.chmod(builder, 0o755)
             command = [os.path.join(tree, "bellpulsar"), "place", "2", "1024", "17", "0", "0", "0"]
-            env = {name: value for name, value in os.environ.items() if name != "BELLPULSAR_LIBRARY"}
-            done = subprocess.run(command, capture_output=True, text=True, timeout=60, env=env)
+            done = subprocess.run(command, capture_output=True, text=True, timeout=60, env=ENV)
             return done.stdout, done.stderr, done.returncode
 
     def test_the_library_is_built_on_first_use(self):
@@ -467,7 +474,7 @@ class Failures(Case):
         self.assertEqual(self.run_with_builder("echo why >&2; exit 3\n"), ("", message, 2))
 
     def test_help_needs_no_library(self):
-        env = dict(os.environ, BELLPULSAR_LIBRARY="/none")
+        env = dict(ENV, BELLPULSAR_LIBRARY="/none")
         self.assertEqual(run("--help", env=env).returncode, 0)
 
     def test_from_anywhere(self):
@@ -475,7 +482,7 @@ class Failures(Case):
         with tempfile.TemporaryDirectory() as directory:
             link = os.path.join(directory, "map")
             os.symlink(COMMAND, link)
-            done = subprocess.run([link, "collisions", "amc", "48", "176"], capture_output=True, timeout=60)
+            done = subprocess.run([link, "collisions", "amc", "48", "176"], capture_output=True, timeout=60, env=ENV)
             self.assertEqual(done.stdout, b"count 3 indices 8 24 32\n")
 
 
