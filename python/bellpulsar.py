@@ -1,0 +1,482 @@
+"""Bellpulsar from Python: the subcarrier map of IEEE 802.16e OFDMA, proved.
+
+A first example (`PYTHONPATH=python python3` at the repository's root, after ./build.sh):
+
+    >>> import bellpulsar
+    >>> bellpulsar.place(mode=2, size=1024, cell=17, slot=0, subchannel=0, index=0)
+    Place(symbol=0, carrier=87)
+    >>> bellpulsar.locate(mode=2, size=1024, cell=17, symbol=0, carrier=87)
+    Located(kind=<Kind.DATA: 'data'>, slot=0, subchannel=0, index=0)
+    >>> bellpulsar.place(mode=2, size=1024, cell=256, slot=0, subchannel=0, index=0)
+    Traceback (most recent call last):
+        ...
+    bellpulsar.Refusal: refused 3: Is the cell in range?
+
+A slot's points, laid on its grid and taken off again:
+
+    >>> from array import array
+    >>> points = array("f", range(96 * 16))
+    >>> grid = array("f", [0.0]) * (2 * 1024)
+    >>> bellpulsar.fill(2, 1024, 17, 0, (1.0, 0.0), points, grid)
+    >>> grid[2 * 87 : 2 * 87 + 2]
+    array('f', [0.0, 1.0])
+    >>> again = array("f", [0.0]) * (96 * 16)
+    >>> bellpulsar.empty(2, 1024, 17, 0, grid, again)
+    >>> again == points
+    True
+
+Modes and their ranges; N is size / 64:
+
+    mode                    size                    cell        subchannels  symbols a slot
+    0 PUSC_DL PUSC downlink 2048                    0..31       60           2
+    1 PUSC_UL PUSC uplink   2048                    0..69       70           3
+    2 OFUSC   optional FUSC 256, 512, 1024, 2048    0..N*N-1    N            1
+    3 AMC     AMC           256, 512, 1024, 2048    0..2351     N            1
+
+The cell is the permutation base. Slots are 0..511. A slot has 48 points a subchannel, with the indices 0..47.
+
+Numbers. Any integer may stand in any field. One that 32 bits do not hold, negative ones too, reaches the engine as
+2**32 - 1, which no question lets pass, so it is refused in its turn.
+
+Refusals. A request that cannot be met raises Refusal, with the number of the first question of document 01 that is
+answered no. Nothing is written then.
+
+Buffers. Points, grids, plans and destinations are lent: the engine works on the caller's memory and nothing is copied.
+Points and grids are any contiguous buffer of 32-bit floats (array('f'), a memoryview of one, a ctypes array, a numpy
+array of float32, or of complex64, which counts as two floats an element), in any number of dimensions. Their lengths
+go to the engine as they are. What the engine cannot see is checked here, before any question is put, and is an error
+that is no refusal: TypeError for the wrong kind of element, BufferError where the buffer is not contiguous or not
+writable, ValueError where it is not aligned or two buffers overlap.
+"""
+
+import array
+import contextlib
+import ctypes
+import enum
+import itertools
+import operator
+import os
+import sys
+from typing import NamedTuple, Optional, Tuple
+
+PUSC_DL, PUSC_UL, OFUSC, AMC = 0, 1, 2, 3
+
+# The questions of document 01, by number.
+QUESTIONS = {
+    1: "Is the mode listed?",
+    2: "Is the size that mode's?",
+    3: "Is the cell in range?",
+    4: "Is the slot below 512, the zone's symbol below 512 times the slot length?",
+    5: "Is the subchannel in range?",
+    6: "Is the index below 48?",
+    7: "Is the carrier below the size?",
+    8: "Are the points just 96 floats for each subchannel?",
+    9: "Is the grid just 2 * size floats for each symbol of a slot?",
+    10: "Do the bytes reach to the value's end or its third group?",
+    11: "Does the value end by its third group, in shortest form?",
+    12: "Is the count 1 to 8, and in writing every place past it zero?",
+    13: "Are the slots 1 to 512?",
+    14: "At 2048, is the first zone mode 0 with cell 0, and does nothing but mode 3 follow mode 3?",
+    15: "Are the bytes used up?",
+    16: "Is the destination long enough?",
+}
+
+
+class Refusal(Exception):
+    """The engine refused a request: `number` and `question` are those of document 01."""
+
+    def __init__(self, number):
+        super().__init__(number)
+        self.number = number
+        self.question = QUESTIONS[number]
+
+    def __str__(self):
+        return "refused %d: %s" % (self.number, self.question)
+
+
+# --- answers ----------------------------------------------------------------------------------
+
+
+class Kind(enum.Enum):
+    """What a carrier holds. `look` says NOTHING for a guard and for DC; `locate` tells them apart."""
+
+    GUARD = "guard"
+    DC = "DC"
+    PILOT = "pilot"
+    DATA = "data"
+    NOTHING = "nothing"
+
+
+class Place(NamedTuple):
+    """The zone's symbol and the carrier."""
+
+    symbol: int
+    carrier: int
+
+
+class Located(NamedTuple):
+    """What a carrier is; slot, subchannel and index are None unless it is Kind.DATA."""
+
+    kind: Kind
+    slot: Optional[int] = None
+    subchannel: Optional[int] = None
+    index: Optional[int] = None
+
+
+class Point(NamedTuple):
+    """In-phase and quadrature."""
+
+    i: float
+    q: float
+
+
+class Seen(NamedTuple):
+    """What a carrier holds; point is None at Kind.NOTHING, the rest is None unless it is Kind.DATA."""
+
+    kind: Kind
+    point: Optional[Point] = None
+    slot: Optional[int] = None
+    subchannel: Optional[int] = None
+    index: Optional[int] = None
+
+
+class Collisions(NamedTuple):
+    """48 marks, True where the two collide, and how many are."""
+
+    hits: Tuple[bool, ...]
+    count: int
+
+
+class Zone(NamedTuple):
+    """A zone of a plan."""
+
+    mode: int
+    cell: int
+    slots: int
+
+
+class Plan(NamedTuple):
+    """A zone plan: the FFT size and its one to eight zones. Unused places, which are all zero, are left out."""
+
+    size: int
+    zones: Tuple[Zone, ...]
+
+
+# --- the library ------------------------------------------------------------------------------
+
+_uint = ctypes.c_uint32
+_out = ctypes.POINTER(_uint)
+_address = ctypes.c_void_p
+_length = ctypes.c_size_t
+_Pair = ctypes.c_float * 2
+_Hits = ctypes.c_uint8 * 48
+_Zones = _uint * 24
+PLACES = 8  # the zones of a plan
+
+_PROTOTYPES = {
+    "bp_place": [_uint] * 6 + [_out] * 2,
+    "bp_locate": [_uint] * 5 + [_out] * 4,
+    "bp_fill": [_uint] * 4 + [_Pair, _address, _length, _address, _length],
+    "bp_empty": [_uint] * 4 + [_address, _length, _address, _length],
+    "bp_look": [_uint] * 4 + [_address, _length, _uint, _out, _Pair] + [_out] * 3,
+    "bp_ofusc_collisions": [_uint] * 5 + [_Hits, _out],
+    "bp_amc_collisions": [_uint] * 2 + [_Hits, _out],
+    "bp_plan_read": [_address, _length, _out, _out, _Zones],
+    "bp_plan_write": [_uint, _uint, _Zones, _address, _length, _out],
+}
+
+
+def _library_path():
+    root = os.path.dirname(os.path.dirname(os.path.abspath(__file__)))
+    return os.environ.get("BELLPULSAR_LIBRARY") or os.path.join(root, "target", "lib", "libbellpulsar.so")
+
+
+def _load(path):
+    if not os.path.exists(path):
+        raise ImportError(
+            "no Bellpulsar library at %s: run ./build.sh, or name the library in BELLPULSAR_LIBRARY" % path
+        )
+    try:
+        library = ctypes.CDLL(os.path.abspath(path))
+        for name, arguments in _PROTOTYPES.items():
+            function = getattr(library, name)
+            function.argtypes = arguments
+            function.restype = _uint
+    except (OSError, AttributeError) as error:
+        raise ImportError("%s is not a Bellpulsar library that can be loaded: %s" % (path, error)) from None
+    return library
+
+
+_engine = _load(_library_path())
+
+
+# --- numbers and buffers ----------------------------------------------------------------------
+
+_MOST = 2**32 - 1
+
+
+def _number(value):
+    """As the engine takes it: what 32 bits do not hold becomes their largest, which every question refuses."""
+    value = operator.index(value)
+    return value if 0 <= value <= _MOST else _MOST
+
+
+def _numbers(*values):
+    return [_number(value) for value in values]
+
+
+def _raise_if_refused(refusal):
+    if refusal:
+        raise Refusal(refusal)
+
+
+class _Held(ctypes.Structure):
+    """Py_buffer of Python's C interface; only `buf`, the address, is read here."""
+
+    _fields_ = [
+        ("buf", ctypes.c_void_p),
+        ("obj", ctypes.c_void_p),
+        ("len", ctypes.c_ssize_t),
+        ("itemsize", ctypes.c_ssize_t),
+        ("readonly", ctypes.c_int),
+        ("ndim", ctypes.c_int),
+        ("format", ctypes.c_char_p),
+        ("shape", ctypes.c_void_p),
+        ("strides", ctypes.c_void_p),
+        ("suboffsets", ctypes.c_void_p),
+        ("internal", ctypes.c_void_p),
+    ]
+
+
+_hold = ctypes.pythonapi.PyObject_GetBuffer
+_hold.argtypes = [ctypes.py_object, ctypes.POINTER(_Held), ctypes.c_int]
+_hold.restype = ctypes.c_int
+_let_go = ctypes.pythonapi.PyBuffer_Release
+_let_go.argtypes = [ctypes.POINTER(_Held)]
+_let_go.restype = None
+
+
+class _Element(NamedTuple):
+    """The unit in which a buffer's length is counted, and the formats that are read as it."""
+
+    name: str
+    bytes: int
+    formats: Tuple[str, ...]
+
+
+_FLOAT = _Element("32-bit floats", 4, ("f", "Zf"))
+_BYTE = _Element("bytes", 1, ("B", "b", "c"))
+_NATIVE = "@=<" if sys.byteorder == "little" else "@=>"
+
+
+def _check(view, name, element, writable):
+    """Of a buffer, all that the engine cannot see but its address."""
+    if view.format.lstrip(_NATIVE) not in element.formats:
+        raise TypeError("%s: a buffer of %s is needed, not of format %r" % (name, element.name, view.format))
+    if not view.c_contiguous:
+        raise BufferError("%s: the buffer is not contiguous" % name)
+    if writable and view.readonly:
+        raise BufferError("%s: the buffer is read-only" % name)
+
+
+def _view(buffer, name, element):
+    try:
+        return memoryview(buffer)
+    except TypeError:
+        raise TypeError("%s: a buffer of %s is needed, not %s" % (name, element.name, type(buffer).__name__)) from None
+
+
+class _Lent(NamedTuple):
+    """A buffer's memory while it is lent; the length counts elements, `end` is the address past it."""
+
+    address: int
+    length: int
+    end: int
+
+
+@contextlib.contextmanager
+def _lent(buffer, name, element, writable=False):
+    """Lends a buffer's own memory for one call, so that it neither moves nor goes away meanwhile."""
+    with _view(buffer, name, element) as view:
+        _check(view, name, element, writable)
+        held = _Held()
+        _hold(view, held, 0)  # 0: plain bytes; the view has told the rest
+        try:
+            address = held.buf or 0
+            if view.nbytes and address % element.bytes:
+                raise ValueError("%s: the buffer is not aligned to its elements" % name)
+            yield _Lent(address, view.nbytes // element.bytes, address + view.nbytes)
+        finally:
+            _let_go(held)
+
+
+def _apart(points, grid):
+    if max(points.address, grid.address) < min(points.end, grid.end):
+        raise ValueError("points and grid overlap")
+
+
+def _pilot_point(pilot):
+    """The pilot point's own two floats, bit for bit where it is a buffer."""
+    if isinstance(pilot, (tuple, list)):
+        pilot = array.array("f", pilot)
+    with _lent(pilot, "pilot", _FLOAT) as lent:
+        if lent.length != 2:
+            raise ValueError("pilot: two floats are needed, not %d" % lent.length)
+        return _Pair.from_buffer_copy(ctypes.string_at(lent.address, 8))
+
+
+# --- the map ----------------------------------------------------------------------------------
+
+
+def place(mode, size, cell, slot, subchannel, index):
+    """Where point `index` of a subchannel lies, as Place(symbol, carrier). Refusals 1, 2, 3, 4, 5, 6."""
+    symbol, carrier = _uint(), _uint()
+    _raise_if_refused(_engine.bp_place(*_numbers(mode, size, cell, slot, subchannel, index), symbol, carrier))
+    return Place(symbol.value, carrier.value)
+
+
+_KINDS = (Kind.GUARD, Kind.DC, Kind.PILOT, Kind.DATA)
+
+
+def locate(mode, size, cell, symbol, carrier):
+    """What a carrier is in a symbol of the zone, as Located(kind, slot, subchannel, index). Refusals 1, 2, 3, 4, 7.
+
+    kind is Kind.GUARD, Kind.DC, Kind.PILOT or Kind.DATA; the other three are None unless it is Kind.DATA.
+    """
+    kind, slot, subchannel, index = _uint(), _uint(), _uint(), _uint()
+    _raise_if_refused(_engine.bp_locate(*_numbers(mode, size, cell, symbol, carrier), kind, slot, subchannel, index))
+    what = _KINDS[kind.value]
+    if what is Kind.DATA:
+        return Located(what, slot.value, subchannel.value, index.value)
+    return Located(what)
+
+
+# --- grids ------------------------------------------------------------------------------------
+
+
+def fill(mode, size, cell, slot, pilot, points, grid):
+    """Lays a slot's points on its grid. Refusals 1, 2, 3, 4, 8, 9.
+
+    The whole grid is written: the points on data carriers, the pilot point on pilots, 0.0 on guards and DC. Bits are
+    copied as they are, those of a NaN too.
+
+    pilot: two numbers (rounded to 32-bit floats), or a buffer of two floats.
+    points: 96 floats for each subchannel, by subchannel and index, in-phase first.
+    grid: 2 * size floats for each symbol of a slot, symbol after symbol, each by rising carrier.
+    """
+    fields = _numbers(mode, size, cell, slot)
+    pilot = _pilot_point(pilot)
+    with _lent(points, "points", _FLOAT) as source, _lent(grid, "grid", _FLOAT, writable=True) as target:
+        _apart(source, target)
+        _raise_if_refused(_engine.bp_fill(*fields, pilot, source.address, source.length, target.address, target.length))
+
+
+def empty(mode, size, cell, slot, grid, points):
+    """Takes a slot's points off its grid, into `points`. Refusals 1, 2, 3, 4, 8, 9.
+
+    All points are written; only data carriers are read. The lengths are those of `fill`.
+    """
+    fields = _numbers(mode, size, cell, slot)
+    with _lent(grid, "grid", _FLOAT) as source, _lent(points, "points", _FLOAT, writable=True) as target:
+        _apart(target, source)
+        _raise_if_refused(_engine.bp_empty(*fields, source.address, source.length, target.address, target.length))
+
+
+_SEEN = {0: Kind.NOTHING, 2: Kind.PILOT, 3: Kind.DATA}
+
+
+def look(mode, size, cell, symbol, grid, carrier):
+    """What the grid of the symbol's slot holds on a carrier, as Seen(kind, point, slot, subchannel, index).
+
+    kind is Kind.NOTHING (guard or DC, whatever the grid holds there), Kind.PILOT with its point, or Kind.DATA with
+    all of it. The point is a pair of Python floats, which hold every 32-bit float; only a signalling NaN comes out as
+    a quiet one. Refusals 1, 2, 3, 4, 7, 9.
+    """
+    mode, size, cell, symbol, carrier = _numbers(mode, size, cell, symbol, carrier)
+    kind, point, slot, subchannel, index = _uint(), _Pair(), _uint(), _uint(), _uint()
+    with _lent(grid, "grid", _FLOAT) as lent:
+        _raise_if_refused(
+            _engine.bp_look(
+                mode, size, cell, symbol, lent.address, lent.length, carrier, kind, point, slot, subchannel, index
+            )
+        )
+    what = _SEEN[kind.value]
+    if what is Kind.NOTHING:
+        return Seen(what)
+    if what is Kind.PILOT:
+        return Seen(what, Point(*point))
+    return Seen(what, Point(*point), slot.value, subchannel.value, index.value)
+
+
+# --- collisions -------------------------------------------------------------------------------
+
+
+def _collisions(call, *fields):
+    hits, count = _Hits(), _uint()
+    _raise_if_refused(call(*_numbers(*fields), hits, count))
+    return Collisions(tuple(hit != 0 for hit in hits), count.value)
+
+
+def ofusc_collisions(size, cell_a, subchannel_a, cell_b, subchannel_b):
+    """Optional FUSC: in which groups the two subchannels are on one carrier, as Collisions(hits, count).
+
+    hits[k] is group k, the data numbers N*k to N*k+N-1 of a symbol; every symbol has the same answer.
+    Refusals 2, 3 (cell_a), 3 (cell_b), 5 (subchannel_a), 5 (subchannel_b), in this order.
+    """
+    return _collisions(_engine.bp_ofusc_collisions, size, cell_a, subchannel_a, cell_b, subchannel_b)
+
+
+def amc_collisions(cell_a, cell_b):
+    """AMC: which indices both cells put on one carrier, as Collisions(hits, count); hits[j] is index j.
+
+    The answer is the same in every subchannel, slot and size. Refusals 3 (cell_a), 3 (cell_b).
+    """
+    return _collisions(_engine.bp_amc_collisions, cell_a, cell_b)
+
+
+# --- zone plans -------------------------------------------------------------------------------
+
+
+def plan_read(data):
+    """The zone plan that the bytes are, as Plan(size, zones). Refusals 10, 11, 12, 2, 1, 3, 13, 14, 15.
+
+    data: any contiguous buffer of bytes. zones has as many Zone(mode, cell, slots) as the plan counts.
+    """
+    count, size, places = _uint(), _uint(), _Zones()
+    with _lent(data, "data", _BYTE) as lent:
+        _raise_if_refused(_engine.bp_plan_read(lent.address, lent.length, count, size, places))
+    zones = [Zone(*places[at : at + 3]) for at in range(0, 3 * count.value, 3)]
+    return Plan(size.value, tuple(zones))
+
+
+def plan_write(count, size, zones, dest):
+    """Writes a plan's bytes at the start of `dest` and returns how many they are; further bytes stay as they are.
+
+    zones: all eight places of the plan, three numbers each (mode, cell, slots); those past the count are to be zero.
+    dest: any writable, contiguous buffer of bytes. Refusals 12, 2, for each zone 1, 2, 3, 13, 14, then 16.
+    `plan_bytes` is the same without count, unused places and destination.
+    """
+    count, size = _numbers(count, size)
+    zones = [_numbers(*zone) for zone in zones]
+    if [len(zone) for zone in zones] != [3] * PLACES:
+        raise ValueError("zones: eight places of three numbers each are needed")
+    places, written = _Zones(*itertools.chain(*zones)), _uint()
+    with _lent(dest, "dest", _BYTE, writable=True) as lent:
+        _raise_if_refused(_engine.bp_plan_write(count, size, places, lent.address, lent.length, written))
+    return written.value
+
+
+_UNUSED = Zone(0, 0, 0)
+_LONGEST = 3 * (2 + 3 * PLACES)  # bytes: a value takes three at most
+
+
+def plan_bytes(size, zones):
+    """A plan's bytes: `plan_bytes(*plan_read(data))` is data. Refusals 12, 2, for each zone 1, 2, 3, 13, 14.
+
+    zones: Zone(mode, cell, slots), or any three numbers, for each zone; none at all and more than eight are refused
+    (12).
+    """
+    zones = list(zones)
+    dest = bytearray(_LONGEST)
+    written = plan_write(len(zones), size, (zones + [_UNUSED] * PLACES)[:PLACES], dest)
+    return bytes(dest[:written])

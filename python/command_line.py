@@ -1,0 +1,245 @@
+"""The command line: its arguments, the library that it builds when needed, and its exit status.
+
+0: answered. 1: refused by the engine. 2: not understood, or something could not be read, written or built.
+"""
+
+import argparse
+import os
+import re
+import subprocess
+import sys
+
+ROOT = os.path.dirname(os.path.dirname(os.path.realpath(__file__)))
+ANSWERED, REFUSED, FAILED = 0, 1, 2
+
+RANGES = """\
+modes and their ranges (N is SIZE / 64):
+  MODE                SIZE                  CELL      SUBCHANNEL  symbols a slot
+  0  PUSC downlink    2048                  0..31     0..59       2
+  1  PUSC uplink      2048                  0..69     0..69       3
+  2  optional FUSC    256 512 1024 2048     0..N*N-1  0..N-1      1
+  3  AMC              256 512 1024 2048     0..2351   0..N-1      1
+
+SIZE is the FFT size, CELL the permutation base. SLOT is 0..511, INDEX 0..47, CARRIER 0..SIZE-1.
+SYMBOL counts in the zone: slot times symbols a slot, plus the offset in the slot.
+Any number may be given: the engine refuses what is out of range."""
+
+PLAN_RULES = """\
+A plan has a SIZE (256, 512, 1024 or 2048) and one to eight zones, each of MODE 0, 2 or 3, a CELL of that mode and 1 to
+512 SLOTS. At 2048 the first zone is mode 0 with cell 0. After a zone of mode 3 come zones of mode 3 only.
+./bellpulsar --help has the modes and their cells."""
+
+OVERVIEW = """\
+Where IEEE 802.16e OFDMA puts each point of a slot, and what belongs on a carrier, from an engine that is proved.
+The first use proves and builds the engine, in about two minutes."""
+
+OVERVIEW_END = (
+    RANGES
+    + """
+
+A request that cannot be met prints "refused", the number and the question that is answered no; exit status 1.
+What is not understood, read, written or built is told on standard error; exit status 2.
+
+examples:
+  ./bellpulsar place 2 1024 17 0 0 0
+  ./bellpulsar locate 0 2048 5 1 184
+  ./bellpulsar collisions ofusc 2048 0 2 1010 0
+  ./bellpulsar plan read 02 80 08 02 11 03 03 B0 01 01
+  ./bellpulsar show 2 1024 17 0 --subchannel 3
+  ./bellpulsar picture slot 0 2048 5 3 --output slot.svg
+  ./bellpulsar place --help"""
+)
+
+
+# --- arguments --------------------------------------------------------------------------------
+
+
+def number(text):
+    """A decimal number of any size; what lies far out becomes some number out of every range."""
+    if not re.fullmatch(" ?-?[0-9]+", text):
+        raise argparse.ArgumentTypeError("%r is not a number" % text)
+    digits = text.lstrip(" -").lstrip("0") or "0"
+    value = int(digits) if len(digits) < 20 else 10**20
+    return -value if "-" in text else value
+
+
+def zone(text):
+    parts = text.split(",")
+    if len(parts) != 3:
+        raise argparse.ArgumentTypeError("%r is not a zone: MODE,CELL,SLOTS is needed" % text)
+    return tuple(number(part) for part in parts)
+
+
+def hex_word(text):
+    if not re.fullmatch("([0-9A-Fa-f]{2})*", text):
+        raise argparse.ArgumentTypeError("%r is not bytes in hex, two digits each" % text)
+    return bytes.fromhex(text)
+
+
+def shielded(arguments):
+    """A leading blank keeps the argument parser from taking -1 or -1,0,1 for an option."""
+    return [" " + text if re.match("-[0-9]", text) else text for text in arguments]
+
+
+def sentence(summary):
+    return summary[0].upper() + summary[1:] + "."
+
+
+def command(commands, name, answer, summary, example, fields, notes=RANGES):
+    """A command whose fields are numbers; `answer` names its function in answers.py."""
+    parser = commands.add_parser(
+        name,
+        help=summary,
+        description=sentence(summary),
+        epilog="example:\n" + example + "\n\n" + notes,
+        formatter_class=argparse.RawDescriptionHelpFormatter,
+    )
+    parser.set_defaults(answer=answer, output=None)
+    for field in fields:
+        parser.add_argument(field, type=number, metavar=field.upper())
+    return parser
+
+
+def branch(commands, name, summary):
+    """A command that has commands of its own."""
+    parser = commands.add_parser(name, help=summary, description=sentence(summary))
+    return parser.add_subparsers(required=True, metavar="WHAT", dest=name)
+
+
+def add_map(commands):
+    fields = ["mode", "size", "cell", "slot", "subchannel", "index"]
+    example = "  ./bellpulsar place 2 1024 17 0 0 0\n  symbol 0 carrier 87"
+    command(commands, "place", "place", "the symbol and carrier of a point", example, fields)
+    fields = ["mode", "size", "cell", "symbol", "carrier"]
+    example = "  ./bellpulsar locate 2 1024 17 0 87\n  data slot 0 subchannel 0 index 0"
+    example += "\n\nprints guard, DC, pilot, or data with its slot, subchannel and index"
+    command(commands, "locate", "locate", "what belongs on a carrier in a symbol of the zone", example, fields)
+
+
+def add_collisions(commands):
+    kinds = branch(commands, "collisions", "where two cells put points on one carrier")
+    example = "  ./bellpulsar collisions ofusc 2048 0 2 1010 0\n  count 4 groups 0 1 31 32"
+    example += "\n\nA group is one of the 48 runs of N data numbers in a symbol."
+    fields = ["size", "cell_a", "subchannel_a", "cell_b", "subchannel_b"]
+    summary = "optional FUSC: the groups in which two subchannels are on one carrier"
+    command(kinds, "ofusc", "ofusc_collisions", summary, example, fields)
+    example = "  ./bellpulsar collisions amc 48 176\n  count 3 indices 8 24 32"
+    summary = "AMC: the indices that two cells put on one carrier, in every subchannel"
+    command(kinds, "amc", "amc_collisions", summary, example, ["cell_a", "cell_b"])
+
+
+def add_plans(commands):
+    kinds = branch(commands, "plan", "zone plans and their bytes")
+    example = """\
+  ./bellpulsar plan read 02 80 08 02 11 03 03 B0 01 01
+  size 1024
+  mode 2 cell 17 slots 3
+  mode 3 cell 176 slots 1"""
+    summary = "the size and the zones of a plan, a line each"
+    reading = command(kinds, "read", "plan_read", summary, example, [], PLAN_RULES)
+    reading.add_argument("words", nargs="*", type=hex_word, metavar="HEX", help="the plan's bytes, two hex digits each")
+    reading.add_argument("--file", help="take the bytes from this file, as they are; - is standard input")
+    reading.set_defaults(reading=reading)
+    example = "  ./bellpulsar plan write 1024 2,17,3 3,176,1\n  02 80 08 02 11 03 03 B0 01 01"
+    writing = command(kinds, "write", "plan_write", "the bytes of a plan, in hex", example, ["size"], PLAN_RULES)
+    writing.add_argument("zones", nargs="*", type=zone, metavar="MODE,CELL,SLOTS", help="a zone, one to eight of them")
+
+
+def add_show(commands):
+    example = """\
+  ./bellpulsar show 2 256 0 0 --subchannel 1
+
+A row has 64 carriers, each a character; the number at the left is that of the row's first carrier."""
+    summary = "a symbol of a zone as text, a character a carrier"
+    showing = command(commands, "show", "show", summary, example, ["mode", "size", "cell", "symbol"])
+    showing.add_argument("--subchannel", type=number, help="pick out the data of this subchannel")
+
+
+def add_pictures(commands):
+    kinds = branch(commands, "picture", "SVG pictures")
+    example = "  ./bellpulsar picture slot 0 2048 5 3 --output slot.svg"
+    summary = "a slot: carriers along x, symbols along y, a colour for each subchannel"
+    drawing = command(kinds, "slot", "slot_picture", summary, example, ["mode", "size", "cell", "slot"])
+    drawing.add_argument("--subchannel", type=number, help="pick out the data of this subchannel")
+    drawing.add_argument("--output", metavar="FILE", help="the file to write; otherwise standard output")
+    example = "  ./bellpulsar picture subchannel 0 2048 0 1 0 1 31 --output subchannel.svg"
+    summary = "a subchannel's points: carriers along x, indices along y, a panel for each cell"
+    fields = ["mode", "size", "slot", "subchannel"]
+    drawing = command(kinds, "subchannel", "subchannel_picture", summary, example, fields)
+    drawing.add_argument("cells", nargs="+", type=number, metavar="CELL", help="one or more cells")
+    drawing.add_argument("--output", metavar="FILE", help="the file to write; otherwise standard output")
+
+
+def argument_parser():
+    parser = argparse.ArgumentParser(
+        prog="bellpulsar",
+        description=OVERVIEW,
+        epilog=OVERVIEW_END,
+        formatter_class=argparse.RawDescriptionHelpFormatter,
+    )
+    commands = parser.add_subparsers(required=True, metavar="COMMAND", dest="command")
+    for add in (add_map, add_collisions, add_plans, add_show, add_pictures):
+        add(commands)
+    return parser
+
+
+def read_arguments(arguments):
+    options = argument_parser().parse_args(shielded(arguments))
+    if options.answer == "plan_read" and bool(options.words) == (options.file is not None):
+        options.reading.error("give the bytes either as HEX words or by --file")
+    return options
+
+
+# --- running ----------------------------------------------------------------------------------
+
+
+def build():
+    """Builds the library where it is missing or old; the builder tells so itself, on standard error."""
+    if not os.environ.get("BELLPULSAR_LIBRARY"):
+        subprocess.run([os.path.join(ROOT, "build.sh")], stdout=sys.stderr, check=True)
+
+
+def answer_to(options):
+    """(exit status, text)."""
+    import answers  # loads the library, which may not have been there before
+    from bellpulsar import Refusal
+
+    try:
+        return ANSWERED, getattr(answers, options.answer)(options)
+    except Refusal as refused:
+        return REFUSED, "%s\n" % refused
+
+
+def put(text, path):
+    """To a file, or to standard output where there is none."""
+    if path is not None:
+        with open(path, "w", encoding="ascii") as file:
+            file.write(text)
+        return
+    if sys.stdout is None:
+        raise OSError("standard output is closed")
+    try:
+        sys.stdout.write(text)
+        sys.stdout.flush()
+    except OSError:
+        # What could not be written stays in the stream, and would be tried again at the end.
+        os.dup2(os.open(os.devnull, os.O_WRONLY), sys.stdout.fileno())
+        raise
+
+
+def main(arguments):
+    options = read_arguments(arguments)
+    try:
+        build()
+        status, text = answer_to(options)
+        put(text, options.output if status == ANSWERED else None)
+        return status
+    except subprocess.CalledProcessError:
+        message = "the engine could not be built"
+    except OSError as error:
+        reason = error.strerror or str(error)
+        message = "%s: %s" % (error.filename, reason) if error.filename else reason
+    except ImportError as error:
+        message = str(error)
+    print("bellpulsar: " + message, file=sys.stderr)
+    return FAILED

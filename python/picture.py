@@ -1,0 +1,304 @@
+"""Pictures of the map as SVG text, drawn from the library's answers alone.
+
+`slot` draws a slot: carriers along x, in bands under each other, symbols along y, a colour for each subchannel.
+`subchannel` draws one subchannel's points: carriers along x, the index along y, a panel for each cell.
+"""
+
+import collections
+import colorsys
+import itertools
+
+import bellpulsar
+from bellpulsar import Kind
+
+MODE_NAMES = ("PUSC downlink", "PUSC uplink", "optional FUSC", "AMC")
+
+LEFT, RIGHT, TOP, BOTTOM = 76, 24, 64, 16  # margins
+WIDTH = 1280  # of a band or panel
+
+GUARD, DC, PILOT, OTHER, PICKED = "#d4d4d4", "#ffffff", "#000000", "#cfe3f5", "#d7301f"
+
+
+# --- SVG --------------------------------------------------------------------------------------
+
+
+def element(tag, content="", **attributes):
+    """An element; underscores in attribute names stand for hyphens, a last one is dropped (class_)."""
+    words = ['%s="%s"' % (name.rstrip("_").replace("_", "-"), value) for name, value in attributes.items()]
+    head = " ".join([tag] + words)
+    return "<%s>%s</%s>" % (head, content, tag) if content else "<%s/>" % head
+
+
+def text(x, y, content, **attributes):
+    return element("text", str(content), x=x, y=y, **attributes)
+
+
+def line(x1, y1, x2, y2, **attributes):
+    return element("line", x1=x1, y1=y1, x2=x2, y2=y2, **{"stroke": "#444444", **attributes})
+
+
+def box(x, y, width, height, **attributes):
+    return element("rect", x=x, y=y, width=width, height=height, **attributes)
+
+
+def group(x, y, parts, **attributes):
+    return element("g", "\n" + "\n".join(parts) + "\n", transform="translate(%d,%d)" % (x, y), **attributes)
+
+
+def document(height, title, parts):
+    width = LEFT + WIDTH + RIGHT
+    head = [
+        element("title", title),
+        box(0, 0, width, height, fill="#ffffff"),
+        text(LEFT, 26, title, font_size=18, font_weight="bold"),
+    ]
+    size = {"width": width, "height": height, "viewBox": "0 0 %d %d" % (width, height)}
+    font = {"font-family": "sans-serif", "font-size": 12}
+    whole = "\n" + "\n".join(head + parts) + "\n"
+    return element("svg", whole, xmlns="http://www.w3.org/2000/svg", **size, **font) + "\n"
+
+
+def upright(x, y, content):
+    """A title of a y axis."""
+    turn = "rotate(-90 %d %d)" % (x, y)
+    return text(x, y, content, text_anchor="middle", transform=turn)
+
+
+def carrier_ticks(y, first, last, step, scale):
+    """Ticks and carrier numbers under a band or panel."""
+    parts = []
+    for carrier in [*range(first, last, step), last]:
+        x = "%g" % ((carrier - first + 0.5) * scale)
+        parts += [line(x, y, x, y + 5), text(x, y + 18, carrier, text_anchor="middle")]
+    return parts
+
+
+# --- a slot -----------------------------------------------------------------------------------
+
+BAND = 256  # carriers
+CARRIER = WIDTH // BAND
+SYMBOL = 20
+GAP = 54  # between bands: tick labels and the mark of DC
+SWATCH = 36
+
+
+def slot_symbols(mode, size, cell, slot):
+    """The zone's symbols that a slot has; each subchannel has points on all of them."""
+    return sorted({bellpulsar.place(mode, size, cell, slot, 0, index).symbol for index in range(48)})
+
+
+def slot_rows(mode, size, cell, slot):
+    """What each carrier is, a row for each symbol of the slot."""
+    return [
+        [bellpulsar.locate(mode, size, cell, symbol, carrier) for carrier in range(size)]
+        for symbol in slot_symbols(mode, size, cell, slot)
+    ]
+
+
+def hue(number, total):
+    """Colours that rise with the number around the wheel, in three depths, so that neighbours differ."""
+    lightness = (0.42, 0.58, 0.74)[number % 3]
+    red, green, blue = colorsys.hls_to_rgb(0.85 * number / total, lightness, 0.75)
+    return "#%02x%02x%02x" % (round(255 * red), round(255 * green), round(255 * blue))
+
+
+def class_of(located, picked):
+    """The SVG class of a carrier."""
+    if located.kind is not Kind.DATA:
+        return located.kind.value.lower()
+    if picked is None or located.subchannel == picked:
+        return "subchannel-%d" % located.subchannel
+    return "other"
+
+
+def styles(total, picked):
+    """How each class is drawn."""
+    fills = {"guard": GUARD, "dc": DC, "pilot": PILOT, "other": OTHER}
+    for number in range(total):
+        fills["subchannel-%d" % number] = hue(number, total) if picked is None else PICKED
+    return {name: {"fill": fill} for name, fill in fills.items()} | {"dc": {"fill": DC, "stroke": "#000000"}}
+
+
+def runs(classes):
+    """(class, first, length) of each run of one class."""
+    at = 0
+    for name, members in itertools.groupby(classes):
+        length = len(list(members))
+        yield name, at, length
+        at += length
+
+
+def band_paths(rows, style):
+    """One path for each class, DC over all others; rows are the classes of the band's carriers, a row a symbol."""
+    outlines = collections.defaultdict(str)
+    for row, classes in enumerate(rows):
+        for name, first, length in runs(classes):
+            width = CARRIER * length
+            outlines[name] += "M%d %dh%dv%dh-%dz" % (CARRIER * first, SYMBOL * row, width, SYMBOL, width)
+    order = sorted(outlines, key=lambda name: (name == "dc", name))
+    return [element("path", class_=name, d=outlines[name], **style[name]) for name in order]
+
+
+def guard_labels(classes, height):
+    wide = [(first, length) for name, first, length in runs(classes) if name == "guard" and length > 9]
+    middles = ["%g" % ((first + length / 2) * CARRIER) for first, length in wide]
+    return [text(x, height // 2 + 4, "guard", text_anchor="middle", fill="#555555") for x in middles]
+
+
+def dc_label(classes):
+    if "dc" not in classes:
+        return []
+    x = (classes.index("dc") + 0.5) * CARRIER
+    pointer = element("path", d="M%g -2l-5 -8h10z" % x, fill="#000000")
+    return [pointer, text("%g" % x, -14, "DC", text_anchor="middle", font_weight="bold")]
+
+
+def symbol_labels(symbols):
+    places = [SYMBOL * row + SYMBOL / 2 + 4 for row in range(len(symbols))]
+    return [text(-8, "%g" % y, symbol, text_anchor="end") for y, symbol in zip(places, symbols)]
+
+
+def band(first, rows, symbols, style):
+    height = SYMBOL * len(rows)
+    parts = band_paths(rows, style)
+    parts += [line(0, SYMBOL * row, WIDTH, SYMBOL * row, stroke="#ffffff") for row in range(1, len(rows))]
+    parts += [box(0, 0, CARRIER * len(rows[0]), height, fill="none", stroke="#444444")]
+    parts += guard_labels(rows[0], height) + dc_label(rows[0])
+    parts += symbol_labels(symbols) + [upright(-48, height // 2, "symbol")]
+    return parts + carrier_ticks(height, first, first + len(rows[0]) - 1, 16, CARRIER)
+
+
+def swatch(x, label, fill):
+    return [box(x, 0, SWATCH, SYMBOL, fill=fill, stroke="#444444"), text(x + SWATCH + 8, 14, label)]
+
+
+def legend_kinds(style, picked):
+    """Guard, DC, pilot, and data where one subchannel is picked out."""
+    labels = [("guard", "guard"), ("dc", "DC"), ("pilot", "pilot")]
+    if picked is not None:
+        labels += [("subchannel-%d" % picked, "data of subchannel %d" % picked), ("other", "data of other subchannels")]
+    parts = []
+    for at, (name, label) in enumerate(labels):
+        parts += swatch(110 * at if at < 4 else 560, label, style[name]["fill"])
+    return parts
+
+
+def ink(fill):
+    """Black or white, whichever reads better on a colour."""
+    red, green, blue = (int(fill[at : at + 2], 16) for at in (1, 3, 5))
+    return "#000000" if 299 * red + 587 * green + 114 * blue > 125000 else "#ffffff"
+
+
+def legend_scale(style, total):
+    """The subchannels' colours with their numbers."""
+    across = WIDTH // SWATCH
+    parts = [text(0, 0, "data, by subchannel:")]
+    for number in range(total):
+        x, y = SWATCH * (number % across), 10 + 26 * (number // across)
+        fill = style["subchannel-%d" % number]["fill"]
+        parts.append(box(x, y, SWATCH, 22, fill=fill))
+        parts.append(text(x + SWATCH // 2, y + 16, number, text_anchor="middle", fill=ink(fill)))
+    return parts
+
+
+def slot(mode, size, cell, slot, picked=None):
+    """A slot of a zone; with `picked`, one subchannel of it picked out. Refusals 1, 2, 3, 4, 5."""
+    if picked is not None:
+        bellpulsar.place(mode, size, cell, slot, picked, 0)
+    symbols, rows = slot_symbols(mode, size, cell, slot), slot_rows(mode, size, cell, slot)
+    total = 1 + max(what.subchannel for what in rows[0] if what.kind is Kind.DATA)
+    style = styles(total, picked)
+    height = SYMBOL * len(symbols) + GAP
+    parts, y = [], TOP
+    for first in range(0, size, BAND):
+        classes = [[class_of(what, picked) for what in row[first : first + BAND]] for row in rows]
+        parts.append(group(LEFT, y, band(first, classes, symbols, style), class_="band"))
+        y += height
+    parts.append(text(LEFT + WIDTH / 2, y - 10, "carrier", text_anchor="middle"))
+    parts.append(group(LEFT, y + 12, legend_kinds(style, picked), class_="legend"))
+    y += 58
+    if picked is None:
+        parts.append(group(LEFT, y, legend_scale(style, total), class_="legend"))
+        y += 10 + 26 * (1 + (total - 1) // (WIDTH // SWATCH))
+    title = "%s (mode %d), size %d, cell %d, slot %d" % (MODE_NAMES[mode], mode, size, cell, slot)
+    if picked is not None:
+        title += ", subchannel %d picked out" % picked
+    return document(y + BOTTOM, title, parts)
+
+
+# --- a subchannel -----------------------------------------------------------------------------
+
+INDEX = 5  # height of an index
+PANEL = 48 * INDEX
+BETWEEN = 58
+SYMBOL_COLOURS = ("#1f77b4", "#e07b00", "#2a9134")
+INDEX_TICKS = (0, 12, 24, 36, 47)
+
+
+def places_of(mode, size, cell, slot, subchannel):
+    return [bellpulsar.place(mode, size, cell, slot, subchannel, index) for index in range(48)]
+
+
+def index_height(index):
+    """Index 0 is at the bottom."""
+    return PANEL - INDEX * index - INDEX / 2
+
+
+def marks(places, scale, first_symbol, shared):
+    """A mark for each point; those that another cell has too are ringed."""
+    parts = []
+    for index, place in enumerate(places):
+        x, y = "%g" % ((place.carrier + 0.5) * scale), "%g" % index_height(index)
+        fill = SYMBOL_COLOURS[place.symbol - first_symbol]
+        if place in shared:
+            look = {"class_": "point shared", "r": 4, "stroke": "#000000", "stroke_width": 2}
+        else:
+            look = {"class_": "point", "r": 3}
+        parts.append(element("circle", cx=x, cy=y, fill=fill, **look))
+    return parts
+
+
+def panel_frame(size, scale):
+    parts = [box(0, 0, WIDTH, PANEL, fill="#f7f7f7", stroke="#444444")]
+    for index in INDEX_TICKS:
+        y = "%g" % index_height(index)
+        parts += [line(0, y, WIDTH, y, stroke="#dddddd"), line(-5, y, 0, y)]
+        parts += [text(-8, index_height(index) + 4, index, text_anchor="end")]
+    middle = "%g" % ((size // 2 + 0.5) * scale)
+    parts += [line(middle, 0, middle, PANEL, stroke_dasharray="5 4"), upright(-48, PANEL // 2, "index")]
+    parts += [text(middle, -6, "DC", text_anchor="middle", font_weight="bold")]
+    return parts + carrier_ticks(PANEL, 0, size - 1, size // 16, scale)
+
+
+def panel(size, cell, places, first_symbol, shared):
+    scale = WIDTH / size
+    parts = panel_frame(size, scale) + [text(0, -6, "cell %d" % cell, font_weight="bold")]
+    return parts + marks(places, scale, first_symbol, shared)
+
+
+def subchannel_legend(symbols, several):
+    parts = []
+    for at, symbol in enumerate(symbols):
+        parts += [element("circle", cx=130 * at + 6, cy=0, r=5, fill=SYMBOL_COLOURS[at])]
+        parts += [text(130 * at + 18, 4, "point, symbol %d" % symbol)]
+    if several:
+        x = 130 * len(symbols)
+        parts += [element("circle", cx=x + 6, cy=0, r=5, fill="none", stroke="#000000", stroke_width=2)]
+        parts += [text(x + 18, 4, "on a carrier that another cell of the picture has in the same symbol")]
+    return parts
+
+
+def subchannel(mode, size, slot, subchannel, cells):
+    """One subchannel's points under each of the cells. Refusals 1, 2, 3, 4, 5, those of the first cell first."""
+    points = [places_of(mode, size, cell, slot, subchannel) for cell in cells]
+    counts = collections.Counter(place for places in points for place in places)
+    shared = {place for place, count in counts.items() if count > 1}
+    symbols = sorted({place.symbol for place in points[0]})
+    parts, y = [], TOP + 6
+    for cell, places in zip(cells, points):
+        parts.append(group(LEFT, y, panel(size, cell, places, symbols[0], shared), class_="panel"))
+        y += PANEL + BETWEEN
+    parts.append(text(LEFT + WIDTH / 2, y - 18, "carrier", text_anchor="middle"))
+    parts.append(group(LEFT, y + 6, subchannel_legend(symbols, len(cells) > 1), class_="legend"))
+    names = (MODE_NAMES[mode], mode, size, slot, subchannel)
+    return document(y + 20 + BOTTOM, "%s (mode %d), size %d, slot %d, subchannel %d" % names, parts)

@@ -1,0 +1,491 @@
+#!/usr/bin/env python3
+"""Runs ./bellpulsar and holds what it prints to document 01's known points and to the reference.
+
+    python3 tests/test_command_line.py
+"""
+
+import os
+import re
+import shlex
+import shutil
+import subprocess
+import tempfile
+import unittest
+import xml.etree.ElementTree as ElementTree
+
+import reference as ref
+
+ROOT = os.path.dirname(os.path.dirname(os.path.abspath(__file__)))
+COMMAND = os.path.join(ROOT, "bellpulsar")
+SVG = "{http://www.w3.org/2000/svg}"
+
+QUESTION = {
+    1: "Is the mode listed?",
+    2: "Is the size that mode's?",
+    3: "Is the cell in range?",
+    4: "Is the slot below 512, the zone's symbol below 512 times the slot length?",
+    5: "Is the subchannel in range?",
+    6: "Is the index below 48?",
+    7: "Is the carrier below the size?",
+    10: "Do the bytes reach to the value's end or its third group?",
+    11: "Does the value end by its third group, in shortest form?",
+    12: "Is the count 1 to 8, and in writing every place past it zero?",
+    13: "Are the slots 1 to 512?",
+    14: "At 2048, is the first zone mode 0 with cell 0, and does nothing but mode 3 follow mode 3?",
+    15: "Are the bytes used up?",
+}
+
+
+# As a user has it: buffered output, and the library of this tree.
+ENV = {name: value for name, value in os.environ.items() if name not in ("PYTHONUNBUFFERED", "BELLPULSAR_LIBRARY")}
+
+
+def run(*arguments, env=ENV, **options):
+    """Of a command: standard output, standard error and exit status."""
+    command = [COMMAND, *map(str, arguments)]
+    return subprocess.run(command, capture_output=True, timeout=60, env=env, **options)
+
+
+def run_shell(line):
+    return subprocess.run(["sh", "-c", line], capture_output=True, timeout=60, env=ENV)
+
+
+class Case(unittest.TestCase):
+    def prints(self, line, text, **options):
+        done = run(*shlex.split(line), **options)
+        self.assertEqual((done.stdout.decode(), done.stderr, done.returncode), (text, b"", 0), line)
+
+    def refused(self, number, line, **options):
+        done = run(*shlex.split(line), **options)
+        text = "refused %d: %s\n" % (number, QUESTION[number])
+        self.assertEqual((done.stdout.decode(), done.stderr, done.returncode), (text, b"", 1), line)
+
+    def not_understood(self, line):
+        done = run(*shlex.split(line))
+        self.assertEqual((done.stdout, done.returncode), (b"", 2), line)
+        self.assertRegex(done.stderr.decode(), r"^usage: bellpulsar[\s\S]*: error: ", line)
+
+    def fails(self, message, *arguments, **options):
+        done = run(*arguments, **options)
+        self.assertEqual((done.stdout, done.stderr.decode(), done.returncode), (b"", message, 2))
+
+
+# --- answers ----------------------------------------------------------------------------------
+
+
+class Map(Case):
+    def test_place(self):
+        self.prints("place 2 1024 0 0 3 5", "symbol 0 carrier 553\n")
+        self.prints("place 2 1024 0 1 3 5", "symbol 1 carrier 552\n")
+        self.prints("place 2 1024 17 0 0 0", "symbol 0 carrier 87\n")
+        self.prints("place 0 2048 0 0 1 11", "symbol 0 carrier 1862\n")
+        self.prints("place 0 2048 0 0 1 35", "symbol 1 carrier 1861\n")
+        self.prints("place 1 2048 0 0 1 0", "symbol 1 carrier 377\n")
+
+    def test_ranges(self):
+        self.prints("place 2 256 15 0 0 0", "symbol 0 carrier %d\n" % ref.place(2, 256, 15, 0, 0, 0)[2])
+        self.refused(3, "place 2 256 16 0 0 0")
+        self.prints("place 3 256 2351 511 0 0", "symbol 511 carrier %d\n" % ref.place(3, 256, 2351, 511, 0, 0)[2])
+        self.refused(3, "place 3 256 2352 511 0 0")
+        self.refused(4, "place 3 256 2351 512 0 0")
+
+    def test_locate(self):
+        for cell in (0, 5, 31):
+            slot, subchannel, index = ref.locate(0, 2048, cell, 0, 184)[1][1:]
+            data = "data slot %d subchannel %d index %d\n" % (slot, subchannel, index)
+            self.prints("locate 0 2048 %d 0 184" % cell, data)
+            self.prints("locate 0 2048 %d 1 184" % cell, "pilot\n")
+        self.prints("locate 0 2048 31 0 183", "guard\n")
+        self.prints("locate 0 2048 31 1 1024", "DC\n")
+        self.prints("locate 2 1024 17 0 87", "data slot 0 subchannel 0 index 0\n")
+
+    def test_every_refusal_of_a_field(self):
+        good = "2 1024 255 511 15 47".split()
+        for at, bad in enumerate("4 2047 256 512 16 48".split()):
+            self.refused(at + 1, "place " + " ".join(good[:at] + [bad] + good[at + 1 :]))
+        good = "1 2048 69 1535 2047".split()
+        for at, (bad, number) in enumerate([(4, 1), (1024, 2), (70, 3), (1536, 4), (2048, 7)]):
+            self.refused(number, "locate " + " ".join(good[:at] + [str(bad)] + good[at + 1 :]))
+
+    def test_numbers_of_any_size(self):
+        huge = "9" * 6000
+        for bad in ("-1", "4294967296", "18446744073709551616", huge, "-" + huge, "-0000001"):
+            self.refused(1, "place %s %s 0 0 0 0" % (bad, bad))
+            self.refused(6, "place 2 1024 17 0 0 %s" % bad)
+            self.refused(7, "locate 2 1024 17 0 %s" % bad)
+        self.prints("place 002 1024 17 -0 0 %s" % ("0" * 6000), "symbol 0 carrier 87\n")
+
+    def test_the_first_refusal(self):
+        self.refused(3, "place 2 1024 -1 -1 -1 -1")
+        self.refused(2, "place 2 -1 -1 -1 -1 -1")
+        self.refused(4, "locate 2 1024 0 512 1024")
+
+
+class Collisions(Case):
+    def test_optional_fusc(self):
+        self.prints("collisions ofusc 2048 0 2 1010 0", "count 4 groups 0 1 31 32\n")
+        for line, count in (("1024 0 6 17 0", 7), ("1024 0 2 244 0", 8), ("512 9 3 9 4", 0), ("256 3 1 3 1", 48)):
+            _, hits, found = ref.ofusc_collisions(*map(int, line.split()))
+            self.assertEqual(found, count)
+            groups = " ".join(str(k) for k in range(48) if hits[k]) or "none"
+            self.prints("collisions ofusc " + line, "count %d groups %s\n" % (count, groups))
+
+    def test_amc(self):
+        self.prints("collisions amc 48 176", "count 3 indices 8 24 32\n")
+        self.prints("collisions amc 7 7", "count 48 indices %s\n" % " ".join(map(str, range(48))))
+
+    def test_refusals(self):
+        self.refused(2, "collisions ofusc 128 0 0 0 0")
+        self.refused(3, "collisions ofusc 256 15 4 -1 4")
+        self.refused(5, "collisions ofusc 256 15 4 15 0")
+        self.refused(5, "collisions ofusc 256 15 0 15 -1")
+        self.refused(3, "collisions amc 2352 0")
+        self.refused(3, "collisions amc 0 -1")
+
+
+EXAMPLE = "02 80 08 02 11 03 03 B0 01 01"
+EXAMPLE_TEXT = "size 1024\nmode 2 cell 17 slots 3\nmode 3 cell 176 slots 1\n"
+
+
+class Plans(Case):
+    def test_read_words(self):
+        self.prints("plan read " + EXAMPLE, EXAMPLE_TEXT)
+        self.prints("plan read 0280080211 0303b00101", EXAMPLE_TEXT)
+        self.prints("plan read 01 80 10 00 00 0C", "size 2048\nmode 0 cell 0 slots 12\n")
+
+    def test_read_refusals(self):
+        self.refused(14, "plan read 01 80 10 02 00 0C")
+        self.refused(11, "plan read 81 00")
+        self.refused(10, "plan read ''")
+        self.refused(12, "plan read 00")
+        self.refused(2, "plan read 01 00")
+        self.refused(1, "plan read 01 80 08 01 00 01")
+        self.refused(3, "plan read 01 80 08 02 80 02 01")
+        self.refused(13, "plan read 01 80 08 02 00 00")
+        self.refused(15, "plan read %s 00" % EXAMPLE)
+
+    def test_read_files(self):
+        data = bytes.fromhex(EXAMPLE)
+        self.prints("plan read --file -", EXAMPLE_TEXT, input=data)
+        self.refused(10, "plan read --file -", input=b"")
+        self.refused(15, "plan read --file -", input=data + bytes(10000))
+        self.refused(12, "plan read --file /dev/zero")
+        with tempfile.TemporaryDirectory() as directory:
+            path = os.path.join(directory, "a plan")
+            with open(path, "wb") as file:
+                file.write(data)
+            self.prints("plan read --file '%s'" % path, EXAMPLE_TEXT)
+
+    def test_write(self):
+        self.prints("plan write 1024 2,17,3 3,176,1", EXAMPLE + "\n")
+        self.prints("plan write 2048 0,0,12", "01 80 10 00 00 0C\n")
+        self.prints("plan write 256 %s" % " ".join(["3,0,1"] * 8), "08 80 02" + " 03 00 01" * 8 + "\n")
+
+    def test_write_refusals(self):
+        self.refused(12, "plan write 1024")
+        self.refused(12, "plan write 256 %s" % " ".join(["3,0,1"] * 9))
+        self.refused(2, "plan write -1 2,17,3")
+        self.refused(1, "plan write 1024 -1,17,3")
+        self.refused(1, "plan write 1024 2,17,3 %d,17,3" % 2**64)
+        self.refused(3, "plan write 1024 2,-1,3")
+        self.refused(13, "plan write 1024 2,17,-1")
+        self.refused(14, "plan write 2048 2,0,12")
+        self.refused(14, "plan write 1024 3,0,1 2,0,1")
+
+
+# --- a symbol as text -------------------------------------------------------------------------
+
+
+def shown(mode, size, cell, symbol, picked):
+    """The carriers of a symbol as the reference has them, a character each."""
+    signs = {ref.GUARD: "-", ref.DC: "D", ref.PILOT: "P", ref.DATA: "."}
+    whats = [ref.locate(mode, size, cell, symbol, carrier)[1] for carrier in range(size)]
+    return "".join("#" if what[0] == ref.DATA and what[2] == picked else signs[what[0]] for what in whats)
+
+
+class Show(Case):
+    def test_to_the_byte(self):
+        self.prints(
+            "show 2 256 0 0 --subchannel 1",
+            "carrier +0         10        20        30        40        50        60\n"
+            "      0  --------------------.P#...#...P#...#...P#...#...P#...#...P#...#.\n"
+            "     64  ..P#...#...P#...#...P#...#...P#...#...P#...#...P#...#...P#...#..\n"
+            "    128  D.P#...#...P#...#...P#...#...P#...#...P#...#...P#...#...P#...#..\n"
+            "    192  .P#...#...P#...#...P#...#...P#...#...P#...#..-------------------\n"
+            "- guard  D DC  P pilot  . data  # data of subchannel 1\n",
+        )
+
+    def test_every_mode_against_the_reference(self):
+        for mode in range(4):
+            for size in ref.sizes(mode):
+                last = ref.cells(mode, size) - 1, ref.subchannels(mode, size) - 1
+                for cell, symbol, picked in ((0, 1, None), (last[0], 511, last[1]), (1, 2, 0)):
+                    pick = [] if picked is None else ["--subchannel", picked]
+                    done = run("show", mode, size, cell, symbol, *pick)
+                    rows = done.stdout.decode().splitlines()[1:-1]
+                    self.assertEqual([int(row[:7]) for row in rows], list(range(0, size, 64)))
+                    self.assertEqual({row[7:9] for row in rows}, {"  "})
+                    self.assertEqual("".join(row[9:] for row in rows), shown(mode, size, cell, symbol, picked))
+
+    def test_legend_without_a_subchannel(self):
+        done = run("show", 3, 256, 0, 0)
+        self.assertEqual(done.stdout.decode().splitlines()[-1], "- guard  D DC  P pilot  . data")
+
+    def test_refusals(self):
+        self.refused(1, "show 4 2048 0 0")
+        self.refused(2, "show 0 1024 0 0")
+        self.refused(3, "show 0 2048 32 0 --subchannel 60")
+        self.refused(4, "show 0 2048 31 1024 --subchannel 60")
+        self.refused(5, "show 0 2048 31 1023 --subchannel 60")
+        self.refused(5, "show 0 2048 31 1023 --subchannel=-1")
+        self.refused(5, "show 0 2048 31 1023 --subchannel -1")
+
+
+# --- pictures ---------------------------------------------------------------------------------
+
+CARRIER, SYMBOL, BAND = 5, 20, 256  # how a slot is drawn: width, height, carriers a band
+
+
+def drawing(*arguments):
+    done = run("picture", *arguments)
+    assert (done.stderr, done.returncode) == (b"", 0), done
+    return ElementTree.fromstring(done.stdout)
+
+
+def of_class(root, tag, name):
+    return [node for node in root.iter(SVG + tag) if node.get("class", "").split()[:1] == [name]]
+
+
+def drawn_slot(root):
+    """The class of each (symbol in the slot, carrier), from the outlines of the paths."""
+    found = {}
+    for number, band in enumerate(of_class(root, "g", "band")):
+        for path in band.iter(SVG + "path"):
+            outline = re.findall(r"M(\d+) (\d+)h(\d+)v20h-\3z", path.get("d"))
+            for x, y, width in (map(int, part) for part in outline if path.get("class")):
+                for carrier in range(x // CARRIER, (x + width) // CARRIER):
+                    place = (y // SYMBOL, BAND * number + carrier)
+                    assert place not in found
+                    found[place] = path.get("class")
+    return found
+
+
+def slot_as_drawn(mode, size, cell, slot, picked):
+    """The same from the reference."""
+    first, found = slot * ref.SLOT_LENGTH[mode], {}
+    for offset in range(ref.SLOT_LENGTH[mode]):
+        for carrier in range(size):
+            what = ref.locate(mode, size, cell, first + offset, carrier)[1]
+            data = "subchannel-%d" % what[2] if what[0] == ref.DATA and picked in (None, what[2]) else "other"
+            found[offset, carrier] = data if what[0] == ref.DATA else what[0]
+    return found
+
+
+def texts(node):
+    return [part.text for part in node.iter(SVG + "text")]
+
+
+class Pictures(Case):
+    def test_every_carrier_of_a_slot(self):
+        for mode, size, cell, slot in ((0, 2048, 5, 3), (1, 2048, 69, 511), (2, 256, 15, 2), (3, 1024, 2351, 1)):
+            root = drawing("slot", mode, size, cell, slot)
+            self.assertEqual(drawn_slot(root), slot_as_drawn(mode, size, cell, slot, None))
+            self.assertEqual(len(of_class(root, "g", "band")), size // BAND)
+            fills = {path.get("class"): path.get("fill") for path in root.iter(SVG + "path") if path.get("class")}
+            self.assertEqual(len(set(fills.values())), 3 + ref.subchannels(mode, size))
+            words = texts(root)
+            for word in ("guard", "DC", "pilot", "carrier", "symbol", str(size - 1)):
+                self.assertIn(word, words)
+            self.assertEqual(texts(of_class(root, "g", "legend")[1])[1:], numbered(ref.subchannels(mode, size)))
+            length = ref.SLOT_LENGTH[mode]
+            self.assertLessEqual({str(slot * length + offset) for offset in range(length)}, set(words))
+
+    def test_the_legend_has_the_colours_of_the_paths(self):
+        root = drawing("slot", 0, 2048, 5, 3)
+        fills = {path.get("class"): path.get("fill") for path in root.iter(SVG + "path")}
+        swatches = [box.get("fill") for box in of_class(root, "g", "legend")[1].iter(SVG + "rect")]
+        self.assertEqual(swatches, [fills["subchannel-%d" % number] for number in range(60)])
+
+    def test_a_subchannel_picked_out(self):
+        root = drawing("slot", 2, 1024, 17, 0, "--subchannel", 3)
+        found = drawn_slot(root)
+        self.assertEqual(found, slot_as_drawn(2, 1024, 17, 0, 3))
+        self.assertEqual(list(found.values()).count("subchannel-3"), 48)
+        self.assertIn("data of subchannel 3", texts(root))
+
+    def test_subchannels(self):
+        cases = [(0, 2048, 3, 1, [0, 1, 31]), (1, 2048, 0, 69, [7]), (2, 512, 4, 7, [9, 9])]
+        for mode, size, slot, subchannel, cells in cases:
+            root = drawing("subchannel", mode, size, slot, subchannel, *cells)
+            panels = of_class(root, "g", "panel")
+            self.assertEqual(len(panels), len(cells))
+            all_places = []
+            for cell, panel in zip(cells, panels):
+                places = [ref.place(mode, size, cell, slot, subchannel, index)[1:] for index in range(48)]
+                marks = of_class(panel, "circle", "point")
+                drawn = [round(float(mark.get("cx")) * size / 1280 - 0.5, 2) for mark in marks]
+                self.assertEqual([round(carrier) for carrier in drawn], [carrier for _, carrier in places])
+                heights = [float(mark.get("cy")) for mark in marks]
+                self.assertEqual(heights, sorted(heights, reverse=True))
+                self.assertEqual(len({mark.get("fill") for mark in marks}), ref.SLOT_LENGTH[mode])
+                self.assertIn("cell %d" % cell, texts(panel))
+                all_places += places
+            shared = [mark for mark in root.iter(SVG + "circle") if mark.get("class") == "point shared"]
+            self.assertEqual(len(shared), sum(all_places.count(place) > 1 for place in all_places))
+
+    def test_output(self):
+        with tempfile.TemporaryDirectory() as directory:
+            path = os.path.join(directory, "slot.svg")
+            self.prints("picture slot 2 256 0 0 --output %s" % path, "")
+            with open(path, "rb") as file:
+                self.assertEqual(file.read(), run("picture", "slot", 2, 256, 0, 0).stdout)
+            self.refused(3, "picture slot 2 256 16 0 --output %s" % path)
+            self.assertGreater(os.path.getsize(path), 1000)
+            os.remove(path)
+            self.refused(3, "picture slot 2 256 16 0 --output %s" % path)
+            self.assertFalse(os.path.exists(path))
+
+    def test_refusals(self):
+        self.refused(1, "picture slot 4 2048 0 0")
+        self.refused(4, "picture slot 0 2048 0 -1 --subchannel -1")
+        self.refused(5, "picture slot 0 2048 0 0 --subchannel 60")
+        self.refused(3, "picture subchannel 0 2048 0 1 0 32")
+        self.refused(5, "picture subchannel 0 2048 511 60 0")
+
+    def test_the_pictures_of_the_documentation(self):
+        with open(os.path.join(ROOT, "docs", "pictures", "README.md")) as file:
+            commands = re.findall(r"^    \./bellpulsar (.*) --output (.*)$", file.read(), re.MULTILINE)
+        self.assertGreaterEqual(len(commands), 2)
+        for line, path in commands:
+            with open(os.path.join(ROOT, path)) as file:
+                text = file.read()
+            self.prints(line, text)
+            self.assertLess(len(text), 300000)
+
+
+def numbered(count):
+    return [str(number) for number in range(count)]
+
+
+# --- usage ------------------------------------------------------------------------------------
+
+COMMANDS = "place|locate|collisions ofusc|collisions amc|plan read|plan write|show|picture slot|picture subchannel"
+
+
+class Usage(Case):
+    def test_help(self):
+        text = run("--help").stdout.decode()
+        for word in "place locate collisions plan show picture refused".split():
+            self.assertIn(word, text)
+        for words in ("PUSC downlink", "PUSC uplink", "optional FUSC", "AMC", "256 512 1024 2048", "0..2351"):
+            self.assertIn(words, text)
+
+    def test_help_of_each_command(self):
+        for name in COMMANDS.split("|"):
+            done = run(*name.split(), "--help")
+            self.assertEqual((done.stderr, done.returncode), (b"", 0))
+            self.assertTrue(done.stdout.startswith(b"usage: bellpulsar %s" % name.encode()), name)
+            self.assertIn(b"example:\n  ./bellpulsar %s" % name.encode(), done.stdout)
+        for name in ("collisions", "plan", "picture"):
+            self.assertEqual(run(name, "--help").returncode, 0)
+
+    def test_examples_of_the_help(self):
+        """Each example that has its output below it prints that."""
+        tried = 0
+        for name in COMMANDS.split("|"):
+            text = run(*name.split(), "--help").stdout.decode().split("example:\n")[1].split("\n\n")[0]
+            line, *output = [part.strip() for part in text.splitlines()]
+            if output:
+                self.prints(line.removeprefix("./bellpulsar "), "".join(part + "\n" for part in output))
+                tried += 1
+        self.assertGreaterEqual(tried, 6)
+
+    def test_not_understood(self):
+        self.not_understood("")
+        self.not_understood("plan")
+        self.not_understood("nothing")
+        self.not_understood("place 2 1024 17 0 0")
+        self.not_understood("place 2 1024 17 0 0 0 0")
+        self.not_understood("locate 2 1024 17 0 0 --index 3")
+        self.not_understood("collisions 48 176")
+        self.not_understood("plan read")
+        self.not_understood("plan read 01 --file x")
+        self.not_understood("plan write")
+        self.not_understood("picture subchannel 0 2048 0 1")
+
+    def test_what_is_no_number(self):
+        for word in ("x", "1.0", "0x10", "1_000", "''", "'1 2'", "+1", "--1", "-", "1e3", "\u0663", "12\\\n3x"):
+            self.not_understood("place 2 1024 17 0 0 %s" % word)
+        for word in ("1,2", "1,2,3,4", "1,2,x", "2;3;4", "1,,2"):
+            self.not_understood("plan write 1024 %s" % word)
+        for word in ("8", "0g", "0x01", "-1", "1 2"):
+            self.not_understood("plan read 01 '%s'" % word)
+
+
+class Failures(Case):
+    def test_input_that_cannot_be_read(self):
+        self.fails("bellpulsar: /none/plan: No such file or directory\n", "plan", "read", "--file", "/none/plan")
+        self.fails("bellpulsar: /: Is a directory\n", "plan", "read", "--file", "/")
+
+    def test_output_that_cannot_be_written(self):
+        arguments = ("picture", "slot", 2, 256, 0, 0, "--output")
+        self.fails("bellpulsar: /none/slot.svg: No such file or directory\n", *arguments, "/none/slot.svg")
+        self.fails("bellpulsar: No space left on device\n", *arguments, "/dev/full")
+
+    def test_standard_output_that_is_full_or_closed(self):
+        for target, message in (("/dev/full", "No space left on device"), ("&-", "standard output is closed")):
+            for words in ("place 2 1024 17 0 0 0", "picture slot 2 256 0 0"):
+                line = "'%s' %s >%s" % (COMMAND, words, target)
+                done = run_shell(line)
+                self.assertEqual((done.stderr.decode(), done.returncode), ("bellpulsar: %s\n" % message, 2))
+
+    def test_closed_pipe(self):
+        for words in ("show 0 2048 0 0", "picture slot 0 2048 5 3", "place 2 1024 17 0 0 0"):
+            for reader in ("head -1", "true", "sleep 0"):
+                line = "'%s' %s | %s" % (COMMAND, words, reader)
+                done = run_shell(line)
+                self.assertEqual((done.stderr, done.returncode), (b"", 0), line)
+
+    def test_no_library(self):
+        done = run("place", 2, 1024, 17, 0, 0, 0, env=dict(ENV, BELLPULSAR_LIBRARY="/none"))
+        self.assertEqual((done.stdout, done.returncode), (b"", 2))
+        self.assertRegex(done.stderr.decode(), r"^bellpulsar: no Bellpulsar library at /none: run ./build.sh.*\n$")
+
+    def run_with_builder(self, script):
+        """In a tree of its own, where build.sh is the script."""
+        with tempfile.TemporaryDirectory() as tree:
+            shutil.copy(COMMAND, tree)
+            shutil.copytree(os.path.join(ROOT, "python"), os.path.join(tree, "python"))
+            builder = os.path.join(tree, "build.sh")
+            with open(builder, "w") as file:
+                file.write("#!/bin/sh\n" + script)
+            os.chmod(builder, 0o755)
+            command = [os.path.join(tree, "bellpulsar"), "place", "2", "1024", "17", "0", "0", "0"]
+            done = subprocess.run(command, capture_output=True, text=True, timeout=60, env=ENV)
+            return done.stdout, done.stderr, done.returncode
+
+    def test_the_library_is_built_on_first_use(self):
+        library = os.path.join(ROOT, "target", "lib", "libbellpulsar.so")
+        script = 'cd "$(dirname "$0")" && mkdir -p target/lib && cp %s target/lib; echo made; echo told >&2\n' % library
+        self.assertEqual(self.run_with_builder(script), ("symbol 0 carrier 87\n", "made\ntold\n", 0))
+
+    def test_a_build_that_fails(self):
+        message = "why\nbellpulsar: the engine could not be built\n"
+        self.assertEqual(self.run_with_builder("echo why >&2; exit 3\n"), ("", message, 2))
+
+    def test_help_needs_no_library(self):
+        env = dict(ENV, BELLPULSAR_LIBRARY="/none")
+        self.assertEqual(run("--help", env=env).returncode, 0)
+
+    def test_from_anywhere(self):
+        self.prints("place 2 1024 17 0 0 0", "symbol 0 carrier 87\n", cwd="/")
+        with tempfile.TemporaryDirectory() as directory:
+            link = os.path.join(directory, "map")
+            os.symlink(COMMAND, link)
+            done = subprocess.run([link, "collisions", "amc", "48", "176"], capture_output=True, timeout=60, env=ENV)
+            self.assertEqual(done.stdout, b"count 3 indices 8 24 32\n")
+
+
+if __name__ == "__main__":
+    subprocess.run([os.path.join(ROOT, "build.sh")], check=True)
+    unittest.main()

@@ -1,0 +1,733 @@
+#!/usr/bin/env python3
+"""Holds the Python module to the reference and to its own rules.
+
+    ./build.sh && python3 tests/test_python.py
+
+Standard library only; what concerns numpy is tried where numpy is installed.
+"""
+
+import ctypes
+import doctest
+import itertools
+import os
+import pickle
+import random
+import subprocess
+import sys
+import tracemalloc
+import unittest
+from array import array
+
+import reference as ref
+
+ROOT = os.path.dirname(os.path.dirname(os.path.abspath(__file__)))
+sys.path.insert(0, os.path.join(ROOT, "python"))
+
+import bellpulsar as bp  # noqa: E402
+from bellpulsar import Kind  # noqa: E402
+
+try:
+    import numpy
+except ImportError:
+    numpy = None
+
+SETUPS = [(mode, size) for mode in range(4) for size in ref.sizes(mode)]
+MOST = 2**32 - 1
+HUGE = 10**40
+# Integers that no field takes.
+NEVER = [-1, -HUGE, MOST, 2**32, 2**64, HUGE]
+
+
+def as_engine(value):
+    """As an integer reaches the engine."""
+    return value if 0 <= value <= MOST else MOST
+
+
+def refusal(call, *fields):
+    """The number, or 0."""
+    try:
+        call(*fields)
+    except bp.Refusal as refused:
+        return refused.number
+    return 0
+
+
+def some_cells(mode, size, seed, more=3):
+    last = ref.cells(mode, size) - 1
+    return sorted({0, 1, last, *random.Random(seed).sample(range(last + 1), more)})
+
+
+def floats(count, value=7.0):
+    return array("f", [value]) * count
+
+
+def points_for(mode, size):
+    """Points that all differ."""
+    return array("f", range(96 * ref.subchannels(mode, size)))
+
+
+def grid_for(mode, size):
+    return floats(ref.grid_floats(mode, size))
+
+
+def bits(buffer):
+    """A float buffer's bit patterns."""
+    return memoryview(buffer).cast("B").cast("I").tolist()
+
+
+# --- the map ----------------------------------------------------------------------------------
+
+
+def as_located(what):
+    """The reference's answer as the module gives it."""
+    kind = {ref.GUARD: Kind.GUARD, ref.DC: Kind.DC, ref.PILOT: Kind.PILOT, ref.DATA: Kind.DATA}[what[0]]
+    return bp.Located(kind, *what[1:])
+
+
+class Map(unittest.TestCase):
+    def test_every_point_of_some_slots(self):
+        for mode, size in SETUPS:
+            for cell, slot in zip(some_cells(mode, size, 1), (0, 1, 2, 511, 100, 77)):
+                for subchannel in range(ref.subchannels(mode, size)):
+                    for index in range(48):
+                        fields = (mode, size, cell, slot, subchannel, index)
+                        self.assertEqual((0, *bp.place(*fields)), ref.place(*fields), fields)
+
+    def test_every_carrier_of_some_symbols(self):
+        for mode, size in SETUPS:
+            length = ref.SLOT_LENGTH[mode]
+            for cell, slot in zip(some_cells(mode, size, 2), (0, 511, 1, 2, 300, 5)):
+                for symbol in range(slot * length, (slot + 1) * length):
+                    for carrier in range(size):
+                        fields = (mode, size, cell, symbol, carrier)
+                        self.assertEqual(bp.locate(*fields), as_located(ref.locate(*fields)[1]), fields)
+
+    def test_known_points(self):
+        self.assertEqual(bp.place(2, 1024, 0, 0, 3, 5), (0, 553))
+        self.assertEqual(bp.place(2, 1024, 0, 1, 3, 5), (1, 552))
+        self.assertEqual(bp.place(0, 2048, 0, 0, 1, 35), bp.Place(symbol=1, carrier=1861))
+        self.assertEqual(bp.locate(0, 2048, 5, 1, 184), bp.Located(Kind.PILOT, None, None, None))
+        self.assertEqual(bp.locate(0, 2048, 5, 0, 183).kind, Kind.GUARD)
+        self.assertEqual(bp.locate(0, 2048, 5, 0, 1024).kind, Kind.DC)
+        self.assertEqual(bp.locate(1, 2048, 0, 1, 377), (Kind.DATA, 0, 1, 0))
+
+    def test_answers_are_plain_numbers(self):
+        for value in (*bp.place(2, 1024, 17, 0, 0, 0), *bp.locate(2, 1024, 17, 0, 87)[1:]):
+            self.assertIs(type(value), int)
+
+
+# --- collisions -------------------------------------------------------------------------------
+
+
+class Collisions(unittest.TestCase):
+    def test_optional_fusc_as_the_reference(self):
+        rng = random.Random(3)
+        for size in ref.BIN_SIZES:
+            cells, n = ref.cells(2, size), ref.n_of(size)
+            for _ in range(12):
+                fields = (size, rng.randrange(cells), rng.randrange(n), rng.randrange(cells), rng.randrange(n))
+                number, hits, count = ref.ofusc_collisions(*fields)
+                self.assertEqual((number, 0), (0, refusal(bp.ofusc_collisions, *fields)))
+                self.assertEqual(bp.ofusc_collisions(*fields), (tuple(hits), count), fields)
+
+    def test_amc_as_the_reference(self):
+        rng = random.Random(4)
+        for _ in range(300):
+            cells = (rng.randrange(2352), rng.randrange(2352))
+            _, hits, count = ref.amc_collisions(*cells)
+            self.assertEqual(bp.amc_collisions(*cells), (tuple(hits), count), cells)
+
+    def test_known_points(self):
+        answer = bp.ofusc_collisions(2048, 0, 2, 1010, 0)
+        self.assertEqual([k for k, hit in enumerate(answer.hits) if hit], [0, 1, 31, 32])
+        self.assertEqual(answer.count, 4)
+        self.assertEqual(bp.ofusc_collisions(1024, 0, 6, 17, 0).count, 7)
+        answer = bp.amc_collisions(48, 176)
+        self.assertEqual([j for j, hit in enumerate(answer.hits) if hit], [8, 24, 32])
+        self.assertEqual({type(hit) for hit in answer.hits}, {bool})
+
+
+# --- refusals ---------------------------------------------------------------------------------
+#
+# A call is tried with each field in range or not, in every combination; the number comes from the reference. Where a
+# field is a length, the call is made with buffers of that length.
+
+
+def fill_with(mode, size, cell, slot, points_len, grid_len):
+    bp.fill(mode, size, cell, slot, (1.0, 0.0), floats(points_len), floats(grid_len))
+
+
+def empty_with(mode, size, cell, slot, points_len, grid_len):
+    bp.empty(mode, size, cell, slot, floats(grid_len), floats(points_len))
+
+
+def look_with(mode, size, cell, symbol, grid_len, carrier):
+    bp.look(mode, size, cell, symbol, floats(grid_len), carrier)
+
+
+def calls_of(mode, size):
+    """(call, its refusal in the reference, the last field values in range, a value out of range for each)."""
+    cells, subs = ref.cells(mode, size), ref.subchannels(mode, size)
+    symbols = 512 * ref.SLOT_LENGTH[mode]
+    points, grid = 96 * subs, ref.grid_floats(mode, size)
+    setup, past = (mode, size, cells - 1), (4, size + 1, cells)
+    yield bp.place, ref.place_refusal, (*setup, 511, subs - 1, 47), (*past, 512, subs, 48)
+    yield bp.locate, ref.locate_refusal, (*setup, symbols - 1, size - 1), (*past, symbols, size)
+    yield fill_with, ref.buffers_refusal, (*setup, 511, points, grid), (*past, 512, points + 1, grid + 1)
+    yield empty_with, ref.buffers_refusal, (*setup, 511, points, grid), (*past, 512, points - 1, grid - 1)
+    yield look_with, ref.look_refusal, (*setup, symbols - 1, grid, size - 1), (*past, symbols, grid + 2, size)
+    if mode == ref.OFUSC:
+        yield (
+            bp.ofusc_collisions,
+            ref.ofusc_collisions_refusal,
+            (size, cells - 1, subs - 1, cells - 1, subs - 1),
+            (size + 1, cells, subs, cells, subs),
+        )
+
+
+def amc_refusal(cell_a, cell_b):
+    return ref.amc_collisions(cell_a, cell_b)[0]
+
+
+AMC_COLLISIONS = (bp.amc_collisions, amc_refusal, (2351, 2351), (2352, 2352))
+LENGTHS = {fill_with: (4, 5), empty_with: (4, 5), look_with: (4,)}
+
+
+def all_calls():
+    for mode, size in SETUPS:
+        yield from calls_of(mode, size)
+    yield AMC_COLLISIONS
+
+
+class Refusals(unittest.TestCase):
+    def test_fields_in_range_are_taken(self):
+        for call, expected, good, _ in all_calls():
+            self.assertEqual((expected(*good), refusal(call, *good)), (0, 0), (call, good))
+
+    def test_each_integer_field_out_of_range(self):
+        for call, expected, good, past in all_calls():
+            for at in range(len(good)):
+                if at in LENGTHS.get(call, ()):
+                    continue
+                for value in NEVER + [past[at]]:
+                    fields = good[:at] + (value,) + good[at + 1 :]
+                    number = expected(*map(as_engine, fields))
+                    self.assertNotEqual(number, 0)
+                    self.assertEqual(refusal(call, *fields), number, (call, fields))
+
+    def test_the_first_question_that_fails(self):
+        for call, expected, good, past in all_calls():
+            for never in (-1, None):
+                for bad in itertools.product((False, True), repeat=len(good)):
+                    lengths = LENGTHS.get(call, ())
+                    fields = [
+                        good[at] if not bad[at] else past[at] if never is None or at in lengths else never
+                        for at in range(len(good))
+                    ]
+                    number = expected(*map(as_engine, fields))
+                    self.assertEqual(refusal(call, *fields), number, (call, fields))
+
+    def test_a_bad_field_comes_before_a_bad_length(self):
+        wrong = floats(1)
+        self.assertEqual(refusal(bp.fill, 2, 1024, 256, 0, (1, 0), wrong, wrong[:0]), 3)
+        self.assertEqual(refusal(bp.fill, 2, 1024, -1, 512, (1, 0), wrong, wrong[:0]), 3)
+        self.assertEqual(refusal(bp.fill, 2, 1024, 255, 512, (1, 0), wrong, wrong[:0]), 4)
+        self.assertEqual(refusal(bp.fill, 2, 1024, 255, 511, (1, 0), wrong, wrong[:0]), 8)
+        self.assertEqual(refusal(bp.fill, 2, 1024, 255, 511, (1, 0), floats(1536), wrong[:0]), 9)
+        self.assertEqual(refusal(bp.look, 2, 1024, 255, 0, wrong, 1024), 7)
+        self.assertEqual(refusal(bp.look, 2, 1024, 255, 0, wrong, 1023), 9)
+
+    def test_what_is_no_integer(self):
+        for value in (1.0, "1", None, b"1", 2 + 0j):
+            for call, _, good, _ in calls_of(2, 256):
+                for at in range(len(good)):
+                    if at not in LENGTHS.get(call, ()):
+                        with self.assertRaises(TypeError):
+                            call(*good[:at], value, *good[at + 1 :])
+            with self.assertRaises(TypeError):
+                bp.amc_collisions(value, 0)
+            for fields in ((value, 1024), (1, value)):
+                with self.assertRaises(TypeError):
+                    bp.plan_write(*fields, [(0, 0, 0)] * 8, bytearray(9))
+            with self.assertRaises(TypeError):
+                bp.plan_bytes(1024, [(2, 0, value)])
+
+    def test_whatever_counts_as_an_integer_is_one(self):
+        class Index:
+            def __index__(self):
+                return 2
+
+        self.assertEqual(bp.place(Index(), 1024, 17, False, False, False), (0, 87))
+        self.assertEqual(bp.place(True, 2048, False, False, True, False), (1, 377))
+
+    def test_number_question_and_text(self):
+        with self.assertRaises(bp.Refusal) as caught:
+            bp.place(2, 1024, 256, 0, 0, 0)
+        refused = caught.exception
+        self.assertEqual((refused.number, refused.question), (3, "Is the cell in range?"))
+        self.assertEqual(str(refused), "refused 3: Is the cell in range?")
+        self.assertEqual(str(pickle.loads(pickle.dumps(refused))), str(refused))
+        self.assertFalse(isinstance(refused, (TypeError, ValueError, BufferError)))
+
+    def test_sixteen_questions(self):
+        self.assertEqual(sorted(bp.QUESTIONS), list(range(1, 17)))
+        self.assertEqual(len(set(bp.QUESTIONS.values())), 16)
+        self.assertTrue(all(text[0].isupper() and text.endswith("?") for text in bp.QUESTIONS.values()))
+
+    def test_every_number_comes_back(self):
+        def read(text):
+            return refusal(bp.plan_read, bytes.fromhex(text))
+
+        numbers = [
+            refusal(bp.place, 4, 1024, 0, 0, 0, 0),
+            refusal(bp.place, 2, 128, 0, 0, 0, 0),
+            refusal(bp.place, 2, 1024, 256, 0, 0, 0),
+            refusal(bp.place, 2, 1024, 0, 512, 0, 0),
+            refusal(bp.place, 2, 1024, 0, 0, 16, 0),
+            refusal(bp.place, 2, 1024, 0, 0, 0, 48),
+            refusal(bp.locate, 2, 1024, 0, 0, 1024),
+            refusal(bp.fill, 2, 1024, 0, 0, (0, 0), floats(0), floats(0)),
+            refusal(bp.look, 2, 1024, 0, 0, floats(0), 0),
+            read(""),
+            read("8100"),
+            read("00"),
+            read("018008020000"),
+            read("01801002000C"),
+            read("02800802110303B0010100"),
+            refusal(bp.plan_write, 1, 1024, [(2, 0, 1)] + [(0, 0, 0)] * 7, bytearray(5)),
+        ]
+        self.assertEqual(numbers, list(range(1, 17)))
+
+
+# --- grids ------------------------------------------------------------------------------------
+
+
+def random_bits(rng, count):
+    """Bit patterns of floats: any, among them NaNs with payloads, quiet and signalling, and both zeros."""
+    odd = (0x7FC12345, 0x7F812345, 0xFFC00001, 0xFF800001, 0x7F800000, 0x80000000, 0, 1)
+    return array("I", [rng.choice(odd) if rng.random() < 0.3 else rng.getrandbits(32) for _ in range(count)])
+
+
+def as_floats(patterns):
+    return memoryview(patterns).cast("B").cast("f")
+
+
+class Grids(unittest.TestCase):
+    def test_bits_as_the_reference_and_back(self):
+        rng = random.Random(5)
+        for mode, size in SETUPS:
+            for cell, slot in zip(some_cells(mode, size, 6, more=1), (0, 1, 511)):
+                points = random_bits(rng, 96 * ref.subchannels(mode, size))
+                pilot = random_bits(rng, 2)
+                grid = random_bits(rng, ref.grid_floats(mode, size))
+                after = ref.fill(mode, size, cell, slot, pilot.tolist(), points.tolist(), grid.tolist())
+                before = points[:], pilot[:]
+                bp.fill(mode, size, cell, slot, as_floats(pilot), as_floats(points), as_floats(grid))
+                self.assertEqual((0, grid.tolist()), after)
+                self.assertEqual((points, pilot), before)
+                again = random_bits(rng, len(points))
+                bp.empty(mode, size, cell, slot, as_floats(grid), as_floats(again))
+                self.assertEqual((again, (0, grid.tolist())), (points, after))
+
+    def test_look_as_the_reference(self):
+        rng = random.Random(7)
+        kinds = {"nothing": Kind.NOTHING, ref.PILOT: Kind.PILOT, ref.DATA: Kind.DATA}
+        for mode, size in SETUPS:
+            grid = array("f", [rng.randrange(-1000, 1000) / 8 for _ in range(ref.grid_floats(mode, size))])
+            cell, length = ref.cells(mode, size) - 1, ref.SLOT_LENGTH[mode]
+            for symbol in range(5 * length, 6 * length):
+                for carrier in range(size):
+                    what = ref.look(mode, size, cell, symbol, grid, carrier)[1]
+                    wanted = (kinds[what[0]], *(tuple(part) if isinstance(part, list) else part for part in what[1:]))
+                    seen = bp.look(mode, size, cell, symbol, grid, carrier)
+                    self.assertEqual(seen, wanted + (None,) * (5 - len(wanted)))
+
+    def test_look_keeps_a_quiet_nan(self):
+        patterns = array("I", [0xFFC12345, 0x7FC00007]) * 1024
+        point = bp.look(2, 1024, 17, 0, as_floats(patterns), 87).point
+        self.assertEqual(bits(array("f", point)), [0xFFC12345, 0x7FC00007])
+
+    def test_pilot_as_numbers_or_as_a_buffer(self):
+        points = points_for(2, 256)
+        pilots = [(0.5, -2), [0.5, -2.0], array("f", [0.5, -2]), (ctypes.c_float * 2)(0.5, -2)]
+        pilots += [memoryview(array("f", [0.5, -2])), memoryview(array("f", [9, 0.5, -2]))[1:]]
+        for pilot in pilots:
+            grid = grid_for(2, 256)
+            bp.fill(2, 256, 0, 0, pilot, points, grid)
+            self.assertEqual(bp.look(2, 256, 0, 0, grid, 21), (Kind.PILOT, (0.5, -2.0), None, None, None))
+
+    def test_pilot_may_stand_in_the_points_or_the_grid(self):
+        points, grid = points_for(2, 256), grid_for(2, 256)
+        bp.fill(2, 256, 0, 0, memoryview(points)[4:6], points, grid)
+        self.assertEqual(bp.look(2, 256, 0, 0, grid, 21).point, (4.0, 5.0))
+        grid = floats(512, 3.0)
+        bp.fill(2, 256, 0, 0, memoryview(grid)[:2], points, grid)
+        self.assertEqual(bp.look(2, 256, 0, 0, grid, 21).point, (3.0, 3.0))
+        self.assertEqual(grid[0], 0.0)
+
+
+class Lending(unittest.TestCase):
+    """The engine works on the memory that is lent, and on no more of it."""
+
+    def test_a_part_of_a_larger_buffer(self):
+        for mode, size in SETUPS:
+            points, length = points_for(mode, size), ref.grid_floats(mode, size)
+            plain = floats(length)
+            bp.fill(mode, size, 1, 3, (1, 2), points, plain)
+            large = floats(length + 12, 5.0)
+            bp.fill(mode, size, 1, 3, (1, 2), points, memoryview(large)[5 : 5 + length])
+            self.assertEqual(large, floats(5, 5.0) + plain + floats(7, 5.0))
+            taken = floats(len(points) + 9, 6.0)
+            bp.empty(mode, size, 1, 3, memoryview(large)[5 : 5 + length], memoryview(taken)[2:-7])
+            self.assertEqual(taken, floats(2, 6.0) + points + floats(7, 6.0))
+
+    def test_every_kind_of_buffer(self):
+        points, plain = points_for(3, 512), grid_for(3, 512)
+        bp.fill(3, 512, 100, 1, (1, 2), points, plain)
+        sources = [
+            memoryview(points),
+            memoryview(points).toreadonly(),
+            memoryview(points.tobytes()).cast("f"),
+            memoryview(bytearray(points.tobytes())).cast("f"),
+            memoryview(points.tobytes()).cast("f", shape=[8, 48, 2]),
+            (ctypes.c_float * len(points))(*points),
+            ((ctypes.c_float * 96) * 8).from_buffer_copy(points),
+        ]
+        grids = [
+            memoryview(floats(1024)),
+            memoryview(bytearray(4096)).cast("f"),
+            memoryview(bytearray(4096)).cast("f", shape=[512, 2]),
+            (ctypes.c_float * 1024)(),
+            ((ctypes.c_float * 2) * 512)(),
+        ]
+        for source, grid in itertools.product(sources, grids):
+            bp.fill(3, 512, 100, 1, (1, 2), source, grid)
+            self.assertEqual(memoryview(grid).tobytes(), plain.tobytes())
+            again = floats(len(points))
+            bp.empty(3, 512, 100, 1, memoryview(grid).toreadonly(), again)
+            self.assertEqual(again, points)
+
+    def test_nothing_is_copied(self):
+        points, grid = points_for(1, 2048), grid_for(1, 2048)
+        source = memoryview(points.tobytes()).cast("f")
+        bp.fill(1, 2048, 0, 0, (1, 2), source, grid)
+        tracemalloc.start()
+        bp.fill(1, 2048, 0, 0, (1, 2), source, grid)
+        bp.empty(1, 2048, 0, 0, grid, points)
+        bp.look(1, 2048, 0, 0, grid, 500)
+        peak = tracemalloc.get_traced_memory()[1]
+        tracemalloc.stop()
+        self.assertLess(peak, 8192)
+
+    def test_buffers_are_given_back(self):
+        """An array that is still lent cannot grow."""
+        points, grid = points_for(2, 256), grid_for(2, 256)
+        dest, pilot = bytearray(9), array("f", [1, 2])
+        for cell in (0, 16):
+            refusal(bp.fill, 2, 256, cell, 0, pilot, points, grid)
+            refusal(bp.empty, 2, 256, cell, 0, grid, points)
+            refusal(bp.look, 2, 256, cell, 0, grid, 0)
+            refusal(bp.plan_bytes, 256, [(2, cell, 1)])
+            refusal(bp.plan_write, 1, 256, [(2, cell, 1)] + [(0, 0, 0)] * 7, dest)
+            refusal(bp.plan_read, dest)
+        self.assertRaises(ValueError, bp.fill, 2, 256, 0, 0, floats(3), points, grid)
+        self.assertRaises(ValueError, bp.fill, 2, 256, 0, 0, pilot, grid, grid)
+        self.assertRaises(TypeError, bp.fill, 2, 256, 0, 0, pilot, points, dest)
+        for buffer in (points, grid, dest, pilot):
+            buffer.append(0)
+
+    def test_empty_buffers(self):
+        for none in (array("f"), memoryview(bytearray()).cast("f"), (ctypes.c_float * 0)()):
+            self.assertEqual(refusal(bp.fill, 2, 256, 0, 0, (1, 2), none, none), 8)
+            self.assertEqual(refusal(bp.fill, 2, 256, 0, 0, (1, 2), points_for(2, 256), none), 9)
+            self.assertEqual(refusal(bp.empty, 2, 256, 0, 0, none, none), 8)
+            self.assertEqual(refusal(bp.look, 2, 256, 0, 0, none, 0), 9)
+
+    def test_refused_calls_write_nothing(self):
+        for mode, size in SETUPS:
+            points, grid = points_for(mode, size), grid_for(mode, size)
+            short = points[:-1], grid[:-1]
+            bads = [(9, size, 0, 0), (mode, 3, 0, 0), (mode, size, 4000, 0), (mode, size, 0, 512), (mode, size, 0, -1)]
+            for fields in bads:
+                self.assertTrue(refusal(bp.fill, *fields, (1, 2), points, grid))
+                self.assertTrue(refusal(bp.empty, *fields, grid, points))
+            self.assertEqual(refusal(bp.fill, mode, size, 0, 0, (1, 2), short[0], grid), 8)
+            self.assertEqual(refusal(bp.fill, mode, size, 0, 0, (1, 2), points, short[1]), 9)
+            self.assertEqual(refusal(bp.empty, mode, size, 0, 0, grid, short[0]), 8)
+            self.assertEqual(refusal(bp.empty, mode, size, 0, 0, short[1], points), 9)
+            self.assertEqual((points, grid), (points_for(mode, size), grid_for(mode, size)))
+            self.assertEqual(short, (points[:-1], grid[:-1]))
+
+
+class NoRefusal(unittest.TestCase):
+    """What the engine cannot see is an error of Python's own, and nothing is written."""
+
+    def setUp(self):
+        self.points, self.grid = points_for(2, 256), grid_for(2, 256)
+
+    def fails(self, error, call, *fields):
+        with self.assertRaises(error) as caught:
+            call(*fields)
+        self.assertNotIsInstance(caught.exception, bp.Refusal)
+        self.assertRegex(str(caught.exception), "^(points|grid|pilot|zones|dest|data)( and grid|:)")
+        self.assertEqual((self.points, self.grid), (points_for(2, 256), grid_for(2, 256)))
+
+    def fails_everywhere(self, error, points, grid):
+        """Of the two buffers one is bad; the other is good."""
+        self.fails(error, bp.fill, 2, 256, 0, 0, (1, 2), points, grid)
+        self.fails(error, bp.empty, 2, 256, 0, 0, grid, points)
+        if grid is not self.grid:
+            self.fails(error, bp.look, 2, 256, 0, 0, grid, 0)
+
+    def test_elements_that_are_no_32_bit_floats(self):
+        for kind in "dbBhHiIlLqQ":
+            self.fails_everywhere(TypeError, array(kind, [0]) * 384, self.grid)
+            self.fails_everywhere(TypeError, self.points, array(kind, [0]) * 512)
+        for size in (384, 4 * 384):
+            self.fails_everywhere(TypeError, bytearray(size), self.grid)
+        other = ctypes.c_float.__ctype_be__ if sys.byteorder == "little" else ctypes.c_float.__ctype_le__
+        self.fails_everywhere(TypeError, self.points, (other * 512)())
+        self.fails_everywhere(TypeError, (ctypes.c_double * 384)(), self.grid)
+
+    def test_what_is_no_buffer(self):
+        for what in ([0.0] * 384, (0.0,) * 384, None, 5, "text", iter(())):
+            self.fails_everywhere(TypeError, what, self.grid)
+            self.fails_everywhere(TypeError, self.points, what)
+
+    def test_not_contiguous(self):
+        self.fails_everywhere(BufferError, memoryview(floats(768))[::2], self.grid)
+        self.fails_everywhere(BufferError, self.points, memoryview(floats(1024))[::2])
+        self.fails_everywhere(BufferError, self.points, memoryview(floats(512))[::-1])
+
+    def test_read_only_destination(self):
+        self.fails(BufferError, bp.fill, 2, 256, 0, 0, (1, 2), self.points, memoryview(self.grid).toreadonly())
+        self.fails(BufferError, bp.fill, 2, 256, 0, 0, (1, 2), self.points, memoryview(bytes(2048)).cast("f"))
+        self.fails(BufferError, bp.empty, 2, 256, 0, 0, self.grid, memoryview(self.points).toreadonly())
+        kept = bytes(64)
+        self.fails(BufferError, bp.plan_write, 1, 1024, [(2, 0, 1)] + [(0, 0, 0)] * 7, kept)
+        self.assertEqual(kept, bytes(64))
+
+    def test_not_aligned(self):
+        for shift in (1, 2, 3):
+            odd = memoryview(bytearray(2048 + shift))[shift:].cast("f")
+            self.fails_everywhere(ValueError, odd[:384], self.grid)
+            self.fails_everywhere(ValueError, self.points, odd)
+            self.assertEqual(odd.tobytes(), bytes(2048))
+
+    def test_pilot(self):
+        for pilot in ((), (1,), (1, 2, 3), [1.0] * 3, floats(0), floats(1), floats(3), (ctypes.c_float * 4)()):
+            self.fails(ValueError, bp.fill, 2, 256, 0, 0, pilot, self.points, self.grid)
+        for pilot in (1.0, 1 + 2j, None, "12", array("d", [1, 2]), bytes(8), iter((1, 2))):
+            self.fails(TypeError, bp.fill, 2, 256, 0, 0, pilot, self.points, self.grid)
+        self.assertRaises(TypeError, bp.fill, 2, 256, 0, 0, ("1", "2"), self.points, self.grid)
+        self.fails(BufferError, bp.fill, 2, 256, 0, 0, memoryview(floats(4))[::2], self.points, self.grid)
+
+    def test_points_and_grid_overlap(self):
+        for at in (0, 1, 128, 383, 511):
+            memory = floats(1024)
+            points, grid = memoryview(memory)[at : at + 384], memoryview(memory)[:512]
+            self.fails(ValueError, bp.fill, 2, 256, 0, 0, (1, 2), points, grid)
+            self.fails(ValueError, bp.empty, 2, 256, 0, 0, grid, points)
+            grid = memoryview(memory)[at + 383 : at + 383 + 512]
+            self.fails(ValueError, bp.fill, 2, 256, 0, 0, (1, 2), points, grid)
+            self.fails(ValueError, bp.empty, 2, 256, 0, 0, grid, points)
+            self.assertEqual(memory, floats(1024))
+
+    def test_neighbours_do_not_overlap(self):
+        memory = floats(384 + 512)
+        view = memoryview(memory)
+        bp.fill(2, 256, 0, 0, (1, 2), view[:384], view[384:])
+        self.assertEqual(memory[:384], floats(384))
+        bp.empty(2, 256, 0, 0, view[:512], view[512:])
+        self.assertEqual(refusal(bp.fill, 2, 256, 0, 0, (1, 2), view[5:5], view[:512]), 8)
+        self.assertEqual(refusal(bp.empty, 2, 256, 0, 0, view[5:5], view[:384]), 9)
+
+    def test_they_come_before_every_question(self):
+        self.fails(TypeError, bp.fill, 9, 256, 0, 0, (1, 2), array("d"), self.grid)
+        self.fails(ValueError, bp.fill, 9, 256, 0, 0, (1,), self.points, self.grid)
+        self.fails(ValueError, bp.empty, 9, 256, 0, 0, self.grid, self.grid)
+
+    def test_zones_that_are_not_eight_by_three(self):
+        zone, unused = (2, 0, 1), (0, 0, 0)
+        for zones in ([], [zone] * 7, [zone] * 9, [zone] * 7 + [(0, 0)], [zone] * 7 + [(0,) * 4]):
+            dest = bytearray(b"\x55" * 80)
+            self.fails(ValueError, bp.plan_write, 1, 1024, zones, dest)
+            self.assertEqual(dest, b"\x55" * 80)
+        self.assertRaises(TypeError, bp.plan_write, 1, 1024, [0] * 24, bytearray(80))
+        self.fails(TypeError, bp.plan_write, 1, 1024, [zone] + [unused] * 7, array("f", [0] * 9))
+        self.fails(TypeError, bp.plan_read, "0280")
+        self.fails(TypeError, bp.plan_read, array("H", [1, 2]))
+        self.fails(BufferError, bp.plan_read, memoryview(bytes(8))[::2])
+
+
+# --- plans ------------------------------------------------------------------------------------
+
+EXAMPLE = bytes.fromhex("02800802110303B00101")
+LARGEST = bytes([8, 0x80, 0x10, 0, 0, 1]) + bytes([2, 0xFF, 7, 0x80, 4]) * 7
+UNUSED = (0, 0, 0)
+
+
+def random_plan(rng):
+    """A plan that is nearly in order."""
+    size = rng.choice(ref.BIN_SIZES + [128])
+    zones = []
+    for _ in range(rng.choice([1, 2, 3, 8])):
+        mode = rng.choice([0, 2, 3, 3, 1] if rng.random() < 0.2 else [0] if not zones and size == 2048 else [2, 3])
+        cell = 0 if size == 2048 and not zones else rng.choice([0, 15, 16, 255, 1023, 2351, 2352, MOST])
+        zones.append((mode, cell, rng.choice([1, 3, 512, 1, 3, 512, 0, 513])))
+    return size, zones
+
+
+def read_as_reference(data):
+    number, count, size, zones = ref.read_plan(list(data))
+    return number or (size, tuple(zones[:count]))
+
+
+def read_as_module(data):
+    try:
+        return bp.plan_read(data)
+    except bp.Refusal as refused:
+        return refused.number
+
+
+class Plans(unittest.TestCase):
+    def test_known_plans(self):
+        plan = bp.plan_read(EXAMPLE)
+        self.assertEqual(plan, bp.Plan(1024, (bp.Zone(2, 17, 3), bp.Zone(3, 176, 1))))
+        self.assertEqual((plan.size, plan.zones[1].cell), (1024, 176))
+        self.assertEqual(bp.plan_read(bytes.fromhex("01801000000C")), (2048, ((0, 0, 12),)))
+        self.assertEqual(refusal(bp.plan_read, bytes.fromhex("01801002000C")), 14)
+
+    def test_every_kind_of_bytes(self):
+        wanted = bp.plan_read(EXAMPLE)
+        for data in (bytearray(EXAMPLE), memoryview(b"?" + EXAMPLE)[1:], array("B", EXAMPLE), array("b", [1])[:0]):
+            self.assertEqual(read_as_module(data), wanted if len(data) else 10)
+        self.assertEqual(bp.plan_read(ctypes.create_string_buffer(EXAMPLE, len(EXAMPLE))), wanted)
+        self.assertEqual(bp.plan_read((ctypes.c_uint8 * len(EXAMPLE))(*EXAMPLE)), wanted)
+
+    def test_reading_as_the_reference(self):
+        rng = random.Random(8)
+        for _ in range(4000):
+            data = bytearray(rng.choice([EXAMPLE, LARGEST, bytes.fromhex("01801000000C")]))
+            for _ in range(rng.randrange(3)):
+                data[rng.randrange(len(data))] = rng.choice([0, 1, 2, 3, 8, 0x80, 0x81, rng.randrange(256)])
+            data = data[: rng.randrange(len(data) + 1)] if rng.random() < 0.2 else data
+            self.assertEqual(read_as_module(data), read_as_reference(data), data.hex())
+
+    def test_writing_as_the_reference(self):
+        rng, met = random.Random(9), set()
+        for _ in range(4000):
+            size, zones = random_plan(rng)
+            count = len(zones) if rng.random() < 0.9 else rng.choice([0, 9, len(zones) - 1, -1, 2**32, HUGE])
+            places = zones + [UNUSED] * (8 - len(zones))
+            dest = bytearray(rng.randbytes(rng.choice([0, 5, 6, 42, 43, 60])))
+            after = ref.write_plan(as_engine(count), size, places, dest)
+            try:
+                answer = (0, bp.plan_write(count, size, places, dest))
+            except bp.Refusal as refused:
+                answer = (refused.number, 0)
+            self.assertEqual((*answer, list(dest)), after)
+            met.add(answer[0])
+        self.assertEqual(met, {0, 1, 2, 3, 12, 13, 14, 16})
+
+    def test_integers_out_of_range(self):
+        for value in NEVER:
+            for number, at in ((1, 0), (3, 1), (13, 2)):
+                zone = [2, 17, 3]
+                zone[at] = value
+                self.assertEqual(refusal(bp.plan_bytes, 1024, [zone]), number)
+                self.assertEqual(refusal(bp.plan_bytes, 1024, [(2, 17, 3), zone]), number)
+                past = [UNUSED] * 8
+                past[0], past[7] = (2, 17, 3), tuple(value if i == at else 0 for i in range(3))
+                self.assertEqual(refusal(bp.plan_write, 1, 1024, past, bytearray(80)), 12)
+            self.assertEqual(refusal(bp.plan_bytes, value, [(2, 17, 3)]), 2)
+            self.assertEqual(refusal(bp.plan_write, value, value, [(value,) * 3] * 8, bytearray()), 12)
+
+    def test_places_past_the_count(self):
+        for place in range(1, 8):
+            for at in range(3):
+                places = [[0, 0, 0] for _ in range(8)]
+                places[0], places[place][at] = [2, 17, 3], 1
+                self.assertEqual(refusal(bp.plan_write, 1, 1024, places, bytearray(80)), 12)
+
+    def test_destination(self):
+        places = [(2, 17, 3), (3, 176, 1)] + [UNUSED] * 6
+        for length in range(14):
+            dest = bytearray(b"\x55" * (length + 3))
+            number = refusal(bp.plan_write, 2, 1024, places, memoryview(dest)[1 : 1 + length])
+            self.assertEqual(number, 0 if length >= 10 else 16)
+            written = EXAMPLE if length >= 10 else b""
+            self.assertEqual(dest, b"\x55" + written + b"\x55" * (length + 2 - len(written)))
+        self.assertEqual(bp.plan_write(2, 1024, places, bytearray(12)), 10)
+
+    def test_bytes_and_back(self):
+        for data in (EXAMPLE, LARGEST):
+            self.assertEqual(bp.plan_bytes(*bp.plan_read(data)), data)
+        self.assertIs(type(bp.plan_bytes(1024, [(2, 17, 3)])), bytes)
+        self.assertEqual(refusal(bp.plan_bytes, 1024, []), 12)
+        self.assertEqual(refusal(bp.plan_bytes, 1024, [(2, 0, 1)] * 8), 0)
+        self.assertEqual(refusal(bp.plan_bytes, 1024, [(2, 0, 1)] * 9), 12)
+
+
+# --- loading ----------------------------------------------------------------------------------
+
+
+def imported_with(library):
+    env = dict(os.environ, PYTHONPATH=os.path.join(ROOT, "python"), BELLPULSAR_LIBRARY=library)
+    command = [sys.executable, "-c", "import bellpulsar; print(bellpulsar.place(2, 1024, 17, 0, 0, 0))"]
+    return subprocess.run(command, env=env, cwd="/", capture_output=True, text=True, timeout=60)
+
+
+class Loading(unittest.TestCase):
+    def test_the_library_is_found_from_anywhere(self):
+        self.assertEqual(imported_with("").stdout, "Place(symbol=0, carrier=87)\n")
+
+    def test_another_library_by_the_environment(self):
+        built = os.path.join(ROOT, "target", "lib", "libbellpulsar.so")
+        self.assertEqual(imported_with(built).stdout, "Place(symbol=0, carrier=87)\n")
+
+    def test_no_library(self):
+        done = imported_with("/none/libbellpulsar.so")
+        last = done.stderr.splitlines()[-1]
+        self.assertEqual((done.returncode, last.split(":")[0]), (1, "ImportError"))
+        self.assertIn("/none/libbellpulsar.so", last)
+        self.assertIn("run ./build.sh", last)
+
+    def test_something_else_than_the_library(self):
+        for other in (os.path.join(ROOT, "README.md"), "/"):
+            last = imported_with(other).stderr.splitlines()[-1]
+            self.assertTrue(last.startswith("ImportError: %s is not a Bellpulsar library" % other), last)
+
+    def test_the_examples_of_the_module(self):
+        failed, tried = doctest.testmod(bp)
+        self.assertEqual(failed, 0)
+        self.assertGreater(tried, 5)
+
+
+@unittest.skipIf(numpy is None, "numpy is not installed")
+class Numpy(unittest.TestCase):
+    def test_float32_and_complex64(self):
+        points = numpy.arange(96 * 60, dtype=numpy.float32)
+        plain = grid_for(0, 2048)
+        bp.fill(0, 2048, 3, 1, (1, 2), points, plain)
+        for shape in ((8192,), (2, 2048, 2)):
+            grid = numpy.ones(shape, numpy.float32)
+            bp.fill(0, 2048, numpy.int64(3), numpy.uint8(1), (1, 2), points.reshape(60, 48, 2), grid)
+            self.assertEqual(grid.tobytes(), plain.tobytes())
+        grid = numpy.ones((2, 2048), numpy.complex64)
+        bp.fill(0, 2048, 3, 1, numpy.array([1 + 2j], numpy.complex64), points.view(numpy.complex64), grid)
+        self.assertEqual(grid.tobytes(), plain.tobytes())
+        again = numpy.zeros((60, 48), numpy.complex64)
+        bp.empty(0, 2048, 3, 1, grid, again)
+        self.assertEqual(again.tobytes(), points.tobytes())
+
+    def test_what_is_not_taken(self):
+        points = numpy.zeros(96 * 4, numpy.float32)
+        for grid in (numpy.zeros(512), numpy.zeros(256, complex), numpy.zeros(512, ">f4")):
+            self.assertRaises(TypeError, bp.fill, 2, 256, 0, 0, (1, 2), points, grid)
+        for grid in (numpy.zeros(1024, numpy.float32)[::2], numpy.zeros((256, 2), numpy.float32).T):
+            self.assertRaises(BufferError, bp.fill, 2, 256, 0, 0, (1, 2), points, grid)
+
+
+if __name__ == "__main__":
+    unittest.main()
