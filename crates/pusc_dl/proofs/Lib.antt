@@ -1,5 +1,7 @@
--- The law of PUSC downlink, and the facts that it is made of.
+-- The law of PUSC downlink, and the facts that it is made of; and rows of spots from the table of a cell.
 pub mod Tables
 pub mod Cluster
 pub mod Group
 pub mod Law
+pub mod Halves
+pub mod Row

@@ -8,14 +8,18 @@ use carriers::Address;
 use carriers::Spot;
 ghost use mathlib.Core.Path.{_≡_};
 ghost use mathlib.Core.Bool.{false};
-ghost use Prim.Native.Nat.{_+_, _*_, _<_, _≤_};
+ghost use Prim.Native.Nat.{_+_, _*_, _/_, _%_, _<_, _≤_};
 ghost use lib.Dec.{eqb};
 ghost use Rattle.base.specs.Choice.{pick};
 ghost use Rattle.base.specs.Steps.{entry};
+ghost use Rattle.base.specs.Tabulate.{tabulate, Starts};
+ghost use Rattle.carriers.specs.SpotNumber.{spotNumber};
+ghost use Rattle.pusc_dl.specs.Table.{renumberingInverse, base12, base8};
 ghost use Rattle.pusc_dl.specs.Cluster as cluster;
 ghost use Rattle.pusc_dl.specs.Cluster.{firstPilot, secondPilot, isClusterPilot, clusterPlace, clusterData};
 ghost use Rattle.pusc_dl.specs.Group.{groupIn, groupSize, groupData, groupSubchannel, groupIndex};
 ghost use Rattle.pusc_dl.specs.Map.{groupUsed, usedGroup, usedData, spotOf, addressOf};
+ghost use Rattle.pusc_dl.specs.Row.{tableEntry, baseStart, groupSpot};
 
 // A cluster's number in the order of the carriers, and its number after the renumbering. They are never added or compared.
 pub struct Physical(pub usize);
@@ -296,8 +300,16 @@ fn unrenumber(cell: usize, l: Logical) -> Physical
     requires { ⌜ (cell < 32) × (l .0 < 120) ⌝ }
     ensures { λ r. ⌜ (r ≡ cluster.unrenumber cell l) × (r .0 < 120) ⌝ }
 {
+    unrenumber_by(&RENUMBERING_INVERSE, cell, l)
+}
+
+// The same by a copy of the table, which a loop takes once.
+fn unrenumber_by(inverse: &[u8; 120], cell: usize, l: Logical) -> Physical
+    requires { ⌜ (now inverse ≡ renumberingInverse) × (cell < 32) × (l .0 < 120) ⌝ }
+    ensures { λ r. ⌜ (r ≡ cluster.unrenumber cell l) × (r .0 < 120) ⌝ }
+{
     let i = l.0;
-    Physical(unrotate(120, 13 * cell, wide(RENUMBERING_INVERSE[i])))
+    Physical(unrotate(120, 13 * cell, wide(inverse[i])))
 }
 
 // The two pilots of a cluster.
@@ -477,4 +489,113 @@ pub fn address(cell: usize, offset: usize, used: usize) -> Address
         subchannel: SUBCHANNEL_STARTS[g] + a.subchannel,
         index: offset * 24 + a.index,
     }
+}
+
+// An entry of the table of a cell, by copies of the constant tables.
+fn table_entry(
+    inverse: &[u8; 120],
+    twelve: &[u8; 12],
+    eight: &[u8; 8],
+    cell: usize,
+    i: usize,
+) -> u16
+    requires { ⌜ (now inverse ≡ renumberingInverse) × (now twelve ≡ base12) × (now eight ≡ base8) × (cell < 32) × (i < 188) ⌝ }
+    ensures { λ r. ⌜ r ≡ tableEntry cell i ⌝ }
+{
+    if i < 120 {
+        let p = unrenumber_by(inverse, cell, Logical(i));
+        (p.0 * 14) as u16
+    } else if i < 156 {
+        rotate(12, cell, wide(twelve[(i - 120) % 12])) as u16
+    } else {
+        rotate(8, cell, wide(eight[(i - 156) % 8])) as u16
+    }
+}
+
+// The table of a cell: the first used number of each logical cluster; then both bases turned by the cell, on past M so that no sum is reduced.
+pub fn table(cell: usize) -> [u16; 188]
+    requires { ⌜ cell < 32 ⌝ }
+    ensures { λ r. ⌜ Starts 188 (tableEntry cell) r ⌝ }
+{
+    let inverse = RENUMBERING_INVERSE;
+    let twelve = BASE_12;
+    let eight = BASE_8;
+    let mut table = [0; 188];
+    let mut i = 0;
+    while i < 188 {
+        table[i] = table_entry(&inverse, &twelve, &eight, cell, i);
+        i += 1;
+    }
+    table
+}
+
+// An entry of the table, as a number to count with.
+fn wide_16(x: u16) -> usize
+    ensures { λ r. ⌜ (r ≡ x) × (r < 65536) ⌝ }
+{
+    x as usize
+}
+
+// Where the base of a group's size starts in the table.
+fn base_start(g: usize) -> usize
+    ensures { λ r. ⌜ (r ≡ baseStart g) × (r < 157) ⌝ }
+{
+    if group_size(g) == 12 { 120 } else { 156 }
+}
+
+// x mod 24, without a division.
+fn mod_24(x: usize) -> usize
+    requires { ⌜ x < 48 ⌝ }
+    ensures { λ r. ⌜ (r ≡ x % 24) × (r < 24) ⌝ }
+{
+    if x < 24 { x } else { x - 24 }
+}
+
+// The spots of a group data number in the two symbols of a slot, as numbers.
+struct SpotNumbers {
+    first: u16,
+    second: u16,
+}
+
+// Those of data number d of the group whose lowest logical cluster is `start`.
+fn spot_numbers(start: usize, d: usize, table: &[u16; 188]) -> SpotNumbers
+    requires { ⌜ (start + d / 12 < 120) × (entry (now table) (start + d / 12) < 1680) ⌝ }
+    ensures { λ r. ⌜ (r .first ≡ entry (now (table .entry)) (start + d / 12) + clusterPlace 0 (d % 12)) × (r .second ≡ 2048 + (entry (now (table .entry)) (start + d / 12) + clusterPlace 1 (d % 12))) ⌝ }
+{
+    let cluster = wide_16(table[start + d / 12]);
+    let r = d % 12;
+    SpotNumbers {
+        first: (cluster + cluster_place(0, r)) as u16,
+        second: (2048 + (cluster + cluster_place(1, r))) as u16,
+    }
+}
+
+// The spots of subchannel s, counted in its group, as numbers by index.
+fn group_spots(cell: usize, g: usize, s: usize, table: &[u16; 188]) -> [u16; 48]
+    requires { ⌜ (cell < 32) × (g < 6) × (s < groupSize g) × Starts 188 (tableEntry cell) (now table) ⌝ }
+    ensures { λ r. ⌜ r ≡ tabulate 48 (groupSpot cell g s) ⌝ }
+{
+    let start = CLUSTER_STARTS[g];
+    let size = group_size(g);
+    let base = base_start(g) + s;
+    let turn = 13 * s % 24;
+    let mut row = [0; 48];
+    let mut k = 0;
+    while k < 24 {
+        let n = mod_24(k + turn);
+        let both = spot_numbers(start, n * size + wide_16(table[base + n]), table);
+        row[k] = both.first;
+        row[k + 24] = both.second;
+        k += 1;
+    }
+    row
+}
+
+// The spots of a subchannel as numbers, by index.
+pub fn spots(cell: usize, subchannel: usize, table: &[u16; 188]) -> [u16; 48]
+    requires { ⌜ (cell < 32) × (subchannel < 60) × Starts 188 (tableEntry cell) (now table) ⌝ }
+    ensures { λ r. ⌜ r ≡ tabulate 48 (λ m. spotNumber (spotOf cell subchannel m)) ⌝ }
+{
+    let g = group_in(SUBCHANNEL_STARTS, subchannel);
+    group_spots(cell, g, subchannel - SUBCHANNEL_STARTS[g], table)
 }

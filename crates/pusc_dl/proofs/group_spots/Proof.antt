@@ -1,0 +1,83 @@
+-- `pusc_dl::group_spots` meets its contract. Assumes nothing.
+use mathlib.Core.Path.{_∙_}
+use Prim.Native.Nat.{_+_, _-_}
+use native.Mathlib.Omega.{arith}
+use lib.Arith.{digits-lt}
+use borrow.Author.Needs.{needs}
+use Rattle.pusc_dl.specs.Row.{groupSpot}
+use Rattle.pusc_dl.proofs.Row.{Turn, in-base, data-number, in-clusters, cluster-lt, spot}
+use Rattle.pusc_dl.proofs.Halves.{Halves, halves-none, halves-next, halves-all}
+use Rattle.pusc_dl.proofs.group_spots.Statement.{statement}
+use Rattle.pusc_dl.proofs.group_spots.Tie as tie
+
+abbrev Inv-loop : tie.InvT-loop
+Inv-loop cell g s table start size base turn row₀ k₀ row k = Halves 24 (groupSpot cell g s) row k
+
+abbrev μ-loop : tie.MeasureT-loop
+μ-loop cell g s table start size base turn row₀ k₀ row k = 24 - k
+
+loop-holds : tie.Need-loop-holds Inv-loop μ-loop
+loop-holds c = halves-none 24 _
+
+mul-spot-numbers : tie.Need-mul-spot-numbers Inv-loop μ-loop
+mul-spot-numbers c = omega (arith, digits-lt (c .mod-24 .ensures .1) (c .before .before .before .before .group-size .ensures .1))
+
+element-copy-out-wide-16 : tie.Need-element-copy-out-wide-16 Inv-loop μ-loop
+element-copy-out-wide-16 c =
+    let a = c .before .before .before .before .before .args in
+    let t : Turn (a .cell) (a .table .now) (a .g) (a .s) (c .before .before .loop .k) (c .mod-24 .result) = search (needs, c .before .before .before .before .before .pre .3) in
+    rw (c .before .before .before .base-start .ensures .0) (in-base t)
+
+add-spot-numbers : tie.Need-add-spot-numbers Inv-loop μ-loop
+add-spot-numbers c = omega (arith, digits-lt (c .before .before .mod-24 .ensures .1) (c .before .before .before .before .before .before .group-size .ensures .1))
+
+spot-numbers-requires : tie.Need-spot-numbers-requires Inv-loop μ-loop
+spot-numbers-requires c κs =
+    let a = c .before .before .before .before .before .before .before .args in
+    let t : Turn (a .cell) (a .table .now) (a .g) (a .s) (c .before .before .before .before .loop .k) (c .before .before .mod-24 .result) = search (needs, c .before .before .before .before .before .before .before .pre .3) in
+    rw (data-number t _ _ _ (c .before .before .before .before .before .before .group-size .ensures .0) (c .before .before .before .before .before .base-start .ensures .0) (c .wide-16 .ensures .0)) (in-clusters t, cluster-lt t)
+
+loop-again : tie.Need-loop-again Inv-loop μ-loop
+loop-again c =
+    let a = c .before .before .before .before .before .before .before .before .args in
+    let t : Turn (a .cell) (a .table .now) (a .g) (a .s) (c .before .before .before .before .before .loop .k) (c .before .before .before .mod-24 .result) = search (needs, c .before .before .before .before .before .before .before .before .pre .3) in
+    let d = data-number t _ _ _ (c .before .before .before .before .before .before .before .group-size .ensures .0) (c .before .before .before .before .before .before .base-start .ensures .0) (c .before .wide-16 .ensures .0) in
+    let both = c .spot-numbers .ensures in
+    halves-next (c .before .before .before .before .before .loop .inv) (search needs) _ _
+    (both .0 ∙ rw d (omega (arith, spot t 0 (c .before .before .before .before .before .loop .k) (omega arith) (omega arith))))
+    (both .1 ∙ rw d (spot t 1 (c .before .before .before .before .before .loop .k + 24) (omega arith) (omega arith)))
+
+returns : tie.Need-returns Inv-loop μ-loop
+returns c = halves-all (c .before .loop .inv) (c .loop-test .left)
+
+pub group-spots-spec : {M : Type 1} → statement M
+group-spots-spec =
+    tie.close
+    (tie.spec
+    Inv-loop
+    μ-loop
+    (λ c. search needs)
+    (λ c. search needs)
+    (λ c κs. search needs)
+    (λ c κs. search needs)
+    (λ c. search needs)
+    (λ c. search needs)
+    loop-holds
+    (λ c. search needs)
+    (λ c κs. search needs)
+    mul-spot-numbers
+    (λ c. search needs)
+    (λ c. search needs)
+    element-copy-out-wide-16
+    (λ c κs. search needs)
+    add-spot-numbers
+    spot-numbers-requires
+    (λ c. search needs)
+    (λ c. search needs)
+    (λ c. search needs)
+    (λ c. search needs)
+    (λ c. search needs)
+    (λ c. search needs)
+    (λ c. search needs)
+    loop-again
+    returns)
