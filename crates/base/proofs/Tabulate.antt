@@ -7,6 +7,7 @@ use native.Mathlib.Omega.{arith}
 use lib.ListN.{length, getD, set, replicate, length-set, length-replicate}
 use lib.Seq.{getD-set-same, getD-set-other, ext-getD}
 use borrow.Author.Count.{below-none, below-more}
+use Rattle.base.specs.Steps.{entry}
 use Rattle.base.specs.Tabulate.{tabulate, Starts}
 
 pub length-tabulate : {A : Type 0} (n : ℕ) (f : ℕ → A) → length (tabulate n f) ≡ n
@@ -19,6 +20,9 @@ unfolding tabulate
 getD-tabulate zero f k d h = absurd (not-suc-le-zero h)
 getD-tabulate (suc n) f zero d h = refl
 getD-tabulate (suc n) f (suc k) d h = getD-tabulate n (λ j. f (suc j)) k d (le-of-suc-le-suc h)
+
+pub entry-of : (l : List ℕ) (n : ℕ) (f : ℕ → ℕ) → l ≡ tabulate n f → (k : ℕ) → k < n → entry l k ≡ f k
+entry-of l n f e k h = ap (λ (t : List ℕ). entry t k) e ∙ getD-tabulate n f k 0 h
 
 pub tabulate-as : {A : Type 0} (n : ℕ) (f g : ℕ → A) → ((k : ℕ) → k < n → f k ≡ g k) → tabulate n f ≡ tabulate n g
 unfolding tabulate
@@ -58,3 +62,6 @@ written-all {f = f} w h = written-as w h f (λ k k-lt. refl)
 -- the first entries, where the loop ends before the list does
 pub written-starts : {n : ℕ} {f : ℕ → ℕ} {l : List ℕ} {m : ℕ} → Written n f l m → (k : ℕ) → k ≤ m → Starts k f l
 written-starts w k h j j-lt = w .entries j (omega arith)
+
+pub starts-as : {n n′ : ℕ} {f g : ℕ → ℕ} (l : List ℕ) → Starts n f l → n ≡ n′ → ((k : ℕ) → f k ≡ g k) → Starts n′ g l
+starts-as l s e h k k-lt = s k (rw e k-lt) ∙ h k

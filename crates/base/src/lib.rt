@@ -11,6 +11,12 @@ pub fn wide(x: u8) -> usize
     x as usize
 }
 
+pub fn wide16(x: u16) -> usize
+    ensures { λ r. ⌜ (r ≡ x) × (r < 65536) ⌝ }
+{
+    x as usize
+}
+
 // x moved on by c, modulo n.
 pub fn rotate(n: usize, c: usize, x: usize) -> usize
     requires { ⌜ (0 < n) × (c < 65536) × (x < 65536) ⌝ }

@@ -1,5 +1,5 @@
 -- Points in buffers: what is put is there, and nothing else changes. Assumes nothing.
-use mathlib.Core.Path.{_≡_, refl, sym, ap, _∙_, subst}
+use mathlib.Core.Path.{_≡_, refl, sym, ap, ap₂, _∙_, subst}
 use mathlib.Core.List.{List}
 use Prim.Native.Nat.{ℕ, zero, suc, _+_, _*_, _/_, _%_, _<_}
 use native.Mathlib.Nat.{add-zero, add-suc}
@@ -156,3 +156,12 @@ pub puts-next : (place : ℕ → ℕ) (source : ℕ → Point) (m : ℕ) (l l′
     → l′ ≡ puts place source (m + 1) before
 unfolding puts
 puts-next place source m l l′ before e h = rw (add-one m) (e ∙ ap (λ (x : List Float). putPoint x (place m) (source m)) h)
+
+-- the same puts, by another way to say the places and the source
+pub puts-as : (place place′ : ℕ → ℕ) (source source′ : ℕ → Point) (m : ℕ) (l : List Float) → ((j : ℕ) → j < m → place j ≡ place′ j)
+    → ((j : ℕ) → j < m → source j ≡ source′ j) → puts place source m l ≡ puts place′ source′ m l
+unfolding puts
+puts-as place place′ source source′ zero l e f = refl
+puts-as place place′ source source′ (suc m) l e f =
+    ap (λ (b : List Float). putPoint b (place m) (source m)) (puts-as place place′ source source′ m l (λ j h. e j (omega arith)) (λ j h. f j (omega arith)))
+    ∙ ap₂ (putPoint (puts place′ source′ m l)) (e m (omega arith)) (f m (omega arith))

@@ -1,23 +1,29 @@
 -- A slot's points and the places of its grid: from the law of the map. Assumes nothing.
 use mathlib.Core.Path.{_≡_, sym, ap, _∙_}
+use mathlib.Core.List.{List}
 use Prim.Native.Nat.{ℕ, _+_, _*_, _/_, _%_, _<_, _≤_}
 use native.Mathlib.Nat.{mod-lt, div-add-mod', div-lt-iff-lt-mul, mul-le-mul}
 use native.Mathlib.Omega.{arith}
 use lib.Arith.{digits-lt, digits-div, digits-mod}
 use Rattle.base.specs.Answer.{accepted}
 use Rattle.carriers.specs.declared.Spot.{Spot}
+use Rattle.base.specs.Steps.{entry, skip}
+use Rattle.base.specs.Tabulate.{tabulate, Below}
+use Rattle.base.proofs.Tabulate.{tabulate-as, entry-of}
 use Rattle.carriers.specs.Band.{carrierOf}
+use Rattle.carriers.specs.SpotNumber.{spotNumber}
 use Rattle.carriers.specs.Law.{DataSpot}
 use Rattle.carriers.proofs.Guards.{carrier-lt}
 use Rattle.map.specs.declared.Setup.{Setup}
 use Rattle.map.specs.Mode.{subchannels, symbols, band, isPilot, spotOf}
 use Rattle.map.specs.Place.{Content, point, Place, placeAt, contentOf}
-use Rattle.map.specs.Valid.{Valid}
-use Rattle.map.proofs.ByMode.{symbols-range, size-few}
+use Rattle.map.specs.Valid.{Valid, pusc-dl, pusc-ul, ofusc, amc}
+use Rattle.map.proofs.ByMode.{symbols-range, size-few, used-few}
 use Rattle.map.proofs.Slot.{slot-law, band-law}
 use Rattle.map.proofs.Law.{content-placed, locate-accepts, placed-where-located, placing}
 use Rattle.grid.specs.Row.{gridPoints, position, usedPosition, rowOf, columnOf}
 use Rattle.grid.specs.Grid.{standsAt, pointNumber}
+use Rattle.grid.specs.Model.{spotPosition}
 
 -- what the grid holds at its point n
 abbrev pub contentAt : Setup → ℕ → ℕ → Content
@@ -129,16 +135,40 @@ module _ (c : Setup) (v : Valid c) (slot : ℕ) (hs : slot < 512) (n : ℕ) (hn 
         stands = rw (s-is, m-is, ← same-slot, same-row, k) at-place;
       }
 
--- the spot of a point, as the code finds it
-module _ {c : Setup} (v : Valid c) (slot s m : ℕ) (x : Spot) (hs : s < subchannels c) (hm : m < 48) (e : x ≡ spotOf c slot s m) where
-  pub spot-range : Valid c × ((x .offset < symbols c) × (x .used < band c .used))
-  spot-range =
-      let l = slot-law v slot .lies s m hs hm in
-      (v, (rw e (l .offset-lt), rw e (l .used-lt)))
+-- a row starts at the same number in the grid as in the numbers of spots: either the size is 2048 or there is one row
+row-start : {c : Setup} → Valid c → (row : ℕ) → row < symbols c → row * c .size ≡ row * 2048
+unfolding symbols
+row-start (pusc-dl h) row l = omega arith
+row-start (pusc-ul h) row l = omega arith
+row-start (ofusc {n = n} w h) row l = let z : row ≡ 0 = omega arith in rw z (omega arith)
+row-start (amc {n = n} w h) row l = let z : row ≡ 0 = omega arith in rw z (omega arith)
 
-  pub stands-is : usedPosition c (x .offset) (x .used) ≡ standsAt c slot (pointNumber s m)
-  unfolding standsAt
-  stands-is =
+-- the row of a subchannel's spots: each is small, and its position is where the point stands
+module _ {c : Setup} (v : Valid c) (slot s : ℕ) (hs : s < subchannels c) (m : ℕ) (hm : m < 48) where
+  abbrev y : Spot
+  y = spotOf c slot s m
+
+  lies : DataSpot (symbols c) (band c .used) (λ o u. isPilot c (slot * symbols c + o) u) y
+  lies = slot-law v slot .lies s m hs hm
+
+  pub spot-number-lt : spotNumber y < 8192
+  spot-number-lt = omega (arith, symbols-range v, used-few v, lies .offset-lt, lies .used-lt)
+
+  pub spot-stands : spotPosition c (spotNumber y) ≡ standsAt c slot (pointNumber s m)
+  unfolding spotPosition standsAt usedPosition position carrierOf skip
+  spot-stands =
       let s-is : pointNumber s m / 48 ≡ s = omega arith in
       let m-is : pointNumber s m % 48 ≡ m = omega arith in
-      rw (s-is, m-is, e)
+      let u-is : spotNumber y % 2048 ≡ y .used = omega (arith, used-few v, lies .used-lt) in
+      rw (s-is, m-is, u-is) (omega (arith, row-start v (y .offset) (lies .offset-lt)))
+
+  pub stands-below : standsAt c slot (pointNumber s m) < gridPoints c
+  stands-below = stands-lt c v slot (pointNumber s m) (omega arith)
+
+-- and so are all of a row
+module _ {c : Setup} (v : Valid c) (slot s : ℕ) (hs : s < subchannels c) (spots : List ℕ) (e : spots ≡ tabulate 48 (λ m. spotNumber (spotOf c slot s m))) where
+  pub spots-below : Below 48 8192 spots
+  spots-below m h = rw (entry-of spots 48 (λ k. spotNumber (spotOf c slot s k)) e m h) (spot-number-lt v slot s hs m h)
+
+  pub spots-stand : tabulate 48 (λ m. spotPosition c (entry spots m)) ≡ tabulate 48 (λ m. standsAt c slot (pointNumber s m))
+  spots-stand = tabulate-as 48 _ _ (λ m h. ap (spotPosition c) (entry-of spots 48 (λ k. spotNumber (spotOf c slot s k)) e m h) ∙ spot-stands v slot s hs m h)

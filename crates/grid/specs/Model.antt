@@ -1,14 +1,14 @@
 -- How fill and empty go about it, put by put: what the inner functions' contracts cite. No reader needs these to know what the calls do.
 use mathlib.Core.List.{List}
 use Prim.Native.Nat.{ℕ, zero, suc, _+_, _*_, _/_, _%_}
-use lib.Dec.{eqb}
+use lib.Dec.{eqb, leb}
 use lib.ListN.{set}
 use lib.Ieee.{Float}
 use Rattle.base.specs.Choice.{pick}
 use Rattle.carriers.specs.Bin.{binPilotPlace}
 use Rattle.pusc_dl.specs.Cluster.{firstPilot, secondPilot}
 use Rattle.map.specs.declared.Setup.{Setup}
-use Rattle.map.specs.Mode.{byMode, width, symbols}
+use Rattle.map.specs.Mode.{byMode, width, symbols, band}
 use Rattle.grid.specs.declared.Point.{Point}
 use Rattle.grid.specs.declared.Comb.{Comb}
 use Rattle.grid.specs.Points.{pointAt}
@@ -23,6 +23,10 @@ putPoint floats n p = set (set floats (n * 2) (p .i)) (n * 2 + 1) (p .q)
 unfoldable pub puts : (ℕ → ℕ) → (ℕ → Point) → ℕ → List Float → List Float
 puts place source zero floats = floats
 puts place source (suc m) floats = putPoint (puts place source m floats) (place m) (source m)
+
+-- where a spot stands that is given as one number, 2048 for each symbol
+unfoldable pub spotPosition : Setup → ℕ → ℕ
+spotPosition c x = x + band c .left + pick (leb (band c .turn) (x % 2048)) 1 0
 
 -- the corners of the tiles; the middle symbol of a slot has none
 abbrev pub tileComb : ℕ → Comb

@@ -1,4 +1,5 @@
 // Grids: laying a slot's points on the carriers, taking them off again, and looking at one carrier.
+use base::wide16;
 use map::Located;
 use map::Setup;
 ghost use mathlib.Core.Path.{_≡_};
@@ -8,12 +9,15 @@ ghost use lib.ListN.{length, replicate};
 ghost use Rattle.map.specs.Mode.{symbols, subchannels, band};
 ghost use Rattle.map.specs.Place.{located};
 ghost use Rattle.map.specs.Valid.{Valid};
+ghost use Rattle.map.specs.Row.{TableOf};
 ghost use Rattle.base.specs.Answer.{number};
+ghost use Rattle.base.specs.Steps.{entry};
+ghost use Rattle.base.specs.Tabulate.{tabulate, Below};
 ghost use Rattle.grid.specs.Points.{zero32, pointAt};
 ghost use Rattle.grid.specs.Row.{gridPoints, position as Position, usedPosition};
 ghost use Rattle.grid.specs.Question.{slotNumber};
 ghost use Rattle.grid.specs.Grid.{standsAt, pointNumber, fillOf, emptyOf, seen, sightOf, lookOf};
-ghost use Rattle.grid.specs.Model.{putPoint, combOf, tileComb, pilotNumber, pilotRow, pilotRows, laidOne, takenOne};
+ghost use Rattle.grid.specs.Model.{putPoint, spotPosition, combOf, tileComb, pilotNumber, pilotRow, pilotRows, laidOne, takenOne};
 
 // A point, in-phase first.
 pub struct Point {
@@ -173,41 +177,77 @@ fn ground(c: Setup, slot: usize, p: Point, grid: &mut [f32])
     }
 }
 
-// Where in the grid a point of the slot stands.
-fn stands(c: Setup, slot: usize, subchannel: usize, index: usize) -> usize
+// Where in the grid the spots of a row stand.
+fn positions(c: Setup, spots: [u16; 48]) -> [u16; 48]
     requires { ⌜ Valid c ⌝ }
-    requires { ⌜ (subchannel < subchannels c) × (index < 48) ⌝ }
-    ensures { λ r. ⌜ (r ≡ standsAt c slot (pointNumber subchannel index)) × (r < gridPoints c) ⌝ }
+    requires { ⌜ Below 48 8192 spots ⌝ }
+    ensures { λ r. ⌜ r ≡ tabulate 48 (λ m. spotPosition c (entry spots m)) ⌝ }
 {
-    let x = map::spot(c, slot, subchannel, index);
-    position(c, x.offset, x.used)
+    let b = map::band(c);
+    let left = b.left as u16;
+    let turn = b.turn as u16;
+    let mut row = [0; 48];
+    let mut m = 0;
+    while m < 48 {
+        let x = spots[m];
+        row[m] = x + left + (turn <= x % 2048) as u16;
+        m += 1;
+    }
+    row
+}
+
+// Where in the grid the points of a subchannel stand.
+fn stands(c: Setup, slot: usize, subchannel: usize, table: &[u16; 188]) -> [u16; 48]
+    requires { ⌜ Valid c ⌝ }
+    requires { ⌜ (subchannel < subchannels c) × TableOf c (now table) ⌝ }
+    ensures { λ r. ⌜ r ≡ tabulate 48 (λ m. standsAt c slot (pointNumber subchannel m)) ⌝ }
+{
+    positions(c, map::spots(c, slot, subchannel, table))
 }
 
 // The points of one subchannel laid on the grid.
-fn lay(c: Setup, slot: usize, subchannel: usize, points: &[f32], grid: &mut [f32])
+fn lay(
+    c: Setup,
+    slot: usize,
+    subchannel: usize,
+    table: &[u16; 188],
+    points: &[f32],
+    grid: &mut [f32],
+)
     requires { ⌜ Valid c ⌝ }
     requires { ⌜ (subchannel < subchannels c) × (length (now points) ≡ 96 * subchannels c) × (length (now grid) ≡ 2 * gridPoints c) ⌝ }
+    requires { ⌜ TableOf c (now table) ⌝ }
     ensures { λ _. ⌜ now (grid .exit) ≡ laidOne c slot (now (points .entry)) subchannel (now (grid .entry)) ⌝ }
 {
+    let at = stands(c, slot, subchannel, table);
     let first = subchannel * 48;
     let mut m = 0;
     while m < 48 {
-        let n = stands(c, slot, subchannel, m);
+        let n = wide16(at[m]);
         put_point(grid, n, point_at(points, first + m));
         m += 1;
     }
 }
 
 // The points of one subchannel taken off the grid.
-fn take(c: Setup, slot: usize, subchannel: usize, grid: &[f32], points: &mut [f32])
+fn take(
+    c: Setup,
+    slot: usize,
+    subchannel: usize,
+    table: &[u16; 188],
+    grid: &[f32],
+    points: &mut [f32],
+)
     requires { ⌜ Valid c ⌝ }
     requires { ⌜ (subchannel < subchannels c) × (length (now points) ≡ 96 * subchannels c) × (length (now grid) ≡ 2 * gridPoints c) ⌝ }
+    requires { ⌜ TableOf c (now table) ⌝ }
     ensures { λ _. ⌜ now (points .exit) ≡ takenOne c slot (now (grid .entry)) subchannel (now (points .entry)) ⌝ }
 {
+    let at = stands(c, slot, subchannel, table);
     let first = subchannel * 48;
     let mut m = 0;
     while m < 48 {
-        let n = stands(c, slot, subchannel, m);
+        let n = wide16(at[m]);
         put_point(points, first + m, point_at(grid, n));
         m += 1;
     }
@@ -250,10 +290,11 @@ pub fn fill(c: Setup, slot: usize, pilot: Point, points: &[f32], grid: &mut [f32
         return k;
     }
     ground(c, slot, pilot, grid);
+    let table = map::table(c);
     let n = map::subchannels(c);
     let mut s = 0;
     while s < n {
-        lay(c, slot, s, points, grid);
+        lay(c, slot, s, &table, points, grid);
         s += 1;
     }
     0
@@ -267,10 +308,11 @@ pub fn empty(c: Setup, slot: usize, grid: &[f32], points: &mut [f32]) -> u8
     if k != 0 {
         return k;
     }
+    let table = map::table(c);
     let n = map::subchannels(c);
     let mut s = 0;
     while s < n {
-        take(c, slot, s, grid, points);
+        take(c, slot, s, &table, grid, points);
         s += 1;
     }
     0

@@ -101,19 +101,25 @@ module _ {c : Setup} (v : Valid c) (n : ℕ) (e : n ≡ width c) (s m : ℕ) (hs
       let r = in-ofusc v q in
       (rw e (bin-width v (λ z. omega arith) (λ z. omega arith)), (rw e (r .cell-lt), rw e (rw (r .subchannels-are) at hs), hm))
 
-  pub ofusc-few : c .mode ≡ 2 → spread.dataNumber n (c .cell) s m < 65536
-  ofusc-few q =
+  pub ofusc-lt : c .mode ≡ 2 → spread.dataNumber n (c .cell) s m < 2048
+  ofusc-lt q =
       let a = ofusc-asks q in
       omega (arith, size (a .0), spread-law.law (a .0) (c .cell) .number-lt s m (a .1 .1) hm)
+
+  pub ofusc-few : c .mode ≡ 2 → spread.dataNumber n (c .cell) s m < 65536
+  ofusc-few q = omega (arith, ofusc-lt q)
 
 module _ {c : Setup} (v : Valid c) (n₀ : c .mode ≡ 0 → ⊥) (n₁ : c .mode ≡ 1 → ⊥) (n₂ : c .mode ≡ 2 → ⊥) (s m : ℕ) (hs : s < subchannels c) (hm : m < 48) where
   pub amc-asks : (c .cell < 2352) × (s < 65536) × (m < 48)
   amc-asks = omega (arith, in-amc v n₀ n₁ n₂, size (bin-width v n₀ n₁))
 
-  pub amc-few : adjacent.dataNumber (c .cell) s m < 65536
-  amc-few =
+  pub amc-lt : adjacent.dataNumber (c .cell) s m < 2048
+  amc-lt =
       let r = in-amc v n₀ n₁ n₂ in
       omega (arith, size (bin-width v n₀ n₁), adjacent-law.law (c .cell) (r .cell-lt) (width c) .number-lt s m (rw (r .subchannels-are) at hs) hm)
+
+  pub amc-few : adjacent.dataNumber (c .cell) s m < 65536
+  amc-few = omega (arith, amc-lt)
 
 -- the symbols of a slot are one to three
 pub symbols-range : {c : Setup} → Valid c → (0 < symbols c) × (symbols c ≤ 3)
@@ -154,6 +160,13 @@ left-few (pusc-dl h) = omega arith
 left-few (pusc-ul h) = omega arith
 left-few (ofusc {n = n} w h) = omega (arith, size w .most)
 left-few (amc {n = n} w h) = omega (arith, size w .most)
+
+pub turn-few : {c : Setup} → Valid c → band c .turn ≤ 864
+unfolding band width
+turn-few (pusc-dl h) = omega arith
+turn-few (pusc-ul h) = omega arith
+turn-few (ofusc {n = n} w h) = omega (arith, size w .most)
+turn-few (amc {n = n} w h) = omega (arith, size w .most)
 
 -- what the modes ask of a used number that is no pilot
 module _ {c : Setup} (v : Valid c) (y u : ℕ) (hu : u < band c .used) (np : isPilot c y u ≡ false) where

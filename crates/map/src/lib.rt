@@ -6,11 +6,14 @@ ghost use mathlib.Core.Path.{_≡_};
 ghost use mathlib.Core.Bool.{false};
 ghost use Prim.Native.Nat.{_*_, _<_, _≤_};
 ghost use Rattle.base.specs.Answer.{accepted};
+ghost use Rattle.base.specs.Tabulate.{tabulate};
 ghost use Rattle.carriers.specs.Bin.{binSpot};
+ghost use Rattle.carriers.specs.SpotNumber.{spotNumber};
 ghost use Rattle.map.specs.Mode.{width as Width, cells as Cells, subchannels as Subchannels, symbols as Symbols, band as BandOf, isPilot, spotOf, addressOf};
 ghost use Rattle.map.specs.Question.{isFourSizes, isSize, setupNumber};
 ghost use Rattle.map.specs.Place.{placed, placeAt, placeOf, located, contentOf, locateOf};
 ghost use Rattle.map.specs.Valid.{Valid};
+ghost use Rattle.map.specs.Row.{TableOf};
 
 // What a zone fixes: mode, FFT size and cell.
 pub struct Setup {
@@ -141,6 +144,23 @@ pub fn refusal(c: Setup) -> u8
     0
 }
 
+// What the cell alone fixes of the places of a slot.
+pub fn table(c: Setup) -> [u16; 188]
+    requires { ⌜ Valid c ⌝ }
+    ensures { λ r. ⌜ TableOf c r ⌝ }
+{
+    if c.mode == 0 {
+        return pusc_dl::table(c.cell);
+    }
+    if c.mode == 1 {
+        return pusc_ul::table(c.cell);
+    }
+    if c.mode == 2 {
+        return ofusc::table(width(c), c.cell);
+    }
+    amc::table(c.cell)
+}
+
 // Where data number d lies in a slot of one symbol.
 fn bin_spot(slot: usize, d: usize) -> Spot
     requires { ⌜ d < 65536 ⌝ }
@@ -171,6 +191,24 @@ pub fn spot(c: Setup, slot: usize, subchannel: usize, index: usize) -> Spot
         );
     }
     bin_spot(slot, amc::data_number(c.cell, subchannel, index))
+}
+
+// Where the points of a subchannel lie in its slot, as numbers by index.
+pub fn spots(c: Setup, slot: usize, subchannel: usize, table: &[u16; 188]) -> [u16; 48]
+    requires { ⌜ Valid c ⌝ }
+    requires { ⌜ (subchannel < Subchannels c) × TableOf c (now table) ⌝ }
+    ensures { λ r. ⌜ r ≡ tabulate 48 (λ m. spotNumber (spotOf c slot subchannel m)) ⌝ }
+{
+    if c.mode == 0 {
+        return pusc_dl::spots(c.cell, subchannel, table);
+    }
+    if c.mode == 1 {
+        return pusc_ul::spots(c.cell, subchannel, table);
+    }
+    if c.mode == 2 {
+        return carriers::used_numbers(slot, ofusc::numbers(width(c), c.cell, subchannel, table));
+    }
+    carriers::used_numbers(slot, amc::numbers(c.cell, subchannel, table))
 }
 
 pub fn is_pilot(c: Setup, symbol: usize, used: usize) -> bool

@@ -7,7 +7,7 @@ use lib.Arith.{digits-lt}
 use lib.Bits.{bitXor, xor-block, xor-zero-r, xor-comm}
 use Rattle.base.specs.Steps.{entry, rotate}
 use Rattle.base.specs.Tabulate.{tabulate, Starts}
-use Rattle.base.proofs.Tabulate.{getD-tabulate}
+use Rattle.base.proofs.Tabulate.{entry-of}
 use Rattle.ofusc.specs.Width.{Width}
 use Rattle.ofusc.specs.Map.{groupOf, mask, dataNumber}
 use Rattle.ofusc.specs.Row.{cellNumber}
@@ -33,6 +33,5 @@ pub row-by-index : (n cell s : ℕ) (row : List ℕ) → row ≡ tabulate 48 (λ
     → (m : ℕ) → m < 48 → entry row (rotate 48 (23 * s % 48) m) ≡ dataNumber n cell s m
 unfolding dataNumber groupOf
 row-by-index n cell s row e m h =
-    ap (λ (l : List ℕ). entry l ((m + 23 * s % 48) % 48)) e
-    ∙ getD-tabulate 48 (λ k. k * n + bitXor s (mask n cell k)) ((m + 23 * s % 48) % 48) 0 (omega arith)
+    entry-of row 48 (λ k. k * n + bitXor s (mask n cell k)) e ((m + 23 * s % 48) % 48) (omega arith)
     ∙ ap (λ (k : ℕ). k * n + bitXor s (mask n cell k)) (omega arith)

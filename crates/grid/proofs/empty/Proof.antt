@@ -10,10 +10,10 @@ use Rattle.grid.proofs.empty.Statement.{statement}
 use Rattle.grid.proofs.empty.Tie as tie
 
 abbrev Inv-loop : tie.InvT-loop
-Inv-loop c slot grid points₀ k n s₀ points s = EmptyTurn c slot grid points₀ n points s
+Inv-loop c slot grid points₀ k table n s₀ points s = EmptyTurn c slot grid points₀ n points s
 
 abbrev μ-loop : tie.MeasureT-loop
-μ-loop c slot grid points₀ k n s₀ points s = n - s
+μ-loop c slot grid points₀ k table n s₀ points s = n - s
 
 slot-refusal-requires : tie.Need-slot-refusal-requires Inv-loop μ-loop
 slot-refusal-requires c κs = search needs
@@ -21,29 +21,32 @@ slot-refusal-requires c κs = search needs
 returns : tie.Need-returns Inv-loop μ-loop
 returns c = search (empty-refused, needs)
 
+table-requires : tie.Need-table-requires Inv-loop μ-loop
+table-requires c κs = (now-accepted _ _ _ _ _ (c .before .slot-refusal .ensures) (c .if1 .left)) .valid
+
 subchannels-requires : tie.Need-subchannels-requires Inv-loop μ-loop
 subchannels-requires c κs = search needs
 
 loop-holds : tie.Need-loop-holds Inv-loop μ-loop
 unfolding taken
 loop-holds c = record {
-  fits = now-accepted _ _ _ _ _ (c .before .before .slot-refusal .ensures) (c .before .if1 .left);
+  fits = now-accepted _ _ _ _ _ (c .before .before .before .slot-refusal .ensures) (c .before .before .if1 .left);
   n-is = c .subchannels .ensures;
   at-most = omega arith;
   so-far = refl;
 }
 
 take-requires : tie.Need-take-requires Inv-loop μ-loop
-take-requires c κs = (c .before .before .loop .inv .fits .valid, (rw (c .before .before .loop .inv .n-is) at (c .before .loop-test .taken), empty-long (c .before .before .loop .inv) ∙ c .before .before .loop .inv .fits .points-long, c .before .before .loop .inv .fits .grid-long))
+take-requires c κs = (c .before .before .before .loop .inv .fits .valid, ((rw (c .before .before .before .loop .inv .n-is) at (c .before .before .loop-test .taken), empty-long (c .before .before .before .loop .inv) ∙ c .before .before .before .loop .inv .fits .points-long, c .before .before .before .loop .inv .fits .grid-long), c .before .before .before .before .before .table .ensures))
 
 add-s : tie.Need-add-s Inv-loop μ-loop
-add-s c = omega (arith, subchannels-few (c .before .before .before .before .before .loop .inv .fits .valid), c .before .before .before .before .before .loop .inv .n-is, c .before .before .before .before .loop-test .taken)
+add-s c = omega (arith, subchannels-few (c .before .before .before .before .before .before .loop .inv .fits .valid), c .before .before .before .before .before .before .loop .inv .n-is, c .before .before .before .before .before .loop-test .taken)
 
 loop-less : tie.Need-loop-less Inv-loop μ-loop
 loop-less c = omega arith
 
 loop-again : tie.Need-loop-again Inv-loop μ-loop
-loop-again c = empty-next (c .before .before .before .before .before .loop .inv) (c .before .before .before .before .loop-test .taken) _ (c .before .before .take .ensures)
+loop-again c = empty-next (c .before .before .before .before .before .before .loop .inv) (c .before .before .before .before .before .loop-test .taken) _ (c .before .before .take .ensures)
 
 same-length : tie.Need-same-length Inv-loop μ-loop
 same-length c = empty-long (c .before .loop .inv)
@@ -59,6 +62,7 @@ empty-spec =
     μ-loop
     slot-refusal-requires
     returns
+    table-requires
     subchannels-requires
     loop-holds
     take-requires

@@ -1,47 +1,52 @@
 -- `grid::take` meets its contract. Assumes nothing.
-use Rattle.map.proofs.ByMode.{subchannels-few}
-use mathlib.Core.Path.{ap, _∙_}
-use Rattle.grid.specs.Model.{putPoint, takenOne}
-use Rattle.grid.specs.Grid.{standsAt, pointNumber}
-use Rattle.grid.specs.Points.{pointAt}
-use lib.ListN.{length}
+use mathlib.Core.Path.{refl, ap, ap₂, _∙_}
 use Prim.Native.Nat.{_-_}
-use Rattle.grid.proofs.Points.{puts-none}
-use Rattle.grid.proofs.Copy.{CopyTurn, copy-long, copy-few, point-room, grid-room, copy-next, copy-done}
 use native.Mathlib.Omega.{arith}
+use borrow.Author.Needs.{needs}
+use Rattle.base.specs.Steps.{entry}
+use Rattle.base.proofs.Tabulate.{entry-of}
+use Rattle.map.proofs.ByMode.{subchannels-few}
+use Rattle.grid.specs.Points.{pointAt}
+use Rattle.grid.specs.Grid.{standsAt, pointNumber}
+use Rattle.grid.specs.Model.{putPoint, takenOne}
+use Rattle.grid.proofs.Points.{puts-none}
+use Rattle.grid.proofs.Slot.{stands-below}
+use Rattle.grid.proofs.Copy.{CopyTurn, copy-long, copy-next, copy-done, point-room, grid-room}
 use Rattle.grid.proofs.take.Statement.{statement}
 use Rattle.grid.proofs.take.Tie as tie
 
 abbrev Inv-loop : tie.InvT-loop
-Inv-loop c slot subchannel grid points₀ first m₀ points m = CopyTurn c subchannel (length points₀) (length grid) (λ i. pointNumber subchannel i) (λ i. pointAt grid (standsAt c slot (pointNumber subchannel i))) points₀ points m
+Inv-loop slot subchannel table grid points₀ at first m₀ points m = CopyTurn (pointNumber subchannel) (λ i. pointAt grid (entry at i)) points₀ points m
 
 abbrev μ-loop : tie.MeasureT-loop
-μ-loop c slot subchannel grid points₀ first m₀ points m = 48 - m
-
-mul-first : tie.Need-mul-first Inv-loop μ-loop
-mul-first c = omega (arith, subchannels-few (c .before .before .pre .0))
-
-loop-holds : tie.Need-loop-holds Inv-loop μ-loop
-loop-holds c = record {
-  valid = c .before .before .pre .0;
-  s-lt = c .before .before .pre .1 .0;
-  points-long = c .before .before .pre .1 .1;
-  grid-long = c .before .before .pre .1 .2;
-  at-most = omega arith;
-  so-far = puts-none _ _ _;
-}
+μ-loop slot subchannel table grid points₀ at first m₀ points m = 48 - m
 
 stands-requires : tie.Need-stands-requires Inv-loop μ-loop
-stands-requires c κs = (c .before .loop .inv .valid, (c .before .loop .inv .s-lt, c .loop-test .taken))
+stands-requires c κs = (c .before .before .pre .0, (c .before .before .pre .1 .0 .0, c .before .before .pre .1 .1))
+
+mul-first : tie.Need-mul-first Inv-loop μ-loop
+mul-first c = omega (arith, c .before .before .before .pre .1 .0 .0, subchannels-few (c .before .before .before .pre .0))
+
+loop-holds : tie.Need-loop-holds Inv-loop μ-loop
+loop-holds c = record { at-most = omega arith; so-far = puts-none _ _ _ }
+
+mul-wide16 : tie.Need-mul-wide16 Inv-loop μ-loop
+mul-wide16 c = search needs
+
+array-read-wide16 : tie.Need-array-read-wide16 Inv-loop μ-loop
+array-read-wide16 c = search needs
+
+wide16-requires : tie.Need-wide16-requires Inv-loop μ-loop
+wide16-requires c κs = search needs
 
 add-put-point : tie.Need-add-put-point Inv-loop μ-loop
-add-put-point c = omega (arith, copy-few (c .before .before .before .loop .inv))
+add-put-point c = omega (arith, c .before .before .before .before .before .before .before .pre .1 .0 .0, subchannels-few (c .before .before .before .before .before .before .before .pre .0), c .before .before .loop-test .taken)
 
 point-at-requires : tie.Need-point-at-requires Inv-loop μ-loop
-point-at-requires c κs = grid-room (c .before .before .before .loop .inv) _ (c .before .stands .ensures .1)
+point-at-requires c κs = grid-room _ _ _ (c .before .before .before .before .before .before .before .pre .1 .0 .2) (rw (c .before .wide16 .ensures .0, entry-of (c .before .before .before .before .stands .result) 48 (λ k. standsAt (c .before .before .before .before .before .before .before .args .c) (c .before .before .before .before .before .before .before .args .slot) (pointNumber (c .before .before .before .before .before .before .before .args .subchannel) k)) (c .before .before .before .before .stands .ensures) _ (c .before .before .loop-test .taken)) (stands-below (c .before .before .before .before .before .before .before .pre .0) _ _ (c .before .before .before .before .before .before .before .pre .1 .0 .0) _ (c .before .before .loop-test .taken)))
 
 put-point-requires : tie.Need-put-point-requires Inv-loop μ-loop
-put-point-requires c κs = rw (copy-long (c .before .before .before .before .loop .inv)) (point-room (c .before .before .before .before .loop .inv) (c .before .before .before .loop-test .taken))
+put-point-requires c κs = rw (copy-long (c .before .before .before .before .loop .inv)) (point-room _ _ _ _ (c .before .before .before .before .before .before .before .before .pre .1 .0 .1) (c .before .before .before .before .before .before .before .before .pre .1 .0 .0) (c .before .before .before .loop-test .taken))
 
 add-m : tie.Need-add-m Inv-loop μ-loop
 add-m c = omega arith
@@ -50,14 +55,14 @@ loop-less : tie.Need-loop-less Inv-loop μ-loop
 loop-less c = omega arith
 
 loop-again : tie.Need-loop-again Inv-loop μ-loop
-loop-again c = copy-next (c .before .before .before .before .before .before .before .loop .inv) (c .before .before .before .before .before .before .loop-test .taken) _ (c .before .before .put-point .ensures ∙ ap (λ y. putPoint (c .before .before .before .before .before .before .before .loop .points) (pointNumber (c .before .before .before .before .before .before .before .before .before .before .args .subchannel) (c .before .before .before .before .before .before .before .loop .m)) y) (c .before .before .before .point-at .ensures ∙ ap (pointAt _) (c .before .before .before .before .before .stands .ensures .0)))
+loop-again c = copy-next (c .before .before .before .before .before .before .before .loop .inv) (c .before .before .before .before .before .before .loop-test .taken) _ (c .before .before .put-point .ensures ∙ ap (putPoint (c .before .before .before .before .before .before .before .loop .points) (pointNumber (c .before .before .before .before .before .before .before .before .before .before .before .args .subchannel) (c .before .before .before .before .before .before .before .loop .m))) (c .before .before .before .point-at .ensures ∙ ap (pointAt _) (c .before .before .before .before .before .wide16 .ensures .0)))
 
 same-length : tie.Need-same-length Inv-loop μ-loop
 same-length c = copy-long (c .before .loop .inv)
 
 returns : tie.Need-returns Inv-loop μ-loop
 unfolding takenOne
-returns c = copy-done (c .before .loop .inv) (c .loop-test .left)
+returns c = copy-done (c .before .loop .inv) (c .loop-test .left) _ _ (λ k h. refl) (λ k h. ap (pointAt _) (entry-of (c .before .before .stands .result) 48 (λ k. standsAt (c .before .before .before .before .before .args .c) (c .before .before .before .before .before .args .slot) (pointNumber (c .before .before .before .before .before .args .subchannel) k)) (c .before .before .stands .ensures) k h))
 
 pub take-spec : {M : Type 1} → statement M
 take-spec =
@@ -65,9 +70,12 @@ take-spec =
     (tie.spec
     Inv-loop
     μ-loop
+    stands-requires
     mul-first
     loop-holds
-    stands-requires
+    mul-wide16
+    array-read-wide16
+    wide16-requires
     add-put-point
     point-at-requires
     put-point-requires

@@ -1,0 +1,25 @@
+-- How a subchannel's spots are found fast. No reader needs this to know what the calls do.
+use mathlib.Core.List.{List}
+use Prim.Native.Nat.{ℕ}
+use Rattle.base.specs.Tabulate.{Starts}
+use Rattle.map.specs.declared.Setup.{Setup}
+use Rattle.map.specs.Mode.{byMode, width}
+use Rattle.pusc_dl.specs.Row as pusc-dl
+use Rattle.pusc_ul.specs.Row as pusc-ul
+use Rattle.ofusc.specs.Row as ofusc
+use Rattle.amc.specs.Map as amc
+
+-- what the cell alone fixes, in the table of its mode: how many entries, and entry i
+unfoldable pub tableLength : Setup → ℕ
+tableLength c = byMode (c .mode) 188 76 48 48
+
+unfoldable pub tableEntry : Setup → ℕ → ℕ
+tableEntry c i =
+    byMode (c .mode)
+    (pusc-dl.tableEntry (c .cell) i)
+    (pusc-ul.tableEntry (c .cell) i)
+    (ofusc.cellNumber (width c) (c .cell) i)
+    (amc.traffic (c .cell) i)
+
+abbrev pub TableOf : Setup → List ℕ → Type 0
+TableOf c table = Starts (tableLength c) (tableEntry c) table
