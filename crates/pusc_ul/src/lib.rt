@@ -159,7 +159,7 @@ const TILE_PERMUTATION_INVERSE: [u8; 70] = [
     34,
 ];
 
-// The tile t of each data place, and its number of a spot where the tile is the first of its seventy.
+// The tile t of each data place, and what the place adds to the entry of the table of a cell for that tile.
 const DATA_TILES: [u8; 48] = [
     0,
     0,
