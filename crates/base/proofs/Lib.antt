@@ -5,5 +5,4 @@ pub mod Perm
 pub mod LeaveOut
 pub mod Table
 pub mod Tabulate
-pub mod CyclicShift
 pub mod Chain

@@ -1,14 +1,14 @@
 -- A tabulated list has its length and its entries, and is the only list that has them; and a loop that writes one entry a turn. Assumes nothing.
-use mathlib.Core.Path.{_≡_, refl, sym, ap, ap₂, _∙_}
+use mathlib.Core.Path.{_≡_, refl, sym, ap, ap₂, _∙_, subst}
 use mathlib.Core.List.{List, _∷_}
-use Prim.Native.Nat.{ℕ, zero, suc, _+_, _<_, _≤_}
+use Prim.Native.Nat.{ℕ, zero, suc, _+_, _-_, _%_, _<_, _≤_}
 use native.Mathlib.Nat.{le-of-suc-le-suc, not-suc-le-zero}
 use native.Mathlib.Omega.{arith}
 use lib.ListN.{length, getD, set, replicate, length-set, length-replicate}
 use lib.Seq.{getD-set-same, getD-set-other, ext-getD}
 use borrow.Author.Count.{below-none, below-more}
 use Rattle.base.specs.Steps.{entry}
-use Rattle.base.specs.Tabulate.{tabulate, Starts}
+use Rattle.base.specs.Tabulate.{tabulate, Starts, Below, Turned}
 
 pub length-tabulate : {A : Type 0} (n : ℕ) (f : ℕ → A) → length (tabulate n f) ≡ n
 unfolding tabulate
@@ -65,3 +65,16 @@ written-starts w k h j j-lt = w .entries j (omega arith)
 
 pub starts-as : {n n′ : ℕ} {f g : ℕ → ℕ} (l : List ℕ) → Starts n f l → n ≡ n′ → ((k : ℕ) → f k ≡ g k) → Starts n′ g l
 starts-as l s e h k k-lt = s k (rw e k-lt) ∙ h k
+
+-- a row shifted round: by the entries of another row, and by the place
+pub turned-row : (by : ℕ) (f g : ℕ → ℕ) (row : List ℕ) → row ≡ tabulate 48 g → ((m : ℕ) → m < 48 → g ((m + by) % 48) ≡ f m) → Turned by f row
+turned-row by f g row e h m m-lt = entry-of row 48 g e ((m + by) % 48) (omega arith) ∙ h m m-lt
+
+pub turned-by : (by : ℕ) (f : ℕ → ℕ) (g : ℕ → ℕ) (row row′ : List ℕ) → Turned by f row → row′ ≡ tabulate 48 (λ k. g (entry row k)) → Turned by (λ m. g (f m)) row′
+turned-by by f g row row′ t e m h = entry-of row′ 48 (λ k. g (entry row k)) e ((m + by) % 48) (omega arith) ∙ ap g (t m h)
+
+pub turned-below : (by limit : ℕ) (f : ℕ → ℕ) (row : List ℕ) → by < 48 → Turned by f row → ((m : ℕ) → m < 48 → f m < limit) → Below 48 limit row
+turned-below by limit f row hb t lt k h =
+    let m = (k + (48 - by)) % 48 in
+    let e : (m + by) % 48 ≡ k = omega arith in
+    subst (λ (q : ℕ). entry row q < limit) e (rw (t m (omega arith)) (lt m (omega arith)))

@@ -1,8 +1,7 @@
 // The steps that the permutations are made of.
 ghost use mathlib.Core.Path.{_≡_};
-ghost use Prim.Native.Nat.{_+_, _%_, _≤_, _<_};
-ghost use Rattle.base.specs.Steps.{entry, rotate as Rotate, unrotate as Unrotate, skip as Skip, unskip as Unskip};
-ghost use Rattle.base.specs.Tabulate.{tabulate};
+ghost use Prim.Native.Nat.{_+_, _≤_, _<_};
+ghost use Rattle.base.specs.Steps.{rotate as Rotate, unrotate as Unrotate, skip as Skip, unskip as Unskip};
 
 // An entry of a table, as a number to count with.
 pub fn wide(x: u8) -> usize
@@ -46,33 +45,4 @@ pub fn unskip(p: usize, place: usize) -> usize
     ensures { λ x. ⌜ (x ≡ Unskip p place) × (x ≤ place) ⌝ }
 {
     if place <= p { place } else { place - 1 }
-}
-
-// A row of 48 numbers, and the same again after it.
-fn twice(row: [u16; 48]) -> [u16; 96]
-    ensures { λ r. ⌜ r ≡ tabulate 96 (λ i. entry row (i % 48)) ⌝ }
-{
-    let mut both = [0; 96];
-    let mut i = 0;
-    while i < 48 {
-        both[i] = row[i];
-        both[i + 48] = row[i];
-        i += 1;
-    }
-    both
-}
-
-// A row of 48 numbers shifted round: entry m is the one that stood at m moved on.
-pub fn cyclic_shift(row: [u16; 48], by: usize) -> [u16; 48]
-    requires { ⌜ by < 48 ⌝ }
-    ensures { λ r. ⌜ r ≡ tabulate 48 (λ m. entry row (Rotate 48 by m)) ⌝ }
-{
-    let both = twice(row);
-    let mut shifted = [0; 48];
-    let mut m = 0;
-    while m < 48 {
-        shifted[m] = both[m + by];
-        m += 1;
-    }
-    shifted
 }

@@ -2,3 +2,4 @@
 pub mod Guards
 pub mod Bin
 pub mod Relabel
+pub mod Row

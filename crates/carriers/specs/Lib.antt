@@ -1,4 +1,4 @@
 pub mod Band
 pub mod Bin
 pub mod Law
-pub mod SpotNumber
+pub mod Row

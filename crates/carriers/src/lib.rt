@@ -7,6 +7,7 @@ ghost use Prim.Native.Nat.{_+_, _≤_, _<_};
 ghost use Rattle.base.specs.Steps.{entry};
 ghost use Rattle.base.specs.Tabulate.{tabulate, Below};
 ghost use Rattle.carriers.specs.Band.{binBand, puscBand, carrierOf, usedOf, isGuard, isDc};
+ghost use Rattle.carriers.specs.Row.{carrierStep};
 ghost use Rattle.carriers.specs.Bin.{binPilotPlace, isBinPilot, usedOfData, dataOfUsed};
 
 // A symbol's carriers, rising: left guards, the used carriers with DC among them, right guards.
@@ -126,6 +127,23 @@ pub fn used_numbers(y: usize, numbers: [u16; 48]) -> [u16; 48]
         let d = numbers[m];
         row[m] = d + d / 8 + (pilot <= d % 8) as u16;
         m += 1;
+    }
+    row
+}
+
+// The carriers of a row of spots, both as numbers.
+pub fn carrier_row(b: Band, spots: [u16; 48]) -> [u16; 48]
+    requires { ⌜ (b .left < 8192) × (b .turn < 8192) × Below 48 8192 spots ⌝ }
+    ensures { λ r. ⌜ r ≡ tabulate 48 (λ k. carrierStep b (entry spots k)) ⌝ }
+{
+    let left = b.left as u16;
+    let turn = b.turn as u16;
+    let mut row = [0; 48];
+    let mut k = 0;
+    while k < 48 {
+        let x = spots[k];
+        row[k] = x + left + (turn <= x % 2048) as u16;
+        k += 1;
     }
     row
 }

@@ -1,36 +1,38 @@
--- The loop that copies a subchannel's points, to the grid or from it. Assumes nothing.
+-- The runs that copy a subchannel's points, to the grid or from it. Assumes nothing.
 use mathlib.Core.Path.{_≡_, ap, _∙_}
 use mathlib.Core.List.{List}
-use Prim.Native.Nat.{ℕ, _+_, _*_, _<_, _≤_}
+use Prim.Native.Nat.{ℕ, _+_, _-_, _<_, _≤_}
 use native.Mathlib.Omega.{arith}
 use lib.ListN.{length}
 use lib.Ieee.{Float}
 use Rattle.grid.specs.declared.Point.{Point}
 use Rattle.grid.specs.Model.{putPoint, puts}
-use Rattle.grid.proofs.Points.{length-puts, puts-next, puts-as}
+use Rattle.grid.proofs.Points.{length-puts, puts-next, puts-as, puts-more}
 
--- what holds before each turn: the destination as far as it is written
-pub record CopyTurn (place : ℕ → ℕ) (source : ℕ → Point) (dest₀ dest : List Float) (m : ℕ) : Type 0 where
-  pub at-most : m ≤ 48
+-- what holds before each turn of a run of n points: the destination as far as it is written
+pub record CopyTurn (place : ℕ → ℕ) (source : ℕ → Point) (n : ℕ) (dest₀ dest : List Float) (m : ℕ) : Type 0 where
+  pub at-most : m ≤ n
   pub so-far : dest ≡ puts place source m dest₀
 
-module _ {place : ℕ → ℕ} {source : ℕ → Point} {dest₀ dest : List Float} {m : ℕ} (t : CopyTurn place source dest₀ dest m) where
+module _ {place : ℕ → ℕ} {source : ℕ → Point} {n : ℕ} {dest₀ dest : List Float} {m : ℕ} (t : CopyTurn place source n dest₀ dest m) where
   pub copy-long : length dest ≡ length dest₀
   copy-long = ap length (t .so-far) ∙ length-puts place source m dest₀
 
-  pub copy-next : m < 48 → (dest′ : List Float) → dest′ ≡ putPoint dest (place m) (source m) → CopyTurn place source dest₀ dest′ (m + 1)
+  pub copy-next : m < n → (dest′ : List Float) → dest′ ≡ putPoint dest (place m) (source m) → CopyTurn place source n dest₀ dest′ (m + 1)
   copy-next h dest′ e = record { at-most = omega arith; so-far = puts-next place source m dest dest′ dest₀ e (t .so-far) }
 
-  -- all of it, by another way to say the places and the source
-  pub copy-done : 48 ≤ m → (place′ : ℕ → ℕ) (source′ : ℕ → Point) → ((k : ℕ) → k < 48 → place k ≡ place′ k) → ((k : ℕ) → k < 48 → source k ≡ source′ k)
-      → dest ≡ puts place′ source′ 48 dest₀
-  copy-done h place′ source′ e f =
-      let all : m ≡ 48 = omega (arith, t .at-most) in
-      t .so-far ∙ ap (λ (x : ℕ). puts place source x dest₀) all ∙ puts-as place place′ source source′ 48 dest₀ e f
+  pub copy-done : n ≤ m → dest ≡ puts place source n dest₀
+  copy-done h =
+      let all : m ≡ n = omega (arith, t .at-most) in
+      t .so-far ∙ ap (λ (x : ℕ). puts place source x dest₀) all
 
--- point m of subchannel s lies within the points, and a place of the grid within the grid
-pub point-room : (n points s m : ℕ) → points ≡ 96 * n → s < n → m < 48 → (s * 48 + m) * 2 + 1 < points
-point-room n points s m e hs hm = omega arith
-
-pub grid-room : (n grid k : ℕ) → grid ≡ 2 * n → k < n → k * 2 + 1 < grid
-grid-room n grid k e h = omega arith
+-- a run of the first a points and one of the b that follow
+pub two-runs : (place p₁ p₂ : ℕ → ℕ) (source s₁ s₂ : ℕ → Point) (a b : ℕ) (l l₁ l₂ : List Float)
+    → l₁ ≡ puts p₁ s₁ a l → l₂ ≡ puts p₂ s₂ b l₁
+    → ((m : ℕ) → m < a → p₁ m ≡ place m) → ((m : ℕ) → m < a → s₁ m ≡ source m)
+    → ((m : ℕ) → m < b → p₂ m ≡ place (a + m)) → ((m : ℕ) → m < b → s₂ m ≡ source (a + m))
+    → l₂ ≡ puts place source (a + b) l
+two-runs place p₁ p₂ source s₁ s₂ a b l l₁ l₂ e₁ e₂ f₁ g₁ f₂ g₂ =
+    e₂ ∙ puts-as p₂ (λ m. place (a + m)) s₂ (λ m. source (a + m)) b l₁ f₂ g₂
+    ∙ ap (puts (λ m. place (a + m)) (λ m. source (a + m)) b) (e₁ ∙ puts-as p₁ place s₁ source a l f₁ g₁)
+    ∙ puts-more place source a b l

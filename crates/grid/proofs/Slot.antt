@@ -1,29 +1,31 @@
 -- A slot's points and the places of its grid: from the law of the map. Assumes nothing.
 use mathlib.Core.Path.{_≡_, sym, ap, _∙_}
 use mathlib.Core.List.{List}
-use Prim.Native.Nat.{ℕ, _+_, _*_, _/_, _%_, _<_, _≤_}
+use Prim.Native.Nat.{ℕ, _+_, _-_, _*_, _/_, _%_, _<_, _≤_}
 use native.Mathlib.Nat.{mod-lt, div-add-mod', div-lt-iff-lt-mul, mul-le-mul}
 use native.Mathlib.Omega.{arith}
 use lib.Arith.{digits-lt, digits-div, digits-mod}
 use Rattle.base.specs.Answer.{accepted}
 use Rattle.carriers.specs.declared.Spot.{Spot}
-use Rattle.base.specs.Steps.{entry, skip}
-use Rattle.base.specs.Tabulate.{tabulate, Below}
-use Rattle.base.proofs.Tabulate.{tabulate-as, entry-of}
+use Rattle.base.specs.Steps.{entry}
+use Rattle.base.specs.Tabulate.{Turned}
+use Rattle.base.proofs.Tabulate.{turned-below}
 use Rattle.carriers.specs.Band.{carrierOf}
-use Rattle.carriers.specs.SpotNumber.{spotNumber}
+use Rattle.carriers.specs.Row.{carrierNumber}
 use Rattle.carriers.specs.Law.{DataSpot}
 use Rattle.carriers.proofs.Guards.{carrier-lt}
 use Rattle.map.specs.declared.Setup.{Setup}
 use Rattle.map.specs.Mode.{subchannels, symbols, band, isPilot, spotOf}
 use Rattle.map.specs.Place.{Content, point, Place, placeAt, contentOf}
 use Rattle.map.specs.Valid.{Valid, pusc-dl, pusc-ul, ofusc, amc}
-use Rattle.map.proofs.ByMode.{symbols-range, size-few, used-few}
+use Rattle.map.proofs.ByMode.{symbols-range, size-few}
 use Rattle.map.proofs.Slot.{slot-law, band-law}
 use Rattle.map.proofs.Law.{content-placed, locate-accepts, placed-where-located, placing}
 use Rattle.grid.specs.Row.{gridPoints, position, usedPosition, rowOf, columnOf}
 use Rattle.grid.specs.Grid.{standsAt, pointNumber}
-use Rattle.grid.specs.Model.{spotPosition}
+use Rattle.grid.specs.Model.{Within}
+use Rattle.map.specs.Row.{shiftOf}
+use Rattle.map.proofs.Row.{shift-lt}
 
 -- what the grid holds at its point n
 abbrev pub contentAt : Setup → ℕ → ℕ → Content
@@ -143,7 +145,7 @@ row-start (pusc-ul h) row l = omega arith
 row-start (ofusc {n = n} w h) row l = let z : row ≡ 0 = omega arith in rw z (omega arith)
 row-start (amc {n = n} w h) row l = let z : row ≡ 0 = omega arith in rw z (omega arith)
 
--- the row of a subchannel's spots: each is small, and its position is where the point stands
+-- the carrier of a point, as a number, is where the point stands
 module _ {c : Setup} (v : Valid c) (slot s : ℕ) (hs : s < subchannels c) (m : ℕ) (hm : m < 48) where
   abbrev y : Spot
   y = spotOf c slot s m
@@ -151,24 +153,27 @@ module _ {c : Setup} (v : Valid c) (slot s : ℕ) (hs : s < subchannels c) (m : 
   lies : DataSpot (symbols c) (band c .used) (λ o u. isPilot c (slot * symbols c + o) u) y
   lies = slot-law v slot .lies s m hs hm
 
-  pub spot-number-lt : spotNumber y < 8192
-  spot-number-lt = omega (arith, symbols-range v, used-few v, lies .offset-lt, lies .used-lt)
-
-  pub spot-stands : spotPosition c (spotNumber y) ≡ standsAt c slot (pointNumber s m)
-  unfolding spotPosition standsAt usedPosition position carrierOf skip
-  spot-stands =
+  pub carrier-stands : carrierNumber (band c) y ≡ standsAt c slot (pointNumber s m)
+  unfolding standsAt usedPosition position
+  carrier-stands =
       let s-is : pointNumber s m / 48 ≡ s = omega arith in
       let m-is : pointNumber s m % 48 ≡ m = omega arith in
-      let u-is : spotNumber y % 2048 ≡ y .used = omega (arith, used-few v, lies .used-lt) in
-      rw (s-is, m-is, u-is) (omega (arith, row-start v (y .offset) (lies .offset-lt)))
+      rw (s-is, m-is) (omega (arith, row-start v (y .offset) (lies .offset-lt)))
 
   pub stands-below : standsAt c slot (pointNumber s m) < gridPoints c
   stands-below = stands-lt c v slot (pointNumber s m) (omega arith)
 
--- and so are all of a row
-module _ {c : Setup} (v : Valid c) (slot s : ℕ) (hs : s < subchannels c) (spots : List ℕ) (e : spots ≡ tabulate 48 (λ m. spotNumber (spotOf c slot s m))) where
-  pub spots-below : Below 48 8192 spots
-  spots-below m h = rw (entry-of spots 48 (λ k. spotNumber (spotOf c slot s k)) e m h) (spot-number-lt v slot s hs m h)
+-- a subchannel's row, from place `by` on and then from its start
+module _ {c : Setup} (v : Valid c) (slot s : ℕ) (hs : s < subchannels c) (row : List ℕ) (t : Turned (shiftOf c s) (λ m. carrierNumber (band c) (spotOf c slot s m)) row) (by : ℕ) (e : by ≡ shiftOf c s) where
+  row-at : (m : ℕ) → m < 48 → entry row ((m + by) % 48) ≡ standsAt c slot (pointNumber s m)
+  row-at m h = rw e (t m h ∙ carrier-stands v slot s hs m h)
 
-  pub spots-stand : tabulate 48 (λ m. spotPosition c (entry spots m)) ≡ tabulate 48 (λ m. standsAt c slot (pointNumber s m))
-  spots-stand = tabulate-as 48 _ _ (λ m h. ap (spotPosition c) (entry-of spots 48 (λ k. spotNumber (spotOf c slot s k)) e m h) ∙ spot-stands v slot s hs m h)
+  pub first-run : (m : ℕ) → m < 48 - by → entry row (by + m) ≡ standsAt c slot (pointNumber s m)
+  first-run m h = ap (entry row) (omega arith) ∙ row-at m (omega arith)
+
+  pub second-run : by < 48 → (m : ℕ) → m < by → entry row (0 + m) ≡ standsAt c slot (pointNumber s (48 - by + m))
+  second-run l m h = ap (entry row) (omega arith) ∙ row-at (48 - by + m) (omega arith)
+
+  pub row-within : (floats : ℕ) → floats ≡ 2 * gridPoints c → Within row floats
+  row-within floats long k h =
+      omega (arith, turned-below (shiftOf c s) (gridPoints c) _ row (shift-lt c s) t (λ m l. rw (carrier-stands v slot s hs m l) (stands-below v slot s hs m l)) k h)

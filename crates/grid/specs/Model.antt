@@ -1,14 +1,15 @@
 -- How fill and empty go about it, put by put: what the inner functions' contracts cite. No reader needs these to know what the calls do.
 use mathlib.Core.List.{List}
-use Prim.Native.Nat.{ℕ, zero, suc, _+_, _*_, _/_, _%_}
-use lib.Dec.{eqb, leb}
+use Prim.Native.Nat.{ℕ, zero, suc, _+_, _*_, _/_, _%_, _<_}
+use lib.Dec.{eqb}
 use lib.ListN.{set}
 use lib.Ieee.{Float}
 use Rattle.base.specs.Choice.{pick}
+use Rattle.base.specs.Steps.{entry}
 use Rattle.carriers.specs.Bin.{binPilotPlace}
 use Rattle.pusc_dl.specs.Cluster.{firstPilot, secondPilot}
 use Rattle.map.specs.declared.Setup.{Setup}
-use Rattle.map.specs.Mode.{byMode, width, symbols, band}
+use Rattle.map.specs.Mode.{byMode, width, symbols}
 use Rattle.grid.specs.declared.Point.{Point}
 use Rattle.grid.specs.declared.Comb.{Comb}
 use Rattle.grid.specs.Points.{pointAt}
@@ -24,9 +25,9 @@ unfoldable pub puts : (ℕ → ℕ) → (ℕ → Point) → ℕ → List Float �
 puts place source zero floats = floats
 puts place source (suc m) floats = putPoint (puts place source m floats) (place m) (source m)
 
--- where a spot stands that is given as one number, 2048 for each symbol
-unfoldable pub spotPosition : Setup → ℕ → ℕ
-spotPosition c x = x + band c .left + pick (leb (band c .turn) (x % 2048)) 1 0
+-- each of the 48 places of a row is a point of a buffer of so many floats
+abbrev pub Within : List ℕ → ℕ → Type 0
+Within row floats = (k : ℕ) → k < 48 → entry row k * 2 + 1 < floats
 
 -- the corners of the tiles; the middle symbol of a slot has none
 abbrev pub tileComb : ℕ → Comb

@@ -4,7 +4,7 @@ use map::Located;
 use map::Setup;
 ghost use mathlib.Core.Path.{_≡_};
 ghost use lib.Ieee.{Float};
-ghost use Prim.Native.Nat.{_+_, _*_, _%_, _<_};
+ghost use Prim.Native.Nat.{_+_, _*_, _%_, _<_, _≤_};
 ghost use lib.ListN.{length, replicate};
 ghost use Rattle.map.specs.Mode.{symbols, subchannels, band};
 ghost use Rattle.map.specs.Place.{located};
@@ -12,12 +12,11 @@ ghost use Rattle.map.specs.Valid.{Valid};
 ghost use Rattle.map.specs.Row.{TableOf};
 ghost use Rattle.base.specs.Answer.{number};
 ghost use Rattle.base.specs.Steps.{entry};
-ghost use Rattle.base.specs.Tabulate.{tabulate, Below};
 ghost use Rattle.grid.specs.Points.{zero32, pointAt};
 ghost use Rattle.grid.specs.Row.{gridPoints, position as Position, usedPosition};
 ghost use Rattle.grid.specs.Question.{slotNumber};
-ghost use Rattle.grid.specs.Grid.{standsAt, pointNumber, fillOf, emptyOf, seen, sightOf, lookOf};
-ghost use Rattle.grid.specs.Model.{putPoint, spotPosition, combOf, tileComb, pilotNumber, pilotRow, pilotRows, laidOne, takenOne};
+ghost use Rattle.grid.specs.Grid.{fillOf, emptyOf, seen, sightOf, lookOf};
+ghost use Rattle.grid.specs.Model.{putPoint, puts, Within, combOf, tileComb, pilotNumber, pilotRow, pilotRows, laidOne, takenOne};
 
 // A point, in-phase first.
 pub struct Point {
@@ -177,32 +176,17 @@ fn ground(c: Setup, slot: usize, p: Point, grid: &mut [f32])
     }
 }
 
-// Where in the grid the spots of a row stand.
-fn positions(c: Setup, spots: [u16; 48]) -> [u16; 48]
-    requires { ⌜ Valid c ⌝ }
-    requires { ⌜ Below 48 8192 spots ⌝ }
-    ensures { λ r. ⌜ r ≡ tabulate 48 (λ m. spotPosition c (entry spots m)) ⌝ }
+// The n points from `first` on laid on the places of a row from q on.
+fn lay_run(row: &[u16; 48], q: usize, n: usize, first: usize, points: &[f32], grid: &mut [f32])
+    requires { ⌜ (q + n ≤ 48) × (first < 65536) × ((first + n) * 2 ≤ length (now points)) × Within (now row) (length (now grid)) ⌝ }
+    ensures { λ _. ⌜ now (grid .exit) ≡ puts (λ m. entry (now (row .entry)) (q + m)) (λ m. pointAt (now (points .entry)) (first + m)) n (now (grid .entry)) ⌝ }
 {
-    let b = map::band(c);
-    let left = b.left as u16;
-    let turn = b.turn as u16;
-    let mut row = [0; 48];
     let mut m = 0;
-    while m < 48 {
-        let x = spots[m];
-        row[m] = x + left + (turn <= x % 2048) as u16;
+    while m < n {
+        let k = wide16(row[q + m]);
+        put_point(grid, k, point_at(points, first + m));
         m += 1;
     }
-    row
-}
-
-// Where in the grid the points of a subchannel stand.
-fn stands(c: Setup, slot: usize, subchannel: usize, table: &[u16; 188]) -> [u16; 48]
-    requires { ⌜ Valid c ⌝ }
-    requires { ⌜ (subchannel < subchannels c) × TableOf c (now table) ⌝ }
-    ensures { λ r. ⌜ r ≡ tabulate 48 (λ m. standsAt c slot (pointNumber subchannel m)) ⌝ }
-{
-    positions(c, map::spots(c, slot, subchannel, table))
 }
 
 // The points of one subchannel laid on the grid.
@@ -219,12 +203,22 @@ fn lay(
     requires { ⌜ TableOf c (now table) ⌝ }
     ensures { λ _. ⌜ now (grid .exit) ≡ laidOne c slot (now (points .entry)) subchannel (now (grid .entry)) ⌝ }
 {
-    let at = stands(c, slot, subchannel, table);
+    let row = map::carrier_row(c, slot, subchannel, table);
+    let by = map::shift(c, subchannel);
     let first = subchannel * 48;
+    lay_run(&row, by, 48 - by, first, points, grid);
+    lay_run(&row, 0, by, first + (48 - by), points, grid);
+}
+
+// The n points from `first` on taken off the places of a row from q on.
+fn take_run(row: &[u16; 48], q: usize, n: usize, first: usize, grid: &[f32], points: &mut [f32])
+    requires { ⌜ (q + n ≤ 48) × (first < 65536) × ((first + n) * 2 ≤ length (now points)) × Within (now row) (length (now grid)) ⌝ }
+    ensures { λ _. ⌜ now (points .exit) ≡ puts (λ m. first + m) (λ m. pointAt (now (grid .entry)) (entry (now (row .entry)) (q + m))) n (now (points .entry)) ⌝ }
+{
     let mut m = 0;
-    while m < 48 {
-        let n = wide16(at[m]);
-        put_point(grid, n, point_at(points, first + m));
+    while m < n {
+        let k = wide16(row[q + m]);
+        put_point(points, first + m, point_at(grid, k));
         m += 1;
     }
 }
@@ -243,14 +237,11 @@ fn take(
     requires { ⌜ TableOf c (now table) ⌝ }
     ensures { λ _. ⌜ now (points .exit) ≡ takenOne c slot (now (grid .entry)) subchannel (now (points .entry)) ⌝ }
 {
-    let at = stands(c, slot, subchannel, table);
+    let row = map::carrier_row(c, slot, subchannel, table);
+    let by = map::shift(c, subchannel);
     let first = subchannel * 48;
-    let mut m = 0;
-    while m < 48 {
-        let n = wide16(at[m]);
-        put_point(points, first + m, point_at(grid, n));
-        m += 1;
-    }
+    take_run(&row, by, 48 - by, first, grid, points);
+    take_run(&row, 0, by, first + (48 - by), grid, points);
 }
 
 // The number of the first of questions 1, 2, 3, 4, 8 and 9 that is answered no, or 0.

@@ -101,13 +101,10 @@ module _ {c : Setup} (v : Valid c) (n : ℕ) (e : n ≡ width c) (s m : ℕ) (hs
       let r = in-ofusc v q in
       (rw e (bin-width v (λ z. omega arith) (λ z. omega arith)), (rw e (r .cell-lt), rw e (rw (r .subchannels-are) at hs), hm))
 
-  pub ofusc-lt : c .mode ≡ 2 → spread.dataNumber n (c .cell) s m < 2048
-  ofusc-lt q =
+  pub ofusc-few : c .mode ≡ 2 → spread.dataNumber n (c .cell) s m < 65536
+  ofusc-few q =
       let a = ofusc-asks q in
       omega (arith, size (a .0), spread-law.law (a .0) (c .cell) .number-lt s m (a .1 .1) hm)
-
-  pub ofusc-few : c .mode ≡ 2 → spread.dataNumber n (c .cell) s m < 65536
-  ofusc-few q = omega (arith, ofusc-lt q)
 
 module _ {c : Setup} (v : Valid c) (n₀ : c .mode ≡ 0 → ⊥) (n₁ : c .mode ≡ 1 → ⊥) (n₂ : c .mode ≡ 2 → ⊥) (s m : ℕ) (hs : s < subchannels c) (hm : m < 48) where
   pub amc-asks : (c .cell < 2352) × (s < 65536) × (m < 48)

@@ -1,27 +1,35 @@
 -- A subchannel's row of spots, from the table and the rows of its mode. Assumes nothing.
-use mathlib.Core.Path.{_≡_, sym, ap, _∙_}
+use mathlib.Core.Path.{_≡_, sym, ap, ap₂, _∙_}
 use mathlib.Core.List.{List}
-use Prim.Native.Nat.{ℕ, _+_, _*_, _<_}
+use Prim.Native.Nat.{ℕ, _+_, _*_, _%_, _<_}
+use lib.Arith.{digits-lt}
+use lib.Dec.{lit<, eqb}
+use borrow.Author.Tests.{ne-eqb}
+use Rattle.base.proofs.Test.{cases}
 use native.Mathlib.Omega.{arith}
 use Rattle.base.specs.Steps.{entry}
-use Rattle.base.specs.Tabulate.{tabulate, Starts, Below}
-use Rattle.base.proofs.Tabulate.{starts-as, tabulate-as, entry-of}
+use Rattle.base.specs.Tabulate.{tabulate, Starts, Below, Turned}
+use Rattle.base.proofs.Tabulate.{starts-as, entry-of, turned-row, turned-by, turned-below}
 use Rattle.carriers.specs.declared.Spot.{Spot}
 use Rattle.ofusc.specs.Width.{Width}
-use Rattle.ofusc.proofs.Sequence.{size}
+use Rattle.ofusc.proofs.Sequence.{size, sum-lt, mask-lt}
+use Rattle.ofusc.proofs.Row.{number-in-group}
+use Rattle.pusc_ul.proofs.Row.{number-on-place}
 use Rattle.carriers.specs.Bin.{usedOfData, binSpot}
-use Rattle.carriers.specs.SpotNumber.{spotNumber}
+use Rattle.carriers.specs.Law.{DataSpot}
+use Rattle.carriers.specs.Row.{spotNumber, carrierNumber, carrierStep}
+use Rattle.carriers.proofs.Row.{step-carrier}
 use Rattle.map.specs.declared.Setup.{Setup}
-use Rattle.map.specs.Mode.{width, subchannels, spotOf}
+use Rattle.map.specs.Mode.{width, subchannels, symbols, band, isPilot, spotOf}
 use Rattle.map.specs.Valid.{Valid}
-use Rattle.map.specs.Row.{tableLength, tableEntry, TableOf}
-use Rattle.map.proofs.ByMode.{mode-0, mode-1, mode-2, mode-3, in-pusc-dl, in-pusc-ul, in-ofusc, in-amc, bin-width}
+use Rattle.map.specs.Row.{tableLength, tableEntry, TableOf, shiftOf}
+use Rattle.map.proofs.ByMode.{mode-0, mode-1, mode-2, mode-3, in-pusc-dl, in-pusc-ul, in-ofusc, in-amc, bin-width, symbols-range, used-few}
+use Rattle.map.proofs.Slot.{slot-law}
 use Rattle.pusc_dl.specs.Row as pusc-dl
 use Rattle.pusc_ul.specs.Row as pusc-ul
 use Rattle.ofusc.specs.Row as ofusc
 use Rattle.amc.specs.Map as amc
 use Rattle.pusc_dl.specs.Map as pusc-dl-map
-use Rattle.pusc_ul.specs.Map as pusc-ul-map
 use Rattle.ofusc.specs.Map as ofusc-map
 
 -- the table of a mode is the setup's
@@ -57,10 +65,11 @@ module _ (numbers : List ℕ) (f : ℕ → ℕ) (e : numbers ≡ tabulate 48 f) 
   pub row-below : ((m : ℕ) → m < 48 → f m < 2048) → Below 48 2048 numbers
   row-below lt m h = rw (entry-of numbers 48 f e m h) (lt m h)
 
-  pub bin-row : (slot : ℕ) (g : ℕ → Spot) → ((m : ℕ) → m < 48 → binSpot slot (f m) ≡ g m)
-      → tabulate 48 (λ m. usedOfData slot (entry numbers m)) ≡ tabulate 48 (λ m. spotNumber (g m))
-  bin-row slot g same =
-      tabulate-as 48 _ _ (λ m h. ap (usedOfData slot) (entry-of numbers 48 f e m h) ∙ omega arith ∙ ap spotNumber (same m h))
+  pub bin-row : (slot : ℕ) (used : List ℕ) → used ≡ tabulate 48 (λ k. usedOfData slot (entry numbers k))
+      → (by : ℕ) (g : ℕ → Spot) → ((m : ℕ) → m < 48 → binSpot slot (f ((m + by) % 48)) ≡ g m) → Turned by (λ m. spotNumber (g m)) used
+  bin-row slot used q by g same =
+      turned-row by (λ m. spotNumber (g m)) (λ k. usedOfData slot (entry numbers k)) used q
+      (λ m h. ap (usedOfData slot) (entry-of numbers 48 f e ((m + by) % 48) (omega arith)) ∙ omega arith ∙ ap spotNumber (same m h))
 
 -- what each mode's row asks, and that it is the setup's
 module _ {c : Setup} (v : Valid c) (s : ℕ) (hs : s < subchannels c) (table : List ℕ) (t : TableOf c table) where
@@ -81,21 +90,69 @@ module _ {c : Setup} (v : Valid c) (s : ℕ) (hs : s < subchannels c) (table : L
       ((r .cell-lt, omega (arith, r .subchannels-are, size (bin-width v n₀ n₁) .most)), from-table table (as-3 n₀ n₁ n₂) t)
 
 module _ (c : Setup) (slot s : ℕ) where
-  abbrev row : List ℕ
-  row = tabulate 48 (λ m. spotNumber (spotOf c slot s m))
+  shift-none : (m : ℕ) → m < 48 → shiftOf c s ≡ 0 → (m + shiftOf c s) % 48 ≡ m
+  shift-none m h e = omega arith
 
-  pub row-0 : c .mode ≡ 0 → tabulate 48 (λ m. spotNumber (pusc-dl-map.spotOf (c .cell) s m)) ≡ row
-  unfolding spotOf
-  row-0 e = tabulate-as 48 _ _ (λ m h. ap spotNumber (mode-0 _ _ _ _ _ e))
+  pub row-0 : c .mode ≡ 0 → (row : List ℕ) → row ≡ tabulate 48 (λ m. spotNumber (pusc-dl-map.spotOf (c .cell) s m))
+      → Turned (shiftOf c s) (λ m. spotNumber (spotOf c slot s m)) row
+  unfolding spotOf shiftOf
+  row-0 q row e =
+      turned-row (shiftOf c s) _ (λ m. spotNumber (pusc-dl-map.spotOf (c .cell) s m)) row e
+      (λ m h. ap (λ (k : ℕ). spotNumber (pusc-dl-map.spotOf (c .cell) s k)) (shift-none m h (sym (mode-0 _ _ _ _ _ q))) ∙ ap spotNumber (mode-0 _ _ _ _ _ q))
 
-  pub row-1 : c .mode ≡ 1 → tabulate 48 (λ m. spotNumber (pusc-ul-map.spotOf (c .cell) s m)) ≡ row
-  unfolding spotOf
-  row-1 e = tabulate-as 48 _ _ (λ m h. ap spotNumber (mode-1 _ _ _ _ _ e))
+  pub row-1 : c .mode ≡ 1 → (row : List ℕ) → row ≡ tabulate 48 (pusc-ul.placeNumber (c .cell) s)
+      → Turned (shiftOf c s) (λ m. carrierNumber (band c) (spotOf c slot s m)) row
+  unfolding spotOf shiftOf band
+  row-1 q row e =
+      turned-row (shiftOf c s) _ (pusc-ul.placeNumber (c .cell) s) row e
+      (λ m h. ap (λ (by : ℕ). pusc-ul.placeNumber (c .cell) s ((m + by) % 48)) (sym (mode-1 _ _ _ _ _ q))
+      ∙ number-on-place (c .cell) s m ∙ ap₂ carrierNumber (mode-1 _ _ _ _ _ q) (mode-1 _ _ _ _ _ q))
 
-  pub spot-2 : c .mode ≡ 2 → (m : ℕ) → m < 48 → binSpot slot (ofusc-map.dataNumber (width c) (c .cell) s m) ≡ spotOf c slot s m
-  unfolding spotOf
-  spot-2 e m h = mode-2 _ _ _ _ _ e
+  pub spot-2 : c .mode ≡ 2 → (m : ℕ) → m < 48 → binSpot slot (ofusc.groupNumber (width c) (c .cell) s ((m + shiftOf c s) % 48)) ≡ spotOf c slot s m
+  unfolding spotOf shiftOf
+  spot-2 q m h =
+      ap (λ (by : ℕ). binSpot slot (ofusc.groupNumber (width c) (c .cell) s ((m + by) % 48))) (sym (mode-2 _ _ _ _ _ q))
+      ∙ ap (binSpot slot) (number-in-group (width c) (c .cell) s m) ∙ mode-2 _ _ _ _ _ q
 
-  pub spot-3 : (c .mode ≡ 0 → ⊥) → (c .mode ≡ 1 → ⊥) → (c .mode ≡ 2 → ⊥) → (m : ℕ) → m < 48 → binSpot slot (amc.dataNumber (c .cell) s m) ≡ spotOf c slot s m
-  unfolding spotOf
-  spot-3 n₀ n₁ n₂ m h = mode-3 _ _ _ _ _ n₀ n₁ n₂
+  pub spot-3 : (c .mode ≡ 0 → ⊥) → (c .mode ≡ 1 → ⊥) → (c .mode ≡ 2 → ⊥) → (m : ℕ) → m < 48 → binSpot slot (amc.dataNumber (c .cell) s ((m + shiftOf c s) % 48)) ≡ spotOf c slot s m
+  unfolding spotOf shiftOf
+  spot-3 n₀ n₁ n₂ m h =
+      ap (λ (k : ℕ). binSpot slot (amc.dataNumber (c .cell) s k)) (shift-none m h (sym (mode-3 _ _ _ _ _ n₀ n₁ n₂))) ∙ mode-3 _ _ _ _ _ n₀ n₁ n₂
+
+pub group-number-lt : {n : ℕ} → Width n → (cell s k : ℕ) → s < n → k < 48 → ofusc.groupNumber n cell s k < 2048
+unfolding ofusc.groupNumber
+group-number-lt {n} w cell s k hs hk = omega (arith, digits-lt hk (sum-lt w s (ofusc-map.mask n cell k) hs (mask-lt w cell k)), size w .most)
+
+-- the shift is below 48
+pub shift-lt : (c : Setup) (s : ℕ) → shiftOf c s < 48
+unfolding shiftOf
+shift-lt c s = cases (eqb (c .mode) 0) (λ e. rw e (lit< tt)) (λ e. rw e (cases (eqb (c .mode) 1) (λ e₁. rw e₁ (omega arith)) (λ e₁. rw e₁ (cases (eqb (c .mode) 2) (λ e₂. rw e₂ (omega arith)) (λ e₂. rw e₂ (lit< tt))))))
+
+-- a subchannel's spots are small, so that a row of them becomes a row of carriers
+module _ {c : Setup} (v : Valid c) (slot s : ℕ) (hs : s < subchannels c) (row : List ℕ) (t : Turned (shiftOf c s) (λ m. spotNumber (spotOf c slot s m)) row) where
+  lies : (m : ℕ) → m < 48 → DataSpot (symbols c) (band c .used) (λ o u. isPilot c (slot * symbols c + o) u) (spotOf c slot s m)
+  lies m h = slot-law v slot .lies s m hs h
+
+  pub spots-below : Below 48 8192 row
+  spots-below =
+      turned-below (shiftOf c s) 8192 _ row (shift-lt c s) t
+      (λ m h. omega (arith, symbols-range v, used-few v, lies m h .offset-lt, lies m h .used-lt))
+
+  pub carriers-of : (row′ : List ℕ) → row′ ≡ tabulate 48 (λ k. carrierStep (band c) (entry row k)) → Turned (shiftOf c s) (λ m. carrierNumber (band c) (spotOf c slot s m)) row′
+  carriers-of row′ e m h =
+      turned-by (shiftOf c s) (λ m. spotNumber (spotOf c slot s m)) (carrierStep (band c)) row row′ t e m h
+      ∙ step-carrier (band c) (spotOf c slot s m) (omega (arith, used-few v, lies m h .used-lt))
+
+-- the shift by the mode
+module _ (c : Setup) (s : ℕ) where
+  pub shift-1 : c .mode ≡ 1 → 13 * s % 48 ≡ shiftOf c s
+  unfolding shiftOf
+  shift-1 q = mode-1 _ _ _ _ _ q
+
+  pub shift-2 : c .mode ≡ 2 → 23 * s % 48 ≡ shiftOf c s
+  unfolding shiftOf
+  shift-2 q = mode-2 _ _ _ _ _ q
+
+  pub shift-other : (c .mode ≡ 1 → ⊥) → (c .mode ≡ 2 → ⊥) → 0 ≡ shiftOf c s
+  unfolding shiftOf
+  shift-other n₁ n₂ = rw (ne-eqb (c .mode) 1 n₁, ne-eqb (c .mode) 2 n₂) (cases (eqb (c .mode) 0) (λ e. rw e) (λ e. rw e))

@@ -1,6 +1,6 @@
--- How a subchannel's spots are found fast. No reader needs this to know what the calls do.
+-- How a subchannel's carriers are found fast. No reader needs this to know what the calls do.
 use mathlib.Core.List.{List}
-use Prim.Native.Nat.{ℕ}
+use Prim.Native.Nat.{ℕ, _*_, _%_}
 use Rattle.base.specs.Tabulate.{Starts}
 use Rattle.map.specs.declared.Setup.{Setup}
 use Rattle.map.specs.Mode.{byMode, width}
@@ -23,3 +23,7 @@ tableEntry c i =
 
 abbrev pub TableOf : Setup → List ℕ → Type 0
 TableOf c table = Starts (tableLength c) (tableEntry c) table
+
+-- how far a subchannel's row is shifted round: by data place in PUSC uplink, by group in optional FUSC
+unfoldable pub shiftOf : Setup → ℕ → ℕ
+shiftOf c s = byMode (c .mode) 0 (13 * s % 48) (23 * s % 48) 0

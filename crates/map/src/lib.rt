@@ -6,14 +6,14 @@ ghost use mathlib.Core.Path.{_≡_};
 ghost use mathlib.Core.Bool.{false};
 ghost use Prim.Native.Nat.{_*_, _<_, _≤_};
 ghost use Rattle.base.specs.Answer.{accepted};
-ghost use Rattle.base.specs.Tabulate.{tabulate};
+ghost use Rattle.base.specs.Tabulate.{Turned};
 ghost use Rattle.carriers.specs.Bin.{binSpot};
-ghost use Rattle.carriers.specs.SpotNumber.{spotNumber};
+ghost use Rattle.carriers.specs.Row.{spotNumber, carrierNumber};
 ghost use Rattle.map.specs.Mode.{width as Width, cells as Cells, subchannels as Subchannels, symbols as Symbols, band as BandOf, isPilot, spotOf, addressOf};
 ghost use Rattle.map.specs.Question.{isFourSizes, isSize, setupNumber};
 ghost use Rattle.map.specs.Place.{placed, placeAt, placeOf, located, contentOf, locateOf};
 ghost use Rattle.map.specs.Valid.{Valid};
-ghost use Rattle.map.specs.Row.{TableOf};
+ghost use Rattle.map.specs.Row.{TableOf, shiftOf};
 
 // What a zone fixes: mode, FFT size and cell.
 pub struct Setup {
@@ -193,22 +193,46 @@ pub fn spot(c: Setup, slot: usize, subchannel: usize, index: usize) -> Spot
     bin_spot(slot, amc::data_number(c.cell, subchannel, index))
 }
 
-// Where the points of a subchannel lie in its slot, as numbers by index.
-pub fn spots(c: Setup, slot: usize, subchannel: usize, table: &[u16; 188]) -> [u16; 48]
+// How far the row of a subchannel's carriers is shifted round.
+pub fn shift(c: Setup, subchannel: usize) -> usize
+    requires { ⌜ subchannel < 65536 ⌝ }
+    ensures { λ r. ⌜ (r ≡ shiftOf c subchannel) × (r < 48) ⌝ }
+{
+    if c.mode == 1 {
+        return 13 * subchannel % 48;
+    }
+    if c.mode == 2 {
+        return 23 * subchannel % 48;
+    }
+    0
+}
+
+// Where the points of a subchannel lie in its slot, as numbers; not in PUSC uplink.
+fn spots(c: Setup, slot: usize, subchannel: usize, table: &[u16; 188]) -> [u16; 48]
     requires { ⌜ Valid c ⌝ }
-    requires { ⌜ (subchannel < Subchannels c) × TableOf c (now table) ⌝ }
-    ensures { λ r. ⌜ r ≡ tabulate 48 (λ m. spotNumber (spotOf c slot subchannel m)) ⌝ }
+    requires { ⌜ (c .mode ≡ 1 → ⊥) × (subchannel < Subchannels c) × TableOf c (now table) ⌝ }
+    ensures { λ r. ⌜ Turned (shiftOf c subchannel) (λ m. spotNumber (spotOf c slot subchannel m)) r ⌝ }
 {
     if c.mode == 0 {
         return pusc_dl::spots(c.cell, subchannel, table);
-    }
-    if c.mode == 1 {
-        return pusc_ul::spots(c.cell, subchannel, table);
     }
     if c.mode == 2 {
         return carriers::used_numbers(slot, ofusc::numbers(width(c), c.cell, subchannel, table));
     }
     carriers::used_numbers(slot, amc::numbers(c.cell, subchannel, table))
+}
+
+// The carriers of a subchannel's points as numbers, 2048 for each symbol of the slot.
+pub fn carrier_row(c: Setup, slot: usize, subchannel: usize, table: &[u16; 188]) -> [u16; 48]
+    requires { ⌜ Valid c ⌝ }
+    requires { ⌜ (subchannel < Subchannels c) × TableOf c (now table) ⌝ }
+    ensures { λ r. ⌜ Turned (shiftOf c subchannel) (λ m. carrierNumber (BandOf c) (spotOf c slot subchannel m)) r ⌝ }
+{
+    if c.mode == 1 {
+        return pusc_ul::carrier_row(c.cell, subchannel, table);
+    }
+    let row = spots(c, slot, subchannel, table);
+    carriers::carrier_row(band(c), row)
 }
 
 pub fn is_pilot(c: Setup, symbol: usize, used: usize) -> bool

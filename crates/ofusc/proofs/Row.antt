@@ -1,16 +1,12 @@
--- A row of data numbers: the subchannel is added to what the cell fixes, and the groups are shifted round. Assumes nothing.
+-- A row of data numbers: the subchannel is added to what the cell fixes. Assumes nothing.
 use mathlib.Core.Path.{_≡_, ap, ap₂, _∙_, subst⁻¹}
-use mathlib.Core.List.{List}
 use Prim.Native.Nat.{ℕ, _+_, _*_, _%_, _^_, _<_}
 use native.Mathlib.Omega.{arith}
 use lib.Arith.{digits-lt}
 use lib.Bits.{bitXor, xor-block, xor-zero-r, xor-comm}
-use Rattle.base.specs.Steps.{entry, rotate}
-use Rattle.base.specs.Tabulate.{tabulate, Starts}
-use Rattle.base.proofs.Tabulate.{entry-of}
 use Rattle.ofusc.specs.Width.{Width}
 use Rattle.ofusc.specs.Map.{groupOf, mask, dataNumber}
-use Rattle.ofusc.specs.Row.{cellNumber}
+use Rattle.ofusc.specs.Row.{cellNumber, groupNumber}
 use Rattle.ofusc.proofs.Sequence.{Size, size, mask-lt}
 
 module _ {n : ℕ} (w : Width n) (cell : ℕ) where
@@ -19,8 +15,8 @@ module _ {n : ℕ} (w : Width n) (cell : ℕ) where
   cell-number-lt k h = omega (arith, digits-lt h (mask-lt w cell k), size w .most)
 
   -- N is a power of two, so the element is the number's low bits
-  pub with-subchannel : (s k : ℕ) → s < n → bitXor (cellNumber n cell k) s ≡ k * n + bitXor s (mask n cell k)
-  unfolding cellNumber
+  pub with-subchannel : (s k : ℕ) → s < n → bitXor (cellNumber n cell k) s ≡ groupNumber n cell s k
+  unfolding cellNumber groupNumber
   with-subchannel s k h =
       subst⁻¹ (λ (p : ℕ). mask n cell k < p → s < p → bitXor (k * p + mask n cell k) s ≡ k * p + bitXor s (mask n cell k)) (size w .is)
       (λ lm ls. ap (bitXor (k * 2 ^ size w .bits + mask n cell k)) (omega arith)
@@ -28,10 +24,7 @@ module _ {n : ℕ} (w : Width n) (cell : ℕ) where
       ∙ ap₂ (λ (a b : ℕ). a * 2 ^ size w .bits + b) (xor-zero-r k) (xor-comm (mask n cell k) s))
       (mask-lt w cell k) h
 
--- group (m+23s) mod 48 is index m
-pub row-by-index : (n cell s : ℕ) (row : List ℕ) → row ≡ tabulate 48 (λ k. k * n + bitXor s (mask n cell k))
-    → (m : ℕ) → m < 48 → entry row (rotate 48 (23 * s % 48) m) ≡ dataNumber n cell s m
-unfolding dataNumber groupOf
-row-by-index n cell s row e m h =
-    entry-of row 48 (λ k. k * n + bitXor s (mask n cell k)) e ((m + 23 * s % 48) % 48) (omega arith)
-    ∙ ap (λ (k : ℕ). k * n + bitXor s (mask n cell k)) (omega arith)
+-- index m is in group (m+23s) mod 48
+pub number-in-group : (n cell s m : ℕ) → groupNumber n cell s ((m + 23 * s % 48) % 48) ≡ dataNumber n cell s m
+unfolding dataNumber groupOf groupNumber
+number-in-group n cell s m = ap (λ (k : ℕ). k * n + bitXor s (mask n cell k)) (omega arith)

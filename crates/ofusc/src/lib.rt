@@ -1,5 +1,4 @@
 // Optional FUSC: the field's sequences and the group permutation.
-use base::cyclic_shift;
 use base::unrotate;
 use base::wide;
 use carriers::Address;
@@ -9,8 +8,7 @@ ghost use Rattle.base.specs.Steps.{entry};
 ghost use Rattle.base.specs.Tabulate.{tabulate, Starts};
 ghost use Rattle.ofusc.specs.Width.{Width};
 ghost use Rattle.ofusc.specs.Map.{groupOf, term as Term, mask as Mask, dataNumber, addressOf};
-ghost use Rattle.ofusc.specs.Row.{cellNumber};
-ghost use lib.Bits.{bitXor};
+ghost use Rattle.ofusc.specs.Row.{cellNumber, groupNumber};
 
 // The basic permutation sequences of document 002, table 6. The row of N, which has N-1 entries, starts at place N.
 const SEQUENCE_1: [u8; 63] = [
@@ -236,11 +234,11 @@ pub fn table(n: usize, cell: usize) -> [u16; 188]
 }
 
 // The data numbers of a subchannel, by group.
-fn group_numbers(n: usize, cell: usize, subchannel: usize, table: &[u16; 188]) -> [u16; 48]
+pub fn numbers(n: usize, cell: usize, subchannel: usize, table: &[u16; 188]) -> [u16; 48]
     requires { ⌜ Width n ⌝ }
     requires { ⌜ subchannel < n ⌝ }
     requires { ⌜ Starts 48 (cellNumber n cell) (now table) ⌝ }
-    ensures { λ r. ⌜ r ≡ tabulate 48 (λ k. k * n + bitXor subchannel (Mask n cell k)) ⌝ }
+    ensures { λ r. ⌜ r ≡ tabulate 48 (groupNumber n cell subchannel) ⌝ }
 {
     let s = subchannel as u16;
     let mut row = [0; 48];
@@ -250,17 +248,4 @@ fn group_numbers(n: usize, cell: usize, subchannel: usize, table: &[u16; 188]) -
         k += 1;
     }
     row
-}
-
-// The data numbers of a subchannel, by index.
-pub fn numbers(n: usize, cell: usize, subchannel: usize, table: &[u16; 188]) -> [u16; 48]
-    requires { ⌜ Width n ⌝ }
-    requires { ⌜ subchannel < n ⌝ }
-    requires { ⌜ Starts 48 (cellNumber n cell) (now table) ⌝ }
-    ensures { λ r. ⌜ r ≡ tabulate 48 (dataNumber n cell subchannel) ⌝ }
-{
-    cyclic_shift(
-        group_numbers(n, cell, subchannel, table),
-        23 * subchannel % 48,
-    )
 }

@@ -4,6 +4,7 @@ use base::skip;
 use base::unrotate;
 use base::unskip;
 use base::wide;
+use base::wide16;
 use carriers::Address;
 use carriers::Spot;
 ghost use mathlib.Core.Path.{_≡_};
@@ -13,7 +14,7 @@ ghost use lib.Dec.{eqb};
 ghost use Rattle.base.specs.Choice.{pick};
 ghost use Rattle.base.specs.Steps.{entry};
 ghost use Rattle.base.specs.Tabulate.{tabulate, Starts};
-ghost use Rattle.carriers.specs.SpotNumber.{spotNumber};
+ghost use Rattle.carriers.specs.Row.{spotNumber};
 ghost use Rattle.pusc_dl.specs.Table.{renumberingInverse, base12, base8};
 ghost use Rattle.pusc_dl.specs.Cluster as cluster;
 ghost use Rattle.pusc_dl.specs.Cluster.{firstPilot, secondPilot, isClusterPilot, clusterPlace, clusterData};
@@ -529,13 +530,6 @@ pub fn table(cell: usize) -> [u16; 188]
     table
 }
 
-// An entry of the table, as a number to count with.
-fn wide_16(x: u16) -> usize
-    ensures { λ r. ⌜ (r ≡ x) × (r < 65536) ⌝ }
-{
-    x as usize
-}
-
 // Where the base of a group's size starts in the table.
 fn base_start(g: usize) -> usize
     ensures { λ r. ⌜ (r ≡ baseStart g) × (r < 157) ⌝ }
@@ -562,7 +556,7 @@ fn spot_numbers(start: usize, d: usize, table: &[u16; 188]) -> SpotNumbers
     requires { ⌜ (start + d / 12 < 120) × (entry (now table) (start + d / 12) < 1680) ⌝ }
     ensures { λ r. ⌜ (r .first ≡ entry (now (table .entry)) (start + d / 12) + clusterPlace 0 (d % 12)) × (r .second ≡ 2048 + (entry (now (table .entry)) (start + d / 12) + clusterPlace 1 (d % 12))) ⌝ }
 {
-    let cluster = wide_16(table[start + d / 12]);
+    let cluster = wide16(table[start + d / 12]);
     let r = d % 12;
     SpotNumbers {
         first: (cluster + cluster_place(0, r)) as u16,
@@ -583,7 +577,7 @@ fn group_spots(cell: usize, g: usize, s: usize, table: &[u16; 188]) -> [u16; 48]
     let mut k = 0;
     while k < 24 {
         let n = mod_24(k + turn);
-        let both = spot_numbers(start, n * size + wide_16(table[base + n]), table);
+        let both = spot_numbers(start, n * size + wide16(table[base + n]), table);
         row[k] = both.first;
         row[k + 24] = both.second;
         k += 1;

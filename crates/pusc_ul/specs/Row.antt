@@ -1,6 +1,7 @@
--- How a row of spots is found fast. No reader needs this to know what the calls do.
+-- How a row of carriers is found fast. No reader needs this to know what the calls do.
 use Prim.Native.Nat.{ℕ, _+_, _*_, _%_}
 use Rattle.base.specs.Steps.{entry}
+use Rattle.carriers.specs.Band.{puscBand, carrierOf}
 use Rattle.pusc_ul.specs.Table.{tilePermutation}
 use Rattle.pusc_ul.specs.Tile.{tileOf, placeSymbol, placeTile, placeCarrier}
 
@@ -8,6 +9,6 @@ use Rattle.pusc_ul.specs.Tile.{tileOf, placeSymbol, placeTile, placeCarr
 unfoldable pub tableEntry : ℕ → ℕ → ℕ
 tableEntry cell i = (entry tilePermutation (i % 70) + cell) % 70 * 4
 
--- the spot on data place q of a subchannel, as a number
+-- the carrier of data place q of a subchannel, 2048 for each symbol of the slot
 unfoldable pub placeNumber : ℕ → ℕ → ℕ → ℕ
-placeNumber cell subchannel q = placeSymbol q * 2048 + (tileOf cell subchannel (placeTile q) * 4 + placeCarrier q)
+placeNumber cell subchannel q = placeSymbol q * 2048 + carrierOf puscBand (tileOf cell subchannel (placeTile q) * 4 + placeCarrier q)

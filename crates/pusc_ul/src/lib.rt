@@ -1,13 +1,12 @@
 // PUSC uplink: tiles, their permutation, and the data places of a slot.
-use base::cyclic_shift;
 use base::wide;
 use carriers::Address;
 use carriers::Spot;
 ghost use mathlib.Core.Path.{_≡_};
 ghost use mathlib.Core.Bool.{false};
-ghost use Prim.Native.Nat.{_<_};
+ghost use Prim.Native.Nat.{_*_, _<_};
 ghost use Rattle.base.specs.Tabulate.{tabulate, Starts};
-ghost use Rattle.carriers.specs.SpotNumber.{spotNumber};
+ghost use Rattle.carriers.specs.Band.{puscBand, carrierOf};
 ghost use Rattle.pusc_ul.specs.Tile.{tileOf, tileSubchannel, isTilePilot, placeSymbol, placeTile, placeCarrier, dataPlace};
 ghost use Rattle.pusc_ul.specs.Map.{spotOf, addressOf};
 ghost use Rattle.pusc_ul.specs.Row.{tableEntry, placeNumber};
@@ -159,109 +158,6 @@ const TILE_PERMUTATION_INVERSE: [u8; 70] = [
     34,
 ];
 
-// The tile t of each data place, and what the place adds to the entry of the table of a cell for that tile.
-const DATA_TILES: [u8; 48] = [
-    0,
-    0,
-    1,
-    1,
-    2,
-    2,
-    3,
-    3,
-    4,
-    4,
-    5,
-    5,
-    0,
-    0,
-    0,
-    0,
-    1,
-    1,
-    1,
-    1,
-    2,
-    2,
-    2,
-    2,
-    3,
-    3,
-    3,
-    3,
-    4,
-    4,
-    4,
-    4,
-    5,
-    5,
-    5,
-    5,
-    0,
-    0,
-    1,
-    1,
-    2,
-    2,
-    3,
-    3,
-    4,
-    4,
-    5,
-    5,
-];
-
-const DATA_OFFSETS: [u16; 48] = [
-    1,
-    2,
-    281,
-    282,
-    561,
-    562,
-    841,
-    842,
-    1121,
-    1122,
-    1401,
-    1402,
-    2048,
-    2049,
-    2050,
-    2051,
-    2328,
-    2329,
-    2330,
-    2331,
-    2608,
-    2609,
-    2610,
-    2611,
-    2888,
-    2889,
-    2890,
-    2891,
-    3168,
-    3169,
-    3170,
-    3171,
-    3448,
-    3449,
-    3450,
-    3451,
-    4097,
-    4098,
-    4377,
-    4378,
-    4657,
-    4658,
-    4937,
-    4938,
-    5217,
-    5218,
-    5497,
-    5498,
-];
-
 // Tile t of a subchannel.
 fn tile(cell: usize, subchannel: usize, t: usize) -> usize
     requires { ⌜ (cell < 70) × (subchannel < 70) × (t < 6) ⌝ }
@@ -383,26 +279,33 @@ pub fn table(cell: usize) -> [u16; 188]
     table
 }
 
-// The spots of a subchannel as numbers, by data place.
-fn data_places(cell: usize, subchannel: usize, table: &[u16; 188]) -> [u16; 48]
+// The carrier on which the seventy tiles start that tile t is one of.
+fn seventy_start(t: usize) -> u16
+    requires { ⌜ t < 6 ⌝ }
+    ensures { λ r. ⌜ (r ≡ carrierOf puscBand (t * 280)) × (r < 2048) ⌝ }
+{
+    carriers::carrier(carriers::pusc_band(), t * 280) as u16
+}
+
+// The carriers of a subchannel as numbers, by data place: tile after tile, its inner carriers in the first and the last
+// symbol, all four in the middle one.
+pub fn carrier_row(cell: usize, subchannel: usize, table: &[u16; 188]) -> [u16; 48]
     requires { ⌜ (cell < 70) × (subchannel < 70) × Starts 76 (tableEntry cell) (now table) ⌝ }
     ensures { λ r. ⌜ r ≡ tabulate 48 (placeNumber cell subchannel) ⌝ }
 {
-    let tiles = DATA_TILES;
-    let offsets = DATA_OFFSETS;
     let mut row = [0; 48];
-    let mut q = 0;
-    while q < 48 {
-        row[q] = table[subchannel + wide(tiles[q])] + offsets[q];
-        q += 1;
+    let mut t = 0;
+    while t < 6 {
+        let first = table[subchannel + t] + seventy_start(t);
+        row[t * 2] = first + 1;
+        row[t * 2 + 1] = first + 2;
+        row[t * 4 + 12] = first + 2048;
+        row[t * 4 + 13] = first + 2049;
+        row[t * 4 + 14] = first + 2050;
+        row[t * 4 + 15] = first + 2051;
+        row[t * 2 + 36] = first + 4097;
+        row[t * 2 + 37] = first + 4098;
+        t += 1;
     }
     row
-}
-
-// The spots of a subchannel as numbers, by index.
-pub fn spots(cell: usize, subchannel: usize, table: &[u16; 188]) -> [u16; 48]
-    requires { ⌜ (cell < 70) × (subchannel < 70) × Starts 76 (tableEntry cell) (now table) ⌝ }
-    ensures { λ r. ⌜ r ≡ tabulate 48 (λ m. spotNumber (spotOf cell subchannel m)) ⌝ }
-{
-    cyclic_shift(data_places(cell, subchannel, table), 13 * subchannel % 48)
 }

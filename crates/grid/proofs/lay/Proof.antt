@@ -1,86 +1,65 @@
 -- `grid::lay` meets its contract. Assumes nothing.
-use mathlib.Core.Path.{refl, ap, ap₂, _∙_}
-use Prim.Native.Nat.{_-_}
+use mathlib.Core.Path.{refl, ap, _∙_}
+use Prim.Native.Nat.{ℕ, _-_}
 use native.Mathlib.Omega.{arith}
-use borrow.Author.Needs.{needs}
-use Rattle.base.specs.Steps.{entry}
-use Rattle.base.proofs.Tabulate.{entry-of}
+use lib.ListN.{length}
 use Rattle.map.proofs.ByMode.{subchannels-few}
 use Rattle.grid.specs.Points.{pointAt}
 use Rattle.grid.specs.Grid.{standsAt, pointNumber}
-use Rattle.grid.specs.Model.{putPoint, laidOne}
-use Rattle.grid.proofs.Points.{puts-none}
-use Rattle.grid.proofs.Slot.{stands-below}
-use Rattle.grid.proofs.Copy.{CopyTurn, copy-long, copy-next, copy-done, point-room, grid-room}
+use Rattle.grid.specs.Model.{puts, laidOne}
+use Rattle.grid.proofs.Points.{length-puts}
+use Rattle.grid.proofs.Slot.{first-run, second-run, row-within}
+use Rattle.grid.proofs.Copy.{two-runs}
+use borrow.Author.Needs.{needs}
 use Rattle.grid.proofs.lay.Statement.{statement}
 use Rattle.grid.proofs.lay.Tie as tie
 
-abbrev Inv-loop : tie.InvT-loop
-Inv-loop slot subchannel table points grid₀ at first m₀ grid m = CopyTurn (entry at) (λ i. pointAt points (pointNumber subchannel i)) grid₀ grid m
+carrier-row-requires : tie.Need-carrier-row-requires
+carrier-row-requires c κs = (c .before .before .pre .0, (c .before .before .pre .1 .0 .0, c .before .before .pre .1 .1))
 
-abbrev μ-loop : tie.MeasureT-loop
-μ-loop slot subchannel table points grid₀ at first m₀ grid m = 48 - m
+shift-requires : tie.Need-shift-requires
+shift-requires c κs = omega (arith, c .before .before .before .pre .1 .0 .0, subchannels-few (c .before .before .before .pre .0))
 
-stands-requires : tie.Need-stands-requires Inv-loop μ-loop
-stands-requires c κs = (c .before .before .pre .0, (c .before .before .pre .1 .0 .0, c .before .before .pre .1 .1))
+mul-first : tie.Need-mul-first
+mul-first c = omega (arith, c .before .before .before .before .pre .1 .0 .0, subchannels-few (c .before .before .before .before .pre .0))
 
-mul-first : tie.Need-mul-first Inv-loop μ-loop
-mul-first c = omega (arith, c .before .before .before .pre .1 .0 .0, subchannels-few (c .before .before .before .pre .0))
+sub-lay-run : tie.Need-sub-lay-run
+sub-lay-run c = omega (arith, c .before .shift .ensures .1)
 
-loop-holds : tie.Need-loop-holds Inv-loop μ-loop
-loop-holds c = record { at-most = omega arith; so-far = puts-none _ _ _ }
+lay-run-requires : tie.Need-lay-run-requires
+lay-run-requires c κs = (omega (arith, c .before .before .shift .ensures .1), omega (arith, c .before .before .before .before .before .before .pre .1 .0 .0, subchannels-few (c .before .before .before .before .before .before .pre .0)), omega (arith, c .before .before .before .before .before .before .pre .1 .0 .0, c .before .before .before .before .before .before .pre .1 .0 .1), row-within (c .before .before .before .before .before .before .pre .0) _ _ (c .before .before .before .before .before .before .pre .1 .0 .0) (c .before .before .before .carrier-row .result) (c .before .before .before .carrier-row .ensures) (c .before .before .shift .result) (c .before .before .shift .ensures .0) _ (c .before .before .before .before .before .before .pre .1 .0 .2))
 
-mul-wide16 : tie.Need-mul-wide16 Inv-loop μ-loop
-mul-wide16 c = search needs
+sub-lay-run-2 : tie.Need-sub-lay-run-2
+sub-lay-run-2 c = omega (arith, c .before .before .before .before .before .before .shift .ensures .1)
 
-array-read-wide16 : tie.Need-array-read-wide16 Inv-loop μ-loop
-array-read-wide16 c = search needs
+add-lay-run : tie.Need-add-lay-run
+add-lay-run c = omega (arith, c .before .before .before .before .before .before .before .before .before .before .pre .1 .0 .0, subchannels-few (c .before .before .before .before .before .before .before .before .before .before .pre .0))
 
-wide16-requires : tie.Need-wide16-requires Inv-loop μ-loop
-wide16-requires c κs = search needs
+lay-run-requires-2 : tie.Need-lay-run-requires-2
+lay-run-requires-2 c κs = (omega (arith, c .before .before .before .before .before .before .before .shift .ensures .1), omega (arith, c .before .before .before .before .before .before .before .before .before .before .before .pre .1 .0 .0, subchannels-few (c .before .before .before .before .before .before .before .before .before .before .before .pre .0)), omega (arith, c .before .before .before .before .before .before .before .before .before .before .before .pre .1 .0 .0, c .before .before .before .before .before .before .before .before .before .before .before .pre .1 .0 .1, c .before .before .before .before .before .before .before .shift .ensures .1), row-within (c .before .before .before .before .before .before .before .before .before .before .before .pre .0) _ _ (c .before .before .before .before .before .before .before .before .before .before .before .pre .1 .0 .0) (c .before .before .before .before .before .before .before .before .carrier-row .result) (c .before .before .before .before .before .before .before .before .carrier-row .ensures) (c .before .before .before .before .before .before .before .shift .result) (c .before .before .before .before .before .before .before .shift .ensures .0) _ (ap length (c .before .before .before .before .lay-run .ensures) ∙ length-puts _ _ _ _ ∙ c .before .before .before .before .before .before .before .before .before .before .before .pre .1 .0 .2))
 
-add-point-at : tie.Need-add-point-at Inv-loop μ-loop
-add-point-at c = omega (arith, c .before .before .before .before .before .before .before .pre .1 .0 .0, subchannels-few (c .before .before .before .before .before .before .before .pre .0), c .before .before .loop-test .taken)
+same-length : tie.Need-same-length
+same-length c = ap length (c .before .before .lay-run2 .ensures) ∙ length-puts _ _ _ _ ∙ ap length (c .before .before .before .before .before .before .before .lay-run .ensures) ∙ length-puts _ _ _ _
 
-point-at-requires : tie.Need-point-at-requires Inv-loop μ-loop
-point-at-requires c κs = point-room _ _ _ _ (c .before .before .before .before .before .before .before .pre .1 .0 .1) (c .before .before .before .before .before .before .before .pre .1 .0 .0) (c .before .before .loop-test .taken)
-
-put-point-requires : tie.Need-put-point-requires Inv-loop μ-loop
-put-point-requires c κs = rw (copy-long (c .before .before .before .before .loop .inv)) (grid-room _ _ _ (c .before .before .before .before .before .before .before .before .pre .1 .0 .2) (rw (c .before .before .wide16 .ensures .0, entry-of (c .before .before .before .before .before .stands .result) 48 (λ k. standsAt (c .before .before .before .before .before .before .before .before .args .c) (c .before .before .before .before .before .before .before .before .args .slot) (pointNumber (c .before .before .before .before .before .before .before .before .args .subchannel) k)) (c .before .before .before .before .before .stands .ensures) _ (c .before .before .before .loop-test .taken)) (stands-below (c .before .before .before .before .before .before .before .before .pre .0) _ _ (c .before .before .before .before .before .before .before .before .pre .1 .0 .0) _ (c .before .before .before .loop-test .taken))))
-
-add-m : tie.Need-add-m Inv-loop μ-loop
-add-m c = omega arith
-
-loop-less : tie.Need-loop-less Inv-loop μ-loop
-loop-less c = omega arith
-
-loop-again : tie.Need-loop-again Inv-loop μ-loop
-loop-again c = copy-next (c .before .before .before .before .before .before .before .loop .inv) (c .before .before .before .before .before .before .loop-test .taken) _ (c .before .before .put-point .ensures ∙ ap₂ (putPoint (c .before .before .before .before .before .before .before .loop .grid)) (c .before .before .before .before .before .wide16 .ensures .0) (c .before .before .before .point-at .ensures))
-
-same-length : tie.Need-same-length Inv-loop μ-loop
-same-length c = copy-long (c .before .loop .inv)
-
-returns : tie.Need-returns Inv-loop μ-loop
+returns : tie.Need-returns
 unfolding laidOne
-returns c = copy-done (c .before .loop .inv) (c .loop-test .left) _ _ (entry-of (c .before .before .stands .result) 48 (λ k. standsAt (c .before .before .before .before .before .args .c) (c .before .before .before .before .before .args .slot) (pointNumber (c .before .before .before .before .before .args .subchannel) k)) (c .before .before .stands .ensures)) (λ k h. refl)
+returns c =
+    two-runs (λ (m : ℕ). standsAt (c .before .before .before .before .before .before .before .before .before .before .before .before .before .before .args .c) (c .before .before .before .before .before .before .before .before .before .before .before .before .before .before .args .slot) (pointNumber (c .before .before .before .before .before .before .before .before .before .before .before .before .before .before .args .subchannel) m)) _ _ (λ m. pointAt (c .before .before .before .before .before .before .before .before .before .before .before .before .before .before .args .points .now) (pointNumber (c .before .before .before .before .before .before .before .before .before .before .before .before .before .before .args .subchannel) m)) _ _ (48 - (c .before .before .before .before .before .before .before .before .before .before .shift .result)) (c .before .before .before .before .before .before .before .before .before .before .shift .result) _ _ _ (c .before .before .before .before .before .before .before .lay-run .ensures) (c .before .before .lay-run2 .ensures)
+    (first-run (c .before .before .before .before .before .before .before .before .before .before .before .before .before .before .pre .0) _ _ (c .before .before .before .before .before .before .before .before .before .before .before .before .before .before .pre .1 .0 .0) (c .before .before .before .before .before .before .before .before .before .before .before .carrier-row .result) (c .before .before .before .before .before .before .before .before .before .before .before .carrier-row .ensures) (c .before .before .before .before .before .before .before .before .before .before .shift .result) (c .before .before .before .before .before .before .before .before .before .before .shift .ensures .0)) (λ m h. refl)
+    (second-run (c .before .before .before .before .before .before .before .before .before .before .before .before .before .before .pre .0) _ _ (c .before .before .before .before .before .before .before .before .before .before .before .before .before .before .pre .1 .0 .0) (c .before .before .before .before .before .before .before .before .before .before .before .carrier-row .result) (c .before .before .before .before .before .before .before .before .before .before .before .carrier-row .ensures) (c .before .before .before .before .before .before .before .before .before .before .shift .result) (c .before .before .before .before .before .before .before .before .before .before .shift .ensures .0) (c .before .before .before .before .before .before .before .before .before .before .shift .ensures .1)) (λ m h. ap (pointAt (c .before .before .before .before .before .before .before .before .before .before .before .before .before .before .args .points .now)) (omega arith))
+    ∙ ap (λ (x : ℕ). puts (λ (m : ℕ). standsAt (c .before .before .before .before .before .before .before .before .before .before .before .before .before .before .args .c) (c .before .before .before .before .before .before .before .before .before .before .before .before .before .before .args .slot) (pointNumber (c .before .before .before .before .before .before .before .before .before .before .before .before .before .before .args .subchannel) m)) (λ m. pointAt (c .before .before .before .before .before .before .before .before .before .before .before .before .before .before .args .points .now) (pointNumber (c .before .before .before .before .before .before .before .before .before .before .before .before .before .before .args .subchannel) m)) x (c .before .before .before .before .before .before .before .before .before .before .before .before .before .before .args .grid .now)) (omega (arith, c .before .before .before .before .before .before .before .before .before .before .shift .ensures .1))
 
 pub lay-spec : {M : Type 1} → statement M
 lay-spec =
     tie.close
     (tie.spec
-    Inv-loop
-    μ-loop
-    stands-requires
+    carrier-row-requires
+    shift-requires
     mul-first
-    loop-holds
-    mul-wide16
-    array-read-wide16
-    wide16-requires
-    add-point-at
-    point-at-requires
-    put-point-requires
-    add-m
-    loop-less
-    loop-again
+    sub-lay-run
+    lay-run-requires
+    sub-lay-run-2
+    add-lay-run
+    lay-run-requires-2
     same-length
     returns)

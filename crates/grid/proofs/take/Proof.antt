@@ -1,86 +1,65 @@
 -- `grid::take` meets its contract. Assumes nothing.
-use mathlib.Core.Path.{refl, ap, ap₂, _∙_}
-use Prim.Native.Nat.{_-_}
+use mathlib.Core.Path.{refl, ap, _∙_}
+use Prim.Native.Nat.{ℕ, _-_}
 use native.Mathlib.Omega.{arith}
-use borrow.Author.Needs.{needs}
-use Rattle.base.specs.Steps.{entry}
-use Rattle.base.proofs.Tabulate.{entry-of}
+use lib.ListN.{length}
 use Rattle.map.proofs.ByMode.{subchannels-few}
 use Rattle.grid.specs.Points.{pointAt}
 use Rattle.grid.specs.Grid.{standsAt, pointNumber}
-use Rattle.grid.specs.Model.{putPoint, takenOne}
-use Rattle.grid.proofs.Points.{puts-none}
-use Rattle.grid.proofs.Slot.{stands-below}
-use Rattle.grid.proofs.Copy.{CopyTurn, copy-long, copy-next, copy-done, point-room, grid-room}
+use Rattle.grid.specs.Model.{puts, takenOne}
+use Rattle.grid.proofs.Points.{length-puts}
+use Rattle.grid.proofs.Slot.{first-run, second-run, row-within}
+use Rattle.grid.proofs.Copy.{two-runs}
+use borrow.Author.Needs.{needs}
 use Rattle.grid.proofs.take.Statement.{statement}
 use Rattle.grid.proofs.take.Tie as tie
 
-abbrev Inv-loop : tie.InvT-loop
-Inv-loop slot subchannel table grid points₀ at first m₀ points m = CopyTurn (pointNumber subchannel) (λ i. pointAt grid (entry at i)) points₀ points m
+carrier-row-requires : tie.Need-carrier-row-requires
+carrier-row-requires c κs = (c .before .before .pre .0, (c .before .before .pre .1 .0 .0, c .before .before .pre .1 .1))
 
-abbrev μ-loop : tie.MeasureT-loop
-μ-loop slot subchannel table grid points₀ at first m₀ points m = 48 - m
+shift-requires : tie.Need-shift-requires
+shift-requires c κs = omega (arith, c .before .before .before .pre .1 .0 .0, subchannels-few (c .before .before .before .pre .0))
 
-stands-requires : tie.Need-stands-requires Inv-loop μ-loop
-stands-requires c κs = (c .before .before .pre .0, (c .before .before .pre .1 .0 .0, c .before .before .pre .1 .1))
+mul-first : tie.Need-mul-first
+mul-first c = omega (arith, c .before .before .before .before .pre .1 .0 .0, subchannels-few (c .before .before .before .before .pre .0))
 
-mul-first : tie.Need-mul-first Inv-loop μ-loop
-mul-first c = omega (arith, c .before .before .before .pre .1 .0 .0, subchannels-few (c .before .before .before .pre .0))
+sub-take-run : tie.Need-sub-take-run
+sub-take-run c = omega (arith, c .before .shift .ensures .1)
 
-loop-holds : tie.Need-loop-holds Inv-loop μ-loop
-loop-holds c = record { at-most = omega arith; so-far = puts-none _ _ _ }
+take-run-requires : tie.Need-take-run-requires
+take-run-requires c κs = (omega (arith, c .before .before .shift .ensures .1), omega (arith, c .before .before .before .before .before .before .pre .1 .0 .0, subchannels-few (c .before .before .before .before .before .before .pre .0)), omega (arith, c .before .before .before .before .before .before .pre .1 .0 .0, c .before .before .before .before .before .before .pre .1 .0 .1), row-within (c .before .before .before .before .before .before .pre .0) _ _ (c .before .before .before .before .before .before .pre .1 .0 .0) (c .before .before .before .carrier-row .result) (c .before .before .before .carrier-row .ensures) (c .before .before .shift .result) (c .before .before .shift .ensures .0) _ (c .before .before .before .before .before .before .pre .1 .0 .2))
 
-mul-wide16 : tie.Need-mul-wide16 Inv-loop μ-loop
-mul-wide16 c = search needs
+sub-take-run-2 : tie.Need-sub-take-run-2
+sub-take-run-2 c = omega (arith, c .before .before .before .before .before .before .shift .ensures .1)
 
-array-read-wide16 : tie.Need-array-read-wide16 Inv-loop μ-loop
-array-read-wide16 c = search needs
+add-take-run : tie.Need-add-take-run
+add-take-run c = omega (arith, c .before .before .before .before .before .before .before .before .before .before .pre .1 .0 .0, subchannels-few (c .before .before .before .before .before .before .before .before .before .before .pre .0))
 
-wide16-requires : tie.Need-wide16-requires Inv-loop μ-loop
-wide16-requires c κs = search needs
+take-run-requires-2 : tie.Need-take-run-requires-2
+take-run-requires-2 c κs = (omega (arith, c .before .before .before .before .before .before .before .shift .ensures .1), omega (arith, c .before .before .before .before .before .before .before .before .before .before .before .pre .1 .0 .0, subchannels-few (c .before .before .before .before .before .before .before .before .before .before .before .pre .0)), omega (arith, ap length (c .before .before .before .before .take-run .ensures) ∙ length-puts _ _ _ _, c .before .before .before .before .before .before .before .before .before .before .before .pre .1 .0 .0, c .before .before .before .before .before .before .before .before .before .before .before .pre .1 .0 .1, c .before .before .before .before .before .before .before .shift .ensures .1), row-within (c .before .before .before .before .before .before .before .before .before .before .before .pre .0) _ _ (c .before .before .before .before .before .before .before .before .before .before .before .pre .1 .0 .0) (c .before .before .before .before .before .before .before .before .carrier-row .result) (c .before .before .before .before .before .before .before .before .carrier-row .ensures) (c .before .before .before .before .before .before .before .shift .result) (c .before .before .before .before .before .before .before .shift .ensures .0) _ (c .before .before .before .before .before .before .before .before .before .before .before .pre .1 .0 .2))
 
-add-put-point : tie.Need-add-put-point Inv-loop μ-loop
-add-put-point c = omega (arith, c .before .before .before .before .before .before .before .pre .1 .0 .0, subchannels-few (c .before .before .before .before .before .before .before .pre .0), c .before .before .loop-test .taken)
+same-length : tie.Need-same-length
+same-length c = ap length (c .before .before .take-run2 .ensures) ∙ length-puts _ _ _ _ ∙ ap length (c .before .before .before .before .before .before .before .take-run .ensures) ∙ length-puts _ _ _ _
 
-point-at-requires : tie.Need-point-at-requires Inv-loop μ-loop
-point-at-requires c κs = grid-room _ _ _ (c .before .before .before .before .before .before .before .pre .1 .0 .2) (rw (c .before .wide16 .ensures .0, entry-of (c .before .before .before .before .stands .result) 48 (λ k. standsAt (c .before .before .before .before .before .before .before .args .c) (c .before .before .before .before .before .before .before .args .slot) (pointNumber (c .before .before .before .before .before .before .before .args .subchannel) k)) (c .before .before .before .before .stands .ensures) _ (c .before .before .loop-test .taken)) (stands-below (c .before .before .before .before .before .before .before .pre .0) _ _ (c .before .before .before .before .before .before .before .pre .1 .0 .0) _ (c .before .before .loop-test .taken)))
-
-put-point-requires : tie.Need-put-point-requires Inv-loop μ-loop
-put-point-requires c κs = rw (copy-long (c .before .before .before .before .loop .inv)) (point-room _ _ _ _ (c .before .before .before .before .before .before .before .before .pre .1 .0 .1) (c .before .before .before .before .before .before .before .before .pre .1 .0 .0) (c .before .before .before .loop-test .taken))
-
-add-m : tie.Need-add-m Inv-loop μ-loop
-add-m c = omega arith
-
-loop-less : tie.Need-loop-less Inv-loop μ-loop
-loop-less c = omega arith
-
-loop-again : tie.Need-loop-again Inv-loop μ-loop
-loop-again c = copy-next (c .before .before .before .before .before .before .before .loop .inv) (c .before .before .before .before .before .before .loop-test .taken) _ (c .before .before .put-point .ensures ∙ ap (putPoint (c .before .before .before .before .before .before .before .loop .points) (pointNumber (c .before .before .before .before .before .before .before .before .before .before .before .args .subchannel) (c .before .before .before .before .before .before .before .loop .m))) (c .before .before .before .point-at .ensures ∙ ap (pointAt _) (c .before .before .before .before .before .wide16 .ensures .0)))
-
-same-length : tie.Need-same-length Inv-loop μ-loop
-same-length c = copy-long (c .before .loop .inv)
-
-returns : tie.Need-returns Inv-loop μ-loop
+returns : tie.Need-returns
 unfolding takenOne
-returns c = copy-done (c .before .loop .inv) (c .loop-test .left) _ _ (λ k h. refl) (λ k h. ap (pointAt _) (entry-of (c .before .before .stands .result) 48 (λ k. standsAt (c .before .before .before .before .before .args .c) (c .before .before .before .before .before .args .slot) (pointNumber (c .before .before .before .before .before .args .subchannel) k)) (c .before .before .stands .ensures) k h))
+returns c =
+    two-runs (pointNumber (c .before .before .before .before .before .before .before .before .before .before .before .before .before .before .args .subchannel)) _ _ (λ m. pointAt (c .before .before .before .before .before .before .before .before .before .before .before .before .before .before .args .grid .now) (standsAt (c .before .before .before .before .before .before .before .before .before .before .before .before .before .before .args .c) (c .before .before .before .before .before .before .before .before .before .before .before .before .before .before .args .slot) (pointNumber (c .before .before .before .before .before .before .before .before .before .before .before .before .before .before .args .subchannel) m))) _ _ (48 - (c .before .before .before .before .before .before .before .before .before .before .shift .result)) (c .before .before .before .before .before .before .before .before .before .before .shift .result) _ _ _ (c .before .before .before .before .before .before .before .take-run .ensures) (c .before .before .take-run2 .ensures)
+    (λ m h. refl) (λ m h. ap (pointAt (c .before .before .before .before .before .before .before .before .before .before .before .before .before .before .args .grid .now)) (first-run (c .before .before .before .before .before .before .before .before .before .before .before .before .before .before .pre .0) _ _ (c .before .before .before .before .before .before .before .before .before .before .before .before .before .before .pre .1 .0 .0) (c .before .before .before .before .before .before .before .before .before .before .before .carrier-row .result) (c .before .before .before .before .before .before .before .before .before .before .before .carrier-row .ensures) (c .before .before .before .before .before .before .before .before .before .before .shift .result) (c .before .before .before .before .before .before .before .before .before .before .shift .ensures .0) m h))
+    (λ m h. omega arith) (λ m h. ap (pointAt (c .before .before .before .before .before .before .before .before .before .before .before .before .before .before .args .grid .now)) (second-run (c .before .before .before .before .before .before .before .before .before .before .before .before .before .before .pre .0) _ _ (c .before .before .before .before .before .before .before .before .before .before .before .before .before .before .pre .1 .0 .0) (c .before .before .before .before .before .before .before .before .before .before .before .carrier-row .result) (c .before .before .before .before .before .before .before .before .before .before .before .carrier-row .ensures) (c .before .before .before .before .before .before .before .before .before .before .shift .result) (c .before .before .before .before .before .before .before .before .before .before .shift .ensures .0) (c .before .before .before .before .before .before .before .before .before .before .shift .ensures .1) m h))
+    ∙ ap (λ (x : ℕ). puts (pointNumber (c .before .before .before .before .before .before .before .before .before .before .before .before .before .before .args .subchannel)) (λ m. pointAt (c .before .before .before .before .before .before .before .before .before .before .before .before .before .before .args .grid .now) (standsAt (c .before .before .before .before .before .before .before .before .before .before .before .before .before .before .args .c) (c .before .before .before .before .before .before .before .before .before .before .before .before .before .before .args .slot) (pointNumber (c .before .before .before .before .before .before .before .before .before .before .before .before .before .before .args .subchannel) m))) x (c .before .before .before .before .before .before .before .before .before .before .before .before .before .before .args .points .now)) (omega (arith, c .before .before .before .before .before .before .before .before .before .before .shift .ensures .1))
 
 pub take-spec : {M : Type 1} → statement M
 take-spec =
     tie.close
     (tie.spec
-    Inv-loop
-    μ-loop
-    stands-requires
+    carrier-row-requires
+    shift-requires
     mul-first
-    loop-holds
-    mul-wide16
-    array-read-wide16
-    wide16-requires
-    add-put-point
-    point-at-requires
-    put-point-requires
-    add-m
-    loop-less
-    loop-again
+    sub-take-run
+    take-run-requires
+    sub-take-run-2
+    add-take-run
+    take-run-requires-2
     same-length
     returns)

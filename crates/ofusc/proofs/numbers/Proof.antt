@@ -1,27 +1,66 @@
 -- `ofusc::numbers` meets its contract. Assumes nothing.
-use mathlib.Core.Path.{_∙_}
+use Prim.Native.Nat.{_-_}
 use native.Mathlib.Omega.{arith}
 use borrow.Author.Needs.{needs}
-use Rattle.base.proofs.Tabulate.{tabulate-as}
+use Rattle.base.proofs.Tabulate.{Written, written-none, written-next, written-all}
+use Rattle.ofusc.specs.Row.{groupNumber}
 use Rattle.ofusc.proofs.Sequence.{size}
-use Rattle.ofusc.proofs.Row.{row-by-index}
+use Rattle.ofusc.proofs.Row.{with-subchannel}
 use Rattle.ofusc.proofs.numbers.Statement.{statement}
 use Rattle.ofusc.proofs.numbers.Tie as tie
 
-group-numbers-requires : tie.Need-group-numbers-requires
-group-numbers-requires c κs = search needs
+abbrev Inv-loop : tie.InvT-loop
+Inv-loop n cell subchannel table s row₀ k₀ row k = Written 48 (groupNumber n cell subchannel) row k
 
-mul-cyclic-shift : tie.Need-mul-cyclic-shift
-mul-cyclic-shift c = omega (arith, size (c .before .pre .0))
+abbrev μ-loop : tie.MeasureT-loop
+μ-loop n cell subchannel table s row₀ k₀ row k = 48 - k
 
-cyclic-shift-requires : tie.Need-cyclic-shift-requires
-cyclic-shift-requires c κs = search needs
+cast-s : tie.Need-cast-s Inv-loop μ-loop
+cast-s c = omega (arith, size (c .pre .0))
 
-returns : tie.Need-returns
-returns c =
-    let a = c .before .before .args in
-    c .cyclic-shift .ensures ∙ tabulate-as 48 _ _ (row-by-index (a .n) (a .cell) (a .subchannel) _ (c .before .group-numbers .ensures))
+loop-holds : tie.Need-loop-holds Inv-loop μ-loop
+loop-holds c = written-none 48 _
+
+mul-row : tie.Need-mul-row Inv-loop μ-loop
+mul-row c = search needs
+
+element-copy-out-row : tie.Need-element-copy-out-row Inv-loop μ-loop
+element-copy-out-row c = search needs
+
+mul-row-2 : tie.Need-mul-row-2 Inv-loop μ-loop
+mul-row-2 c = search needs
+
+array-write-row : tie.Need-array-write-row Inv-loop μ-loop
+array-write-row c = search needs
+
+add-k : tie.Need-add-k Inv-loop μ-loop
+add-k c = search needs
+
+loop-less : tie.Need-loop-less Inv-loop μ-loop
+loop-less c = search needs
+
+loop-again : tie.Need-loop-again Inv-loop μ-loop
+loop-again c =
+    let p = c .before .before .before .pre in
+    let h = c .before .loop-test .taken in
+    written-next (c .before .before .loop .inv) h _ (rw (p .1 .1 _ h) (with-subchannel (p .0) _ _ _ (p .1 .0)))
+
+returns : tie.Need-returns Inv-loop μ-loop
+returns c = written-all (c .before .loop .inv) (c .loop-test .left)
 
 pub numbers-spec : {M : Type 1} → statement M
 numbers-spec =
-    tie.close (tie.spec group-numbers-requires mul-cyclic-shift cyclic-shift-requires returns)
+    tie.close
+    (tie.spec
+    Inv-loop
+    μ-loop
+    cast-s
+    loop-holds
+    mul-row
+    element-copy-out-row
+    mul-row-2
+    array-write-row
+    add-k
+    loop-less
+    loop-again
+    returns)

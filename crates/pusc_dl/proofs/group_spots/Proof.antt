@@ -22,8 +22,8 @@ loop-holds c = halves-none 24 _
 mul-spot-numbers : tie.Need-mul-spot-numbers Inv-loop μ-loop
 mul-spot-numbers c = omega (arith, digits-lt (c .mod-24 .ensures .1) (c .before .before .before .before .group-size .ensures .1))
 
-element-copy-out-wide-16 : tie.Need-element-copy-out-wide-16 Inv-loop μ-loop
-element-copy-out-wide-16 c =
+element-copy-out-wide16 : tie.Need-element-copy-out-wide16 Inv-loop μ-loop
+element-copy-out-wide16 c =
     let a = c .before .before .before .before .before .args in
     let t : Turn (a .cell) (a .table .now) (a .g) (a .s) (c .before .before .loop .k) (c .mod-24 .result) = search (needs, c .before .before .before .before .before .pre .3) in
     rw (c .before .before .before .base-start .ensures .0) (in-base t)
@@ -35,13 +35,13 @@ spot-numbers-requires : tie.Need-spot-numbers-requires Inv-loop μ-loop
 spot-numbers-requires c κs =
     let a = c .before .before .before .before .before .before .before .args in
     let t : Turn (a .cell) (a .table .now) (a .g) (a .s) (c .before .before .before .before .loop .k) (c .before .before .mod-24 .result) = search (needs, c .before .before .before .before .before .before .before .pre .3) in
-    rw (data-number t _ _ _ (c .before .before .before .before .before .before .group-size .ensures .0) (c .before .before .before .before .before .base-start .ensures .0) (c .wide-16 .ensures .0)) (in-clusters t, cluster-lt t)
+    rw (data-number t _ _ _ (c .before .before .before .before .before .before .group-size .ensures .0) (c .before .before .before .before .before .base-start .ensures .0) (c .wide16 .ensures .0)) (in-clusters t, cluster-lt t)
 
 loop-again : tie.Need-loop-again Inv-loop μ-loop
 loop-again c =
     let a = c .before .before .before .before .before .before .before .before .args in
     let t : Turn (a .cell) (a .table .now) (a .g) (a .s) (c .before .before .before .before .before .loop .k) (c .before .before .before .mod-24 .result) = search (needs, c .before .before .before .before .before .before .before .before .pre .3) in
-    let d = data-number t _ _ _ (c .before .before .before .before .before .before .before .group-size .ensures .0) (c .before .before .before .before .before .before .base-start .ensures .0) (c .before .wide-16 .ensures .0) in
+    let d = data-number t _ _ _ (c .before .before .before .before .before .before .before .group-size .ensures .0) (c .before .before .before .before .before .before .base-start .ensures .0) (c .before .wide16 .ensures .0) in
     let both = c .spot-numbers .ensures in
     halves-next (c .before .before .before .before .before .loop .inv) (search needs) _ _
     (both .0 ∙ rw d (omega (arith, spot t 0 (c .before .before .before .before .before .loop .k) (omega arith) (omega arith))))
@@ -68,7 +68,7 @@ group-spots-spec =
     mul-spot-numbers
     (λ c. search needs)
     (λ c. search needs)
-    element-copy-out-wide-16
+    element-copy-out-wide16
     (λ c κs. search needs)
     add-spot-numbers
     spot-numbers-requires

@@ -1,0 +1,13 @@
+-- A spot's carrier by sums of steps. Assumes nothing.
+use mathlib.Core.Path.{_≡_}
+use Prim.Native.Nat.{ℕ, _%_, _<_}
+use native.Mathlib.Omega.{arith}
+use Rattle.base.specs.Steps.{skip}
+use Rattle.carriers.specs.declared.Band.{Band}
+use Rattle.carriers.specs.declared.Spot.{Spot}
+use Rattle.carriers.specs.Band.{carrierOf}
+use Rattle.carriers.specs.Row.{spotNumber, carrierNumber, carrierStep}
+
+pub step-carrier : (b : Band) (x : Spot) → x .used < 2048 → carrierStep b (spotNumber x) ≡ carrierNumber b x
+unfolding carrierStep carrierOf skip
+step-carrier b x h = let e : spotNumber x % 2048 ≡ x .used = omega arith in rw e (omega arith)

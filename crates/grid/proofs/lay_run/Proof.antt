@@ -1,0 +1,77 @@
+-- `grid::lay_run` meets its contract. Assumes nothing.
+use mathlib.Core.Path.{ap₂, _∙_}
+use Prim.Native.Nat.{_+_, _-_}
+use native.Mathlib.Omega.{arith}
+use borrow.Author.Needs.{needs}
+use Rattle.base.specs.Steps.{entry}
+use Rattle.grid.specs.Points.{pointAt}
+use Rattle.grid.specs.Model.{putPoint}
+use Rattle.grid.proofs.Points.{puts-none}
+use Rattle.grid.proofs.Copy.{CopyTurn, copy-long, copy-next, copy-done}
+use Rattle.grid.proofs.lay_run.Statement.{statement}
+use Rattle.grid.proofs.lay_run.Tie as tie
+
+abbrev Inv-loop : tie.InvT-loop
+Inv-loop row q n first points grid₀ m₀ grid m = CopyTurn (λ i. entry row (q + i)) (λ i. pointAt points (first + i)) n grid₀ grid m
+
+abbrev μ-loop : tie.MeasureT-loop
+μ-loop row q n first points grid₀ m₀ grid m = n - m
+
+loop-holds : tie.Need-loop-holds Inv-loop μ-loop
+loop-holds c = record { at-most = omega arith; so-far = puts-none _ _ _ }
+
+add-wide16 : tie.Need-add-wide16 Inv-loop μ-loop
+add-wide16 c = search needs
+
+mul-wide16 : tie.Need-mul-wide16 Inv-loop μ-loop
+mul-wide16 c = search needs
+
+element-copy-out-wide16 : tie.Need-element-copy-out-wide16 Inv-loop μ-loop
+element-copy-out-wide16 c = omega (arith, c .before .before .before .before .pre .0, c .loop-test .taken)
+
+wide16-requires : tie.Need-wide16-requires Inv-loop μ-loop
+wide16-requires c κs = search needs
+
+add-point-at : tie.Need-add-point-at Inv-loop μ-loop
+add-point-at c = search needs
+
+point-at-requires : tie.Need-point-at-requires Inv-loop μ-loop
+point-at-requires c κs = omega (arith, c .before .before .before .before .before .before .before .pre .2, c .before .before .before .loop-test .taken)
+
+put-point-requires : tie.Need-put-point-requires Inv-loop μ-loop
+put-point-requires c κs = rw (copy-long (c .before .before .before .before .before .loop .inv), c .before .before .wide16 .ensures .0) (c .before .before .before .before .before .before .before .before .pre .3 (c .before .before .before .before .before .before .before .before .args .q + c .before .before .before .before .before .loop .m) (omega (arith, c .before .before .before .before .before .before .before .before .pre .0, c .before .before .before .before .loop-test .taken)))
+
+add-m : tie.Need-add-m Inv-loop μ-loop
+add-m c = search needs
+
+loop-less : tie.Need-loop-less Inv-loop μ-loop
+loop-less c = search needs
+
+loop-again : tie.Need-loop-again Inv-loop μ-loop
+loop-again c = copy-next (c .before .before .before .before .before .before .before .before .loop .inv) (c .before .before .before .before .before .before .before .loop-test .taken) _ (c .before .before .put-point .ensures ∙ ap₂ (putPoint (c .before .before .before .before .before .before .before .before .loop .grid)) (c .before .before .before .before .before .wide16 .ensures .0) (c .before .before .before .point-at .ensures))
+
+same-length : tie.Need-same-length Inv-loop μ-loop
+same-length c = copy-long (c .before .loop .inv)
+
+returns : tie.Need-returns Inv-loop μ-loop
+returns c = copy-done (c .before .loop .inv) (c .loop-test .left)
+
+pub lay-run-spec : {M : Type 1} → statement M
+lay-run-spec =
+    tie.close
+    (tie.spec
+    Inv-loop
+    μ-loop
+    loop-holds
+    add-wide16
+    mul-wide16
+    element-copy-out-wide16
+    wide16-requires
+    add-point-at
+    point-at-requires
+    put-point-requires
+    add-m
+    loop-less
+    loop-again
+    same-length
+    returns)
