@@ -3,3 +3,4 @@ pub mod Digit
 pub mod Tables
 pub mod ZeroRule
 pub mod Law
+pub mod Row

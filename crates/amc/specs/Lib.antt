@@ -1,3 +1,4 @@
 pub mod Table
 pub mod Element
 pub mod Map
+pub mod Row

@@ -3,10 +3,10 @@ use base::unrotate;
 use base::wide;
 use carriers::Address;
 ghost use mathlib.Core.Path.{_≡_};
-ghost use Prim.Native.Nat.{_<_};
+ghost use Prim.Native.Nat.{_/_, _%_, _<_};
 ghost use Rattle.base.specs.Tabulate.{tabulate, Starts};
-ghost use Rattle.amc.specs.Table.{sequenceDigits};
-ghost use Rattle.amc.specs.Element.{Proper, number as Number, digits as Digits, add as Add, subtract as Subtract, sequence as Sequence};
+ghost use Rattle.amc.specs.Row.{sumPlace, sequencePlace, sequenceNumber};
+ghost use Rattle.amc.specs.Element.{Proper, element, number as Number, digits as Digits, add as Add, subtract as Subtract, sequence as Sequence};
 ghost use Rattle.amc.specs.Map.{off as Off, zeroRule, sumOf, elementOf, traffic as Traffic, indexOf, dataNumber, addressOf};
 
 // The sequence P as document 004 prints it: the digits of 22 are 2 and 2.
@@ -158,11 +158,11 @@ fn subtract(x: Element, y: Element) -> Element
 }
 
 // Entry i of P, a power of 22.
-fn sequence(p: &[u8; 48], i: usize) -> Element
-    requires { ⌜ (now p ≡ sequenceDigits) × (i < 48) ⌝ }
+fn sequence(i: usize) -> Element
+    requires { ⌜ i < 48 ⌝ }
     ensures { λ r. ⌜ r ≡ Sequence i ⌝ }
 {
-    let x = wide(p[i]);
+    let x = wide(SEQUENCE[i]);
     Element {
         high: x / 10,
         low: x % 10,
@@ -194,22 +194,14 @@ fn sum_of(o: Element, e: Element) -> Element
     if number(e) == number(o) { digits(0) } else { e }
 }
 
-// The place v of index j among the 48 traffic places of a subchannel, P being at hand.
-fn traffic_by(p: &[u8; 48], cell: usize, j: usize) -> usize
-    requires { ⌜ (now p ≡ sequenceDigits) × (cell < 2352) × (j < 48) ⌝ }
-    ensures { λ r. ⌜ r ≡ Traffic cell j ⌝ }
-{
-    let o = off(cell);
-    let x = sequence(p, (j + cell % 48) % 48);
-    number(zero_rule(o, x)) - 1
-}
-
+// The place v of index j among the 48 traffic places of a subchannel.
 pub fn traffic(cell: usize, j: usize) -> usize
     requires { ⌜ (cell < 2352) × (j < 48) ⌝ }
     ensures { λ r. ⌜ r ≡ Traffic cell j ⌝ }
 {
-    let p = SEQUENCE;
-    traffic_by(&p, cell, j)
+    let o = off(cell);
+    let p = sequence((j + cell % 48) % 48);
+    number(zero_rule(o, p)) - 1
 }
 
 fn index(cell: usize, v: usize) -> usize
@@ -240,33 +232,49 @@ pub fn address(cell: usize, d: usize) -> Address
     }
 }
 
-// The place v of each index, once for all subchannels.
+// v of the entry x of P, two digits, under the offset whose digits are high and low.
+fn sum_place(high: u16, low: u16, x: u16) -> u16
+    requires { ⌜ (high < 7) × (low < 7) × (x / 10 < 7) × (x % 10 < 7) × (0 < x) ⌝ }
+    ensures { λ r. ⌜ r ≡ sumPlace (element high low) (element (x / 10) (x % 10)) ⌝ }
+{
+    let sum = (x / 10 + high) % 7 * 7 + (x % 10 + low) % 7;
+    if sum == 0 {
+        high * 7 + low - 1
+    } else {
+        sum - 1
+    }
+}
+
+// v of each entry of P, once for all subchannels.
 pub fn table(cell: usize) -> [u16; 188]
     requires { ⌜ cell < 2352 ⌝ }
-    ensures { λ r. ⌜ Starts 48 (Traffic cell) r ⌝ }
+    ensures { λ r. ⌜ Starts 48 (sequencePlace cell) r ⌝ }
 {
     let p = SEQUENCE;
+    let o = off(cell);
+    let high = o.high as u16;
+    let low = o.low as u16;
     let mut table = [0; 188];
-    let mut j = 0;
-    while j < 48 {
-        table[j] = traffic_by(&p, cell, j) as u16;
-        j += 1;
+    let mut i = 0;
+    while i < 48 {
+        table[i] = sum_place(high, low, p[i] as u16);
+        i += 1;
     }
     table
 }
 
-// The data numbers of a subchannel, by index.
+// The data numbers of a subchannel, by the places of P.
 pub fn numbers(cell: usize, subchannel: usize, table: &[u16; 188]) -> [u16; 48]
     requires { ⌜ (cell < 2352) × (subchannel < 32) ⌝ }
-    requires { ⌜ Starts 48 (Traffic cell) (now table) ⌝ }
-    ensures { λ r. ⌜ r ≡ tabulate 48 (dataNumber cell subchannel) ⌝ }
+    requires { ⌜ Starts 48 (sequencePlace cell) (now table) ⌝ }
+    ensures { λ r. ⌜ r ≡ tabulate 48 (sequenceNumber cell subchannel) ⌝ }
 {
     let first = (48 * subchannel) as u16;
     let mut row = [0; 48];
-    let mut j = 0;
-    while j < 48 {
-        row[j] = table[j] + first;
-        j += 1;
+    let mut i = 0;
+    while i < 48 {
+        row[i] = table[i] + first;
+        i += 1;
     }
     row
 }

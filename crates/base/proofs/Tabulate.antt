@@ -1,6 +1,6 @@
 -- A tabulated list has its length and its entries, and is the only list that has them; and a loop that writes one entry a turn. Assumes nothing.
-use mathlib.Core.Path.{_≡_, refl, sym, ap, ap₂, _∙_, subst}
-use mathlib.Core.List.{List, _∷_}
+use mathlib.Core.Path.{_≡_, refl, sym, ap, _∙_, subst}
+use mathlib.Core.List.{List}
 use Prim.Native.Nat.{ℕ, zero, suc, _+_, _-_, _%_, _<_, _≤_}
 use native.Mathlib.Nat.{le-of-suc-le-suc, not-suc-le-zero}
 use native.Mathlib.Omega.{arith}
@@ -23,11 +23,6 @@ getD-tabulate (suc n) f (suc k) d h = getD-tabulate n (λ j. f (suc j)) k d (le-
 
 pub entry-of : (l : List ℕ) (n : ℕ) (f : ℕ → ℕ) → l ≡ tabulate n f → (k : ℕ) → k < n → entry l k ≡ f k
 entry-of l n f e k h = ap (λ (t : List ℕ). entry t k) e ∙ getD-tabulate n f k 0 h
-
-pub tabulate-as : {A : Type 0} (n : ℕ) (f g : ℕ → A) → ((k : ℕ) → k < n → f k ≡ g k) → tabulate n f ≡ tabulate n g
-unfolding tabulate
-tabulate-as zero f g e = refl
-tabulate-as (suc n) f g e = ap₂ _∷_ (e 0 (omega arith)) (tabulate-as n (λ k. f (suc k)) (λ k. g (suc k)) (λ k h. e (suc k) (omega arith)))
 
 pub tabulated : {A : Type 0} (d : A) (l : List A) (n : ℕ) (f : ℕ → A) → length l ≡ n → ((k : ℕ) → k < n → getD l k d ≡ f k) → l ≡ tabulate n f
 tabulated d l n f e h =
@@ -53,11 +48,8 @@ written-next {f = f} {l = l} {m = m} w h x e =
           (getD-set-same l m x 0 (omega (arith, w .long)) ∙ e);
     }
 
-pub written-as : {n : ℕ} {f : ℕ → ℕ} {l : List ℕ} {m : ℕ} → Written n f l m → n ≤ m → (g : ℕ → ℕ) → ((k : ℕ) → k < n → f k ≡ g k) → l ≡ tabulate n g
-written-as {n = n} {l = l} w h g e = tabulated 0 l n g (w .long) (λ k k-lt. w .entries k (omega (arith, w .within)) ∙ e k k-lt)
-
 pub written-all : {n : ℕ} {f : ℕ → ℕ} {l : List ℕ} {m : ℕ} → Written n f l m → n ≤ m → l ≡ tabulate n f
-written-all {f = f} w h = written-as w h f (λ k k-lt. refl)
+written-all {n = n} {f = f} {l = l} w h = tabulated 0 l n f (w .long) (λ k k-lt. w .entries k (omega (arith, w .within)))
 
 -- the first entries, where the loop ends before the list does
 pub written-starts : {n : ℕ} {f : ℕ → ℕ} {l : List ℕ} {m : ℕ} → Written n f l m → (k : ℕ) → k ≤ m → Starts k f l

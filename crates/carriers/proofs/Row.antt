@@ -1,6 +1,6 @@
 -- A spot's carrier by sums of steps. Assumes nothing.
 use mathlib.Core.Path.{_≡_}
-use Prim.Native.Nat.{ℕ, _%_, _<_}
+use Prim.Native.Nat.{_%_, _<_}
 use native.Mathlib.Omega.{arith}
 use Rattle.base.specs.Steps.{skip}
 use Rattle.carriers.specs.declared.Band.{Band}

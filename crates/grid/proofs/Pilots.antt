@@ -142,6 +142,3 @@ comb-small (pusc-dl h) y = let l = cluster-lt y in record { first-lt = omega ari
 comb-small (pusc-ul h) y = record { first-lt = omega arith; second-lt = omega arith; step-lt = omega arith; count-le = cases (eqb (y % 3) 1) (λ t. rw t (omega arith)) (λ t. rw t (omega arith)) }
 comb-small (ofusc {n = n} w h) y = let l = place-lt y in record { first-lt = omega arith; second-lt = omega arith; step-lt = omega arith; count-le = omega (arith, size w .most) }
 comb-small (amc {n = n} w h) y = let l = place-lt y in record { first-lt = omega arith; second-lt = omega arith; step-lt = omega arith; count-le = omega (arith, size w .most) }
-
-pub small-of : {c : Setup} → Valid c → (y : ℕ) (k : Comb) → k ≡ combOf c y → Small k
-small-of v y k e = rw e (comb-small v y)

@@ -110,13 +110,10 @@ module _ {c : Setup} (v : Valid c) (n₀ : c .mode ≡ 0 → ⊥) (n₁ : c .mod
   pub amc-asks : (c .cell < 2352) × (s < 65536) × (m < 48)
   amc-asks = omega (arith, in-amc v n₀ n₁ n₂, size (bin-width v n₀ n₁))
 
-  pub amc-lt : adjacent.dataNumber (c .cell) s m < 2048
-  amc-lt =
+  pub amc-few : adjacent.dataNumber (c .cell) s m < 65536
+  amc-few =
       let r = in-amc v n₀ n₁ n₂ in
       omega (arith, size (bin-width v n₀ n₁), adjacent-law.law (c .cell) (r .cell-lt) (width c) .number-lt s m (rw (r .subchannels-are) at hs) hm)
-
-  pub amc-few : adjacent.dataNumber (c .cell) s m < 65536
-  amc-few = omega (arith, amc-lt)
 
 -- the symbols of a slot are one to three
 pub symbols-range : {c : Setup} → Valid c → (0 < symbols c) × (symbols c ≤ 3)

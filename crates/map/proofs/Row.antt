@@ -4,7 +4,6 @@ use mathlib.Core.List.{List}
 use Prim.Native.Nat.{ℕ, _+_, _*_, _%_, _<_}
 use lib.Arith.{digits-lt}
 use lib.Dec.{lit<, eqb}
-use borrow.Author.Tests.{ne-eqb}
 use Rattle.base.proofs.Test.{cases}
 use native.Mathlib.Omega.{arith}
 use Rattle.base.specs.Steps.{entry}
@@ -14,6 +13,7 @@ use Rattle.carriers.specs.declared.Spot.{Spot}
 use Rattle.ofusc.specs.Width.{Width}
 use Rattle.ofusc.proofs.Sequence.{size, sum-lt, mask-lt}
 use Rattle.ofusc.proofs.Row.{number-in-group}
+use Rattle.amc.proofs.Row.{number-at, sequence-place-lt}
 use Rattle.pusc_ul.proofs.Row.{number-on-place}
 use Rattle.carriers.specs.Bin.{usedOfData, binSpot}
 use Rattle.carriers.specs.Law.{DataSpot}
@@ -28,7 +28,7 @@ use Rattle.map.proofs.Slot.{slot-law}
 use Rattle.pusc_dl.specs.Row as pusc-dl
 use Rattle.pusc_ul.specs.Row as pusc-ul
 use Rattle.ofusc.specs.Row as ofusc
-use Rattle.amc.specs.Map as amc
+use Rattle.amc.specs.Row as amc
 use Rattle.pusc_dl.specs.Map as pusc-dl-map
 use Rattle.ofusc.specs.Map as ofusc-map
 
@@ -50,7 +50,7 @@ module _ {c : Setup} where
   unfolding tableLength tableEntry
   as-2 e = record { length-is = mode-2 _ _ _ _ _ e; entry-is = λ i. mode-2 _ _ _ _ _ e }
 
-  pub as-3 : (c .mode ≡ 0 → ⊥) → (c .mode ≡ 1 → ⊥) → (c .mode ≡ 2 → ⊥) → TableAs c 48 (amc.traffic (c .cell))
+  pub as-3 : (c .mode ≡ 0 → ⊥) → (c .mode ≡ 1 → ⊥) → (c .mode ≡ 2 → ⊥) → TableAs c 48 (amc.sequencePlace (c .cell))
   unfolding tableLength tableEntry
   as-3 n₀ n₁ n₂ = record { length-is = mode-3 _ _ _ _ _ n₀ n₁ n₂; entry-is = λ i. mode-3 _ _ _ _ _ n₀ n₁ n₂ }
 
@@ -84,7 +84,7 @@ module _ {c : Setup} (v : Valid c) (s : ℕ) (hs : s < subchannels c) (table : L
       let r = in-ofusc v e in
       (rw q (bin-width v (λ z. omega arith) (λ z. omega arith)), rw q (rw (r .subchannels-are) at hs), rw q (from-table table (as-2 e) t))
 
-  pub asks-3 : (c .mode ≡ 0 → ⊥) → (c .mode ≡ 1 → ⊥) → (c .mode ≡ 2 → ⊥) → ((c .cell < 2352) × (s < 32)) × Starts 48 (amc.traffic (c .cell)) table
+  pub asks-3 : (c .mode ≡ 0 → ⊥) → (c .mode ≡ 1 → ⊥) → (c .mode ≡ 2 → ⊥) → ((c .cell < 2352) × (s < 32)) × Starts 48 (amc.sequencePlace (c .cell)) table
   asks-3 n₀ n₁ n₂ =
       let r = in-amc v n₀ n₁ n₂ in
       ((r .cell-lt, omega (arith, r .subchannels-are, size (bin-width v n₀ n₁) .most)), from-table table (as-3 n₀ n₁ n₂) t)
@@ -114,19 +114,24 @@ module _ (c : Setup) (slot s : ℕ) where
       ap (λ (by : ℕ). binSpot slot (ofusc.groupNumber (width c) (c .cell) s ((m + by) % 48))) (sym (mode-2 _ _ _ _ _ q))
       ∙ ap (binSpot slot) (number-in-group (width c) (c .cell) s m) ∙ mode-2 _ _ _ _ _ q
 
-  pub spot-3 : (c .mode ≡ 0 → ⊥) → (c .mode ≡ 1 → ⊥) → (c .mode ≡ 2 → ⊥) → (m : ℕ) → m < 48 → binSpot slot (amc.dataNumber (c .cell) s ((m + shiftOf c s) % 48)) ≡ spotOf c slot s m
+  pub spot-3 : (c .mode ≡ 0 → ⊥) → (c .mode ≡ 1 → ⊥) → (c .mode ≡ 2 → ⊥) → (m : ℕ) → m < 48 → binSpot slot (amc.sequenceNumber (c .cell) s ((m + shiftOf c s) % 48)) ≡ spotOf c slot s m
   unfolding spotOf shiftOf
   spot-3 n₀ n₁ n₂ m h =
-      ap (λ (k : ℕ). binSpot slot (amc.dataNumber (c .cell) s k)) (shift-none m h (sym (mode-3 _ _ _ _ _ n₀ n₁ n₂))) ∙ mode-3 _ _ _ _ _ n₀ n₁ n₂
+      ap (λ (by : ℕ). binSpot slot (amc.sequenceNumber (c .cell) s ((m + by) % 48))) (sym (mode-3 _ _ _ _ _ n₀ n₁ n₂))
+      ∙ ap (binSpot slot) (number-at (c .cell) s m) ∙ mode-3 _ _ _ _ _ n₀ n₁ n₂
 
 pub group-number-lt : {n : ℕ} → Width n → (cell s k : ℕ) → s < n → k < 48 → ofusc.groupNumber n cell s k < 2048
 unfolding ofusc.groupNumber
 group-number-lt {n} w cell s k hs hk = omega (arith, digits-lt hk (sum-lt w s (ofusc-map.mask n cell k) hs (mask-lt w cell k)), size w .most)
 
+pub sequence-number-lt : (cell s i : ℕ) → cell < 2352 → s < 32 → i < 48 → amc.sequenceNumber cell s i < 2048
+unfolding amc.sequenceNumber
+sequence-number-lt cell s i hc hs hi = omega (arith, sequence-place-lt cell i hc hi)
+
 -- the shift is below 48
 pub shift-lt : (c : Setup) (s : ℕ) → shiftOf c s < 48
 unfolding shiftOf
-shift-lt c s = cases (eqb (c .mode) 0) (λ e. rw e (lit< tt)) (λ e. rw e (cases (eqb (c .mode) 1) (λ e₁. rw e₁ (omega arith)) (λ e₁. rw e₁ (cases (eqb (c .mode) 2) (λ e₂. rw e₂ (omega arith)) (λ e₂. rw e₂ (lit< tt))))))
+shift-lt c s = cases (eqb (c .mode) 0) (λ e. rw e (lit< tt)) (λ e. rw e (cases (eqb (c .mode) 1) (λ e₁. rw e₁ (omega arith)) (λ e₁. rw e₁ (cases (eqb (c .mode) 2) (λ e₂. rw e₂ (omega arith)) (λ e₂. rw e₂ (omega arith))))))
 
 -- a subchannel's spots are small, so that a row of them becomes a row of carriers
 module _ {c : Setup} (v : Valid c) (slot s : ℕ) (hs : s < subchannels c) (row : List ℕ) (t : Turned (shiftOf c s) (λ m. spotNumber (spotOf c slot s m)) row) where
@@ -145,6 +150,10 @@ module _ {c : Setup} (v : Valid c) (slot s : ℕ) (hs : s < subchannels c) (row 
 
 -- the shift by the mode
 module _ (c : Setup) (s : ℕ) where
+  pub shift-0 : c .mode ≡ 0 → 0 ≡ shiftOf c s
+  unfolding shiftOf
+  shift-0 q = mode-0 _ _ _ _ _ q
+
   pub shift-1 : c .mode ≡ 1 → 13 * s % 48 ≡ shiftOf c s
   unfolding shiftOf
   shift-1 q = mode-1 _ _ _ _ _ q
@@ -153,6 +162,6 @@ module _ (c : Setup) (s : ℕ) where
   unfolding shiftOf
   shift-2 q = mode-2 _ _ _ _ _ q
 
-  pub shift-other : (c .mode ≡ 1 → ⊥) → (c .mode ≡ 2 → ⊥) → 0 ≡ shiftOf c s
+  pub shift-3 : (c .mode ≡ 0 → ⊥) → (c .mode ≡ 1 → ⊥) → (c .mode ≡ 2 → ⊥) → c .cell % 48 ≡ shiftOf c s
   unfolding shiftOf
-  shift-other n₁ n₂ = rw (ne-eqb (c .mode) 1 n₁, ne-eqb (c .mode) 2 n₂) (cases (eqb (c .mode) 0) (λ e. rw e) (λ e. rw e))
+  shift-3 n₀ n₁ n₂ = mode-3 _ _ _ _ _ n₀ n₁ n₂

@@ -7,7 +7,7 @@ use Rattle.map.specs.Mode.{byMode, width}
 use Rattle.pusc_dl.specs.Row as pusc-dl
 use Rattle.pusc_ul.specs.Row as pusc-ul
 use Rattle.ofusc.specs.Row as ofusc
-use Rattle.amc.specs.Map as amc
+use Rattle.amc.specs.Row as amc
 
 -- what the cell alone fixes, in the table of its mode: how many entries, and entry i
 unfoldable pub tableLength : Setup → ℕ
@@ -19,11 +19,11 @@ tableEntry c i =
     (pusc-dl.tableEntry (c .cell) i)
     (pusc-ul.tableEntry (c .cell) i)
     (ofusc.cellNumber (width c) (c .cell) i)
-    (amc.traffic (c .cell) i)
+    (amc.sequencePlace (c .cell) i)
 
 abbrev pub TableOf : Setup → List ℕ → Type 0
 TableOf c table = Starts (tableLength c) (tableEntry c) table
 
--- how far a subchannel's row is shifted round: by data place in PUSC uplink, by group in optional FUSC
+-- how far a subchannel's row is shifted round: by data place in PUSC uplink, by group in optional FUSC, by the places of P in AMC
 unfoldable pub shiftOf : Setup → ℕ → ℕ
-shiftOf c s = byMode (c .mode) 0 (13 * s % 48) (23 * s % 48) 0
+shiftOf c s = byMode (c .mode) 0 (13 * s % 48) (23 * s % 48) (c .cell % 48)

@@ -198,13 +198,16 @@ pub fn shift(c: Setup, subchannel: usize) -> usize
     requires { ⌜ subchannel < 65536 ⌝ }
     ensures { λ r. ⌜ (r ≡ shiftOf c subchannel) × (r < 48) ⌝ }
 {
+    if c.mode == 0 {
+        return 0;
+    }
     if c.mode == 1 {
         return 13 * subchannel % 48;
     }
     if c.mode == 2 {
         return 23 * subchannel % 48;
     }
-    0
+    c.cell % 48
 }
 
 // Where the points of a subchannel lie in its slot, as numbers; not in PUSC uplink.

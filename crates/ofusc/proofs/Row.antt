@@ -7,7 +7,7 @@ use lib.Bits.{bitXor, xor-block, xor-zero-r, xor-comm}
 use Rattle.ofusc.specs.Width.{Width}
 use Rattle.ofusc.specs.Map.{groupOf, mask, dataNumber}
 use Rattle.ofusc.specs.Row.{cellNumber, groupNumber}
-use Rattle.ofusc.proofs.Sequence.{Size, size, mask-lt}
+use Rattle.ofusc.proofs.Sequence.{size, mask-lt}
 
 module _ {n : ℕ} (w : Width n) (cell : ℕ) where
   pub cell-number-lt : (k : ℕ) → k < 48 → cellNumber n cell k < 1536

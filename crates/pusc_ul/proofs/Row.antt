@@ -1,14 +1,14 @@
 -- The carriers of a subchannel from the table of the cell, eight for each tile. Assumes nothing.
-use mathlib.Core.Path.{_≡_, refl, ap, _∙_, subst⁻¹}
+use mathlib.Core.Path.{_≡_, ap, _∙_}
 use mathlib.Core.Bool.{false}
 use mathlib.Core.List.{List}
-use Prim.Native.Nat.{ℕ, suc, _+_, _-_, _*_, _/_, _%_, _<_, _≤_}
+use Prim.Native.Nat.{ℕ, _+_, _-_, _*_, _/_, _%_, _<_, _≤_}
 use native.Mathlib.Omega.{arith}
-use lib.Dec.{lit<, eqb, ltb}
+use lib.Dec.{eqb, ltb}
 use lib.ListN.{length, set, replicate, length-set, length-replicate}
 use lib.Seq.{getD-set-same, getD-set-other}
-use borrow.Author.Tests.{eqb-true, eqb-false, ltb-true, ltb-false, le-leb, lt-leb}
-use Rattle.base.specs.Steps.{entry, skip}
+use borrow.Author.Tests.{eqb-true, eqb-false, ltb-true, ltb-false}
+use Rattle.base.specs.Steps.{entry}
 use Rattle.base.specs.Tabulate.{tabulate}
 use Rattle.base.proofs.Test.{cases}
 use Rattle.base.proofs.Tabulate.{tabulated}
@@ -16,7 +16,7 @@ use Rattle.base.proofs.LeaveOut.{skip-below, skip-above, skip-le}
 use Rattle.carriers.specs.Band.{puscBand, carrierOf}
 use Rattle.carriers.specs.Row.{carrierNumber}
 use Rattle.pusc_ul.specs.Table.{tilePermutation}
-use Rattle.pusc_ul.specs.Tile.{tileOf, isTilePilot, placeSymbol, placeTile, placeCarrier, dataPlace}
+use Rattle.pusc_ul.specs.Tile.{tileOf, isTilePilot, placeTile, dataPlace}
 use Rattle.pusc_ul.specs.Map.{spotOf}
 use Rattle.pusc_ul.specs.Row.{tableEntry, placeNumber}
 use Rattle.pusc_ul.proofs.Place.{on-carrier, on-place}

@@ -5,16 +5,16 @@ use native.Mathlib.Omega.{arith}
 use borrow.Author.Needs.{needs}
 use Rattle.base.specs.Steps.{entry}
 use Rattle.base.proofs.Tabulate.{Written, written-none, written-next, written-all}
-use Rattle.amc.specs.Map.{traffic, dataNumber}
-use Rattle.amc.proofs.Law.{traffic-lt, number-by-first}
+use Rattle.amc.specs.Row.{sequencePlace, sequenceNumber}
+use Rattle.amc.proofs.Row.{sequence-place-lt}
 use Rattle.amc.proofs.numbers.Statement.{statement}
 use Rattle.amc.proofs.numbers.Tie as tie
 
 abbrev Inv-loop : tie.InvT-loop
-Inv-loop cell subchannel table first row₀ j₀ row j = Written 48 (dataNumber cell subchannel) row j
+Inv-loop cell subchannel table first row₀ i₀ row i = Written 48 (sequenceNumber cell subchannel) row i
 
 abbrev μ-loop : tie.MeasureT-loop
-μ-loop cell subchannel table first row₀ j₀ row j = 48 - j
+μ-loop cell subchannel table first row₀ i₀ row i = 48 - i
 
 mul-first : tie.Need-mul-first Inv-loop μ-loop
 mul-first c = search needs
@@ -31,11 +31,11 @@ mul-row c = search needs
 element-copy-out-row : tie.Need-element-copy-out-row Inv-loop μ-loop
 element-copy-out-row c = search needs
 
-entry-is : (c : tie.After-row Inv-loop μ-loop) → entry (c .before .before .before .args .table .now) (c .before .before .loop .j) ≡ traffic (c .before .before .before .args .cell) (c .before .before .loop .j)
+entry-is : (c : tie.After-row Inv-loop μ-loop) → entry (c .before .before .before .args .table .now) (c .before .before .loop .i) ≡ sequencePlace (c .before .before .before .args .cell) (c .before .before .loop .i)
 entry-is c = c .before .before .before .pre .1 _ (c .before .loop-test .taken)
 
 add-row : tie.Need-add-row Inv-loop μ-loop
-add-row c = rw (entry-is c) (omega (arith, traffic-lt _ (c .before .before .before .pre .0 .0) (c .before .before .loop .j)))
+add-row c = rw (entry-is c) (omega (arith, sequence-place-lt _ (c .before .before .loop .i) (c .before .before .before .pre .0 .0) (c .before .loop-test .taken)))
 
 mul-row-2 : tie.Need-mul-row-2 Inv-loop μ-loop
 mul-row-2 c = search needs
@@ -43,14 +43,15 @@ mul-row-2 c = search needs
 array-write-row : tie.Need-array-write-row Inv-loop μ-loop
 array-write-row c = search needs
 
-add-j : tie.Need-add-j Inv-loop μ-loop
-add-j c = search needs
+add-i : tie.Need-add-i Inv-loop μ-loop
+add-i c = search needs
 
 loop-less : tie.Need-loop-less Inv-loop μ-loop
 loop-less c = search needs
 
 loop-again : tie.Need-loop-again Inv-loop μ-loop
-loop-again c = written-next (c .before .before .loop .inv) (c .before .loop-test .taken) _ (rw (entry-is c) (number-by-first _ _ _))
+unfolding sequenceNumber
+loop-again c = written-next (c .before .before .loop .inv) (c .before .loop-test .taken) _ (rw (entry-is c))
 
 returns : tie.Need-returns Inv-loop μ-loop
 returns c = written-all (c .before .loop .inv) (c .loop-test .left)
@@ -69,7 +70,7 @@ numbers-spec =
     add-row
     mul-row-2
     array-write-row
-    add-j
+    add-i
     loop-less
     loop-again
     returns)

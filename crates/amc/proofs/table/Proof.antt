@@ -1,28 +1,45 @@
 -- `amc::table` meets its contract. Assumes nothing.
-use mathlib.Core.Path.{refl}
+use mathlib.Core.Path.{ap₂, _∙_}
 use Prim.Native.Nat.{_-_}
 use native.Mathlib.Omega.{arith}
 use borrow.Author.Needs.{needs}
 use Rattle.base.proofs.Tabulate.{Written, written-none, written-next, written-starts}
-use Rattle.amc.specs.Map.{traffic}
-use Rattle.amc.proofs.Law.{traffic-lt}
+use Rattle.amc.specs.Row.{sumPlace, sequencePlace}
+use Rattle.amc.proofs.Law.{off-proper}
+use Rattle.amc.proofs.Tables.{powers}
+use Rattle.amc.proofs.Row.{entry-digits}
 use Rattle.amc.proofs.table.Statement.{statement}
 use Rattle.amc.proofs.table.Tie as tie
 
 abbrev Inv-loop : tie.InvT-loop
-Inv-loop cell p table₀ j₀ table j = Written 188 (traffic cell) table j
+Inv-loop cell p high low table₀ i₀ table i = Written 188 (sequencePlace cell) table i
 
 abbrev μ-loop : tie.MeasureT-loop
-μ-loop cell p table₀ j₀ table j = 48 - j
+μ-loop cell p high low table₀ i₀ table i = 48 - i
+
+off-requires : tie.Need-off-requires Inv-loop μ-loop
+off-requires c κs = search needs
+
+cast-high : tie.Need-cast-high Inv-loop μ-loop
+cast-high c = rw (c .before .off .ensures) (omega (arith, off-proper _ (c .before .before .pre) .high-lt))
+
+cast-low : tie.Need-cast-low Inv-loop μ-loop
+cast-low c = rw (c .before .before .off .ensures) (omega (arith, off-proper _ (c .before .before .before .pre) .low-lt))
 
 loop-holds : tie.Need-loop-holds Inv-loop μ-loop
 loop-holds c = written-none 188 _
 
-traffic-by-requires : tie.Need-traffic-by-requires Inv-loop μ-loop
-traffic-by-requires c κs = (refl, c .before .before .before .pre, c .before .loop-test .taken)
+array-read-sum-place : tie.Need-array-read-sum-place Inv-loop μ-loop
+array-read-sum-place c = search needs
 
-cast-table : tie.Need-cast-table Inv-loop μ-loop
-cast-table c = rw (c .traffic-by .ensures) (omega (arith, traffic-lt _ (c .before .before .before .before .pre) (c .before .before .before .loop .j)))
+cast-sum-place : tie.Need-cast-sum-place Inv-loop μ-loop
+cast-sum-place c = omega (arith, entry-digits (c .before .loop .i) (c .loop-test .taken) .high-lt)
+
+sum-place-requires : tie.Need-sum-place-requires Inv-loop μ-loop
+sum-place-requires c κs =
+    let o = off-proper _ (c .before .before .before .before .before .pre) in
+    let d = entry-digits (c .before .loop .i) (c .loop-test .taken) in
+    (rw (c .before .before .before .before .off .ensures) (o .high-lt), rw (c .before .before .before .before .off .ensures) (o .low-lt), d .high-lt, d .low-lt, d .above)
 
 mul-table : tie.Need-mul-table Inv-loop μ-loop
 mul-table c = search needs
@@ -30,14 +47,15 @@ mul-table c = search needs
 array-write-table : tie.Need-array-write-table Inv-loop μ-loop
 array-write-table c = search needs
 
-add-j : tie.Need-add-j Inv-loop μ-loop
-add-j c = search needs
+add-i : tie.Need-add-i Inv-loop μ-loop
+add-i c = search needs
 
 loop-less : tie.Need-loop-less Inv-loop μ-loop
 loop-less c = search needs
 
 loop-again : tie.Need-loop-again Inv-loop μ-loop
-loop-again c = written-next (c .before .before .before .loop .inv) (omega (arith, c .before .before .loop-test .taken)) _ (c .traffic-by .ensures)
+unfolding sequencePlace
+loop-again c = written-next (c .before .before .loop .inv) (omega (arith, c .before .loop-test .taken)) _ (c .sum-place .ensures ∙ ap₂ sumPlace (c .before .before .before .before .before .off .ensures) (powers _ (c .before .loop-test .taken) .printed-is))
 
 returns : tie.Need-returns Inv-loop μ-loop
 returns c = written-starts (c .before .loop .inv) 48 (c .loop-test .left)
@@ -48,12 +66,16 @@ table-spec =
     (tie.spec
     Inv-loop
     μ-loop
+    off-requires
+    cast-high
+    cast-low
     loop-holds
-    traffic-by-requires
-    cast-table
+    array-read-sum-place
+    cast-sum-place
+    sum-place-requires
     mul-table
     array-write-table
-    add-j
+    add-i
     loop-less
     loop-again
     returns)

@@ -10,7 +10,6 @@ use Rattle.grid.specs.Model.{puts, laidOne}
 use Rattle.grid.proofs.Points.{length-puts}
 use Rattle.grid.proofs.Slot.{first-run, second-run, row-within}
 use Rattle.grid.proofs.Copy.{two-runs}
-use borrow.Author.Needs.{needs}
 use Rattle.grid.proofs.lay.Statement.{statement}
 use Rattle.grid.proofs.lay.Tie as tie
 

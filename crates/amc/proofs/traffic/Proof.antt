@@ -1,4 +1,4 @@
--- `amc::traffic_by` meets its contract. Assumes nothing.
+-- `amc::traffic` meets its contract. Assumes nothing.
 use Prim.Native.Nat.{_-_}
 use native.Mathlib.Omega.{arith}
 use mathlib.Core.Path.{_≡_, ap, _∙_, subst⁻¹}
@@ -7,8 +7,8 @@ use Rattle.amc.proofs.Tables.{powers}
 use Rattle.amc.specs.Element.{Proper, number}
 use Rattle.amc.specs.Map.{off, elementOf, traffic}
 use borrow.Author.Needs.{needs}
-use Rattle.amc.proofs.traffic_by.Statement.{statement}
-use Rattle.amc.proofs.traffic_by.Tie as tie
+use Rattle.amc.proofs.traffic.Statement.{statement}
+use Rattle.amc.proofs.traffic.Tie as tie
 
 value : (c : tie.After-zero-rule) → c .zero-rule .result ≡ elementOf (c .before .before .before .args .cell) (c .before .before .before .args .j)
 unfolding elementOf
@@ -27,20 +27,20 @@ sequence-requires : tie.Need-sequence-requires
 sequence-requires c κs = search needs
 
 zero-rule-requires : tie.Need-zero-rule-requires
-zero-rule-requires c κs = (rw (c .before .off .ensures) (off-proper _ (c .before .before .pre .1)), rw (c .sequence .ensures) (powers _ (turn-lt _ (c .before .before .pre .1) (c .before .before .args .j)) .proper))
+zero-rule-requires c κs = (rw (c .before .off .ensures) (off-proper _ (c .before .before .pre .0)), rw (c .sequence .ensures) (powers _ (turn-lt _ (c .before .before .pre .0) (c .before .before .args .j)) .proper))
 
 number-requires : tie.Need-number-requires
-number-requires c κs = subst⁻¹ Proper (value c) (element-proper _ (c .before .before .before .pre .1) _)
+number-requires c κs = subst⁻¹ Proper (value c) (element-proper _ (c .before .before .before .pre .0) _)
 
 sub-result : tie.Need-sub-result
-sub-result c = omega (arith, number-is c, traffic-number _ (c .before .before .before .before .pre .1) (c .before .before .before .before .args .j))
+sub-result c = omega (arith, number-is c, traffic-number _ (c .before .before .before .before .pre .0) (c .before .before .before .before .args .j))
 
 returns : tie.Need-returns
 unfolding traffic
 returns c = ap (λ x. x - 1) (number-is c)
 
-pub traffic-by-spec : {M : Type 1} → statement M
-traffic-by-spec =
+pub traffic-spec : {M : Type 1} → statement M
+traffic-spec =
     tie.close
     (tie.spec
     off-requires

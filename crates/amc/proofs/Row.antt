@@ -1,0 +1,46 @@
+-- A row of data numbers by the places of P. Assumes nothing.
+use mathlib.Core.Path.{_≡_, refl, ap, _∙_, subst}
+use Prim.Native.Nat.{ℕ, _+_, _-_, _*_, _/_, _%_, _<_}
+use native.Mathlib.Omega.{arith}
+use Rattle.base.specs.Steps.{entry}
+use Rattle.amc.specs.Table.{sequenceDigits}
+use Rattle.amc.specs.Element.{number, sequence}
+use Rattle.amc.specs.Map.{elementOf, traffic, dataNumber}
+use Rattle.amc.specs.Row.{sumPlace, sequencePlace, sequenceNumber}
+use Rattle.amc.proofs.Tables.{powers}
+use Rattle.amc.proofs.Law.{traffic-lt, number-by-first}
+
+-- index j is at place (j+per) mod 48 of P
+traffic-at : (cell j : ℕ) → sequencePlace cell ((j + cell % 48) % 48) ≡ traffic cell j
+unfolding traffic elementOf sequencePlace sumPlace
+traffic-at cell j = refl
+
+pub number-at : (cell a j : ℕ) → sequenceNumber cell a ((j + cell % 48) % 48) ≡ dataNumber cell a j
+unfolding sequenceNumber
+number-at cell a j = ap (λ (v : ℕ). v + 48 * a) (traffic-at cell j) ∙ number-by-first cell a j
+
+pub sequence-place-lt : (cell i : ℕ) → cell < 2352 → i < 48 → sequencePlace cell i < 48
+sequence-place-lt cell i hc hi =
+    let j = (i + (48 - cell % 48)) % 48 in
+    let e : (j + cell % 48) % 48 ≡ i = omega arith in
+    subst (λ (k : ℕ). sequencePlace cell k < 48) e (rw (traffic-at cell j) (traffic-lt cell hc j))
+
+-- the digits of P's entries
+pub record Digits (x : ℕ) : Type 0 where
+  pub high-lt : x / 10 < 7
+  pub low-lt : x % 10 < 7
+  pub above : 0 < x
+
+pub entry-digits : (i : ℕ) → i < 48 → Digits (entry sequenceDigits i)
+entry-digits i h =
+    let p = powers i h in
+    let high = ap (λ e. e .high) (p .printed-is) in
+    let low = ap (λ e. e .low) (p .printed-is) in
+    record { high-lt = omega (arith, high, p .proper .high-lt); low-lt = omega (arith, low, p .proper .low-lt); above = positive (entry sequenceDigits i) (λ e. p .nonzero (omega (arith, high, low, e))) }
+  where
+    positive : (x : ℕ) → (x ≡ 0 → ⊥) → 0 < x
+    positive x ne = omega arith
+
+-- no entry of P is zero, so a sum that is zero has an offset that is not
+pub offset-above : (h l x : ℕ) → h < 7 → l < 7 → x / 10 < 7 → x % 10 < 7 → 0 < x → (x / 10 + h) % 7 * 7 + (x % 10 + l) % 7 ≡ 0 → 0 < h * 7 + l
+offset-above h l x hh hl xh xl above e = omega arith
