@@ -402,6 +402,14 @@ class Usage(Case):
                 tried += 1
         self.assertGreaterEqual(tried, 6)
 
+    def test_examples_of_the_readme(self):
+        with open(os.path.join(ROOT, "README.md")) as file:
+            examples = re.findall(r"^    \$ \./bellpulsar (.*)\n((?:    [^$\n].*\n)+)", file.read(), re.MULTILINE)
+        self.assertGreaterEqual(len(examples), 6)
+        for line, output in examples:
+            text = "".join(part[4:] + "\n" for part in output.splitlines())
+            self.assertEqual(run(*shlex.split(line)).stdout.decode(), text, line)
+
     def test_not_understood(self):
         self.not_understood("")
         self.not_understood("plan")

@@ -706,10 +706,11 @@ class Loading(unittest.TestCase):
             last = imported_with(other).stderr.splitlines()[-1]
             self.assertTrue(last.startswith("ImportError: %s is not a Bellpulsar library" % other), last)
 
-    def test_the_examples_of_the_module(self):
-        failed, tried = doctest.testmod(bp)
-        self.assertEqual(failed, 0)
-        self.assertGreater(tried, 5)
+    def test_the_examples_of_the_module_and_the_readme(self):
+        readme = os.path.join(ROOT, "README.md")
+        for failed, tried in (doctest.testmod(bp), doctest.testfile(readme, module_relative=False)):
+            self.assertEqual(failed, 0)
+            self.assertGreater(tried, 5)
 
 
 @unittest.skipIf(numpy is None, "numpy is not installed")
