@@ -1,6 +1,7 @@
 #!/bin/sh
 # Runs the examples of one language and fails where one prints, or ends with, something else than it should. Most of
-# what is expected are known points of document 01.
+# what is expected are known points of document 01. An example ends with 0 where it is done, 1 where it is refused and 2
+# where it is misused.
 #
 #     sh examples/expected.sh PREFIX
 #
@@ -41,6 +42,8 @@ expect 1 "refused 1" point 4294967298 1024 17 0 0 0
 expect 1 "refused 3" point 2 1024 -1 0 0 0
 expect 1 "refused 6" point 2 1024 17 0 0 340282366920938463463374607431768211456
 expect 2 "" point 2 1024 17 0 0 first
+expect 2 "" point 2 1024 17 0 0 ""
+expect 2 "" point 2 1024 17 0 0 " -18446744073709551615"
 expect 2 "" point 2 1024 17 0 0
 
 expect 0 "groups 0 1 31 32
@@ -68,4 +71,14 @@ bytes 02 80 08 02 11 03 03 B0 01 01" plan 02 80 08 02 11 03 03 B0 01 01
 expect 1 "refused 14" plan 01 80 10 02 00 0C
 expect 1 "refused 11" plan 81 00
 expect 1 "refused 10" plan
-expect 2 "" plan 100
+for word in 100 1 0x1 " 1" -1 +1 0g ""; do
+    expect 2 "" plan "$word"
+done
+
+# Text that cannot be written is no answer.
+ended=0
+${prefix}point 2 1024 17 0 0 0 >/dev/full 2>/dev/null || ended=$?
+if [ "$ended" -ne 2 ]; then
+    echo "${prefix}point ended with $ended instead of 2 where nothing can be written"
+    exit 1
+fi

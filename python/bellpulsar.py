@@ -63,8 +63,8 @@ PUSC_DL, PUSC_UL, OFUSC, AMC = 0, 1, 2, 3
 
 # The questions of document 01, by number.
 QUESTIONS = {
-    1: "Is the mode listed?",
-    2: "Is the size that mode's?",
+    1: "Is the mode listed (in a plan: 0, 2 or 3)?",
+    2: "Is the size that mode's (of a plan: 256, 512, 1024 or 2048)?",
     3: "Is the cell in range?",
     4: "Is the slot below 512, the zone's symbol below 512 times the slot length?",
     5: "Is the subchannel in range?",
@@ -317,6 +317,8 @@ def _apart(points, grid):
 
 def _pilot_point(pilot):
     """The pilot point's own two floats, bit for bit where it is a buffer."""
+    if isinstance(pilot, (int, float, complex)):
+        raise TypeError("pilot: two numbers are needed, in-phase and quadrature, not one")
     if isinstance(pilot, (tuple, list)):
         pilot = array.array("f", pilot)
     with _lent(pilot, "pilot", _FLOAT) as lent:
@@ -449,6 +451,15 @@ def plan_read(data):
     return Plan(size.value, tuple(zones))
 
 
+def _zone(zone):
+    """The three numbers of a place of a plan."""
+    try:
+        mode, cell, slots = zone
+    except (TypeError, ValueError) as error:
+        raise type(error)("zones: three numbers are needed for each, mode, cell and slots, not %r" % (zone,)) from None
+    return _numbers(mode, cell, slots)
+
+
 def plan_write(count, size, zones, dest):
     """Writes a plan's bytes at the start of `dest` and returns how many they are; further bytes stay as they are.
 
@@ -457,9 +468,9 @@ def plan_write(count, size, zones, dest):
     `plan_bytes` is the same without count, unused places and destination.
     """
     count, size = _numbers(count, size)
-    zones = [_numbers(*zone) for zone in zones]
-    if [len(zone) for zone in zones] != [3] * PLACES:
-        raise ValueError("zones: eight places of three numbers each are needed")
+    zones = [_zone(zone) for zone in zones]
+    if len(zones) != PLACES:
+        raise ValueError("zones: eight places are needed, not %d" % len(zones))
     places, written = _Zones(*itertools.chain(*zones)), _uint()
     with _lent(dest, "dest", _BYTE, writable=True) as lent:
         _raise_if_refused(_engine.bp_plan_write(count, size, places, lent.address, lent.length, written))

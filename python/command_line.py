@@ -53,6 +53,21 @@ examples:
 
 # --- arguments --------------------------------------------------------------------------------
 
+FIELDS = {
+    "mode": "0 PUSC downlink, 1 PUSC uplink, 2 optional FUSC, 3 AMC",
+    "size": "the FFT size",
+    "cell": "the permutation base",
+    "slot": "the slot's number in the zone",
+    "subchannel": "the subchannel's number",
+    "index": "the point's number in its subchannel and slot",
+    "symbol": "the symbol's number in the zone",
+    "carrier": "the carrier's number, by rising frequency",
+    "cell_a": "the first cell",
+    "subchannel_a": "a subchannel of the first cell",
+    "cell_b": "the second cell",
+    "subchannel_b": "a subchannel of the second cell",
+}
+
 
 def number(text):
     """A decimal number of any size; what lies far out becomes some number out of every range."""
@@ -96,13 +111,14 @@ def command(commands, name, answer, summary, example, fields, notes=RANGES):
     )
     parser.set_defaults(answer=answer, output=None)
     for field in fields:
-        parser.add_argument(field, type=number, metavar=field.upper())
+        parser.add_argument(field, type=number, metavar=field.upper(), help=FIELDS[field])
     return parser
 
 
 def branch(commands, name, summary):
     """A command that has commands of its own."""
-    parser = commands.add_parser(name, help=summary, description=sentence(summary))
+    more = "./bellpulsar %s WHAT --help says how." % name
+    parser = commands.add_parser(name, help=summary, description=sentence(summary), epilog=more)
     return parser.add_subparsers(required=True, metavar="WHAT", dest=name)
 
 

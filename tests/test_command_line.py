@@ -20,8 +20,8 @@ COMMAND = os.path.join(ROOT, "bellpulsar")
 SVG = "{http://www.w3.org/2000/svg}"
 
 QUESTION = {
-    1: "Is the mode listed?",
-    2: "Is the size that mode's?",
+    1: "Is the mode listed (in a plan: 0, 2 or 3)?",
+    2: "Is the size that mode's (of a plan: 256, 512, 1024 or 2048)?",
     3: "Is the cell in range?",
     4: "Is the slot below 512, the zone's symbol below 512 times the slot length?",
     5: "Is the subchannel in range?",
@@ -387,7 +387,9 @@ class Usage(Case):
             self.assertTrue(done.stdout.startswith(b"usage: bellpulsar %s" % name.encode()), name)
             self.assertIn(b"example:\n  ./bellpulsar %s" % name.encode(), done.stdout)
         for name in ("collisions", "plan", "picture"):
-            self.assertEqual(run(name, "--help").returncode, 0)
+            done = run(name, "--help")
+            self.assertEqual((done.stderr, done.returncode), (b"", 0))
+            self.assertIn(b"./bellpulsar %s WHAT --help" % name.encode(), done.stdout)
 
     def test_examples_of_the_help(self):
         """Each example that has its output below it prints that."""
@@ -399,6 +401,14 @@ class Usage(Case):
                 self.prints(line.removeprefix("./bellpulsar "), "".join(part + "\n" for part in output))
                 tried += 1
         self.assertGreaterEqual(tried, 6)
+
+    def test_examples_of_the_readme(self):
+        with open(os.path.join(ROOT, "README.md")) as file:
+            examples = re.findall(r"^    \$ \./bellpulsar (.*)\n((?:    [^$\n].*\n)+)", file.read(), re.MULTILINE)
+        self.assertGreaterEqual(len(examples), 6)
+        for line, output in examples:
+            text = "".join(part[4:] + "\n" for part in output.splitlines())
+            self.assertEqual(run(*shlex.split(line)).stdout.decode(), text, line)
 
     def test_not_understood(self):
         self.not_understood("")

@@ -12,6 +12,7 @@ import itertools
 import os
 import pickle
 import random
+import re
 import subprocess
 import sys
 import tracemalloc
@@ -273,6 +274,11 @@ class Refusals(unittest.TestCase):
         self.assertEqual(sorted(bp.QUESTIONS), list(range(1, 17)))
         self.assertEqual(len(set(bp.QUESTIONS.values())), 16)
         self.assertTrue(all(text[0].isupper() and text.endswith("?") for text in bp.QUESTIONS.values()))
+
+    def test_the_wrapper_in_rust_has_the_same_questions(self):
+        with open(os.path.join(ROOT, "examples", "rust", "bellpulsar.rs")) as file:
+            rust = dict(re.findall(r'^ +(\d+) => "(.*\?)",$', file.read(), re.MULTILINE))
+        self.assertEqual(rust, {str(n): text[0].lower() + text[1:] for n, text in bp.QUESTIONS.items()})
 
     def test_every_number_comes_back(self):
         def read(text):
@@ -553,7 +559,9 @@ class NoRefusal(unittest.TestCase):
             dest = bytearray(b"\x55" * 80)
             self.fails(ValueError, bp.plan_write, 1, 1024, zones, dest)
             self.assertEqual(dest, b"\x55" * 80)
-        self.assertRaises(TypeError, bp.plan_write, 1, 1024, [0] * 24, bytearray(80))
+        self.fails(TypeError, bp.plan_write, 1, 1024, [0] * 24, bytearray(80))
+        self.fails(TypeError, bp.plan_bytes, 1024, zone)
+        self.fails(ValueError, bp.plan_bytes, 1024, [(2, 0)])
         self.fails(TypeError, bp.plan_write, 1, 1024, [zone] + [unused] * 7, array("f", [0] * 9))
         self.fails(TypeError, bp.plan_read, "0280")
         self.fails(TypeError, bp.plan_read, array("H", [1, 2]))
@@ -698,10 +706,11 @@ class Loading(unittest.TestCase):
             last = imported_with(other).stderr.splitlines()[-1]
             self.assertTrue(last.startswith("ImportError: %s is not a Bellpulsar library" % other), last)
 
-    def test_the_examples_of_the_module(self):
-        failed, tried = doctest.testmod(bp)
-        self.assertEqual(failed, 0)
-        self.assertGreater(tried, 5)
+    def test_the_examples_of_the_module_and_the_readme(self):
+        readme = os.path.join(ROOT, "README.md")
+        for failed, tried in (doctest.testmod(bp), doctest.testfile(readme, module_relative=False)):
+            self.assertEqual(failed, 0)
+            self.assertGreater(tried, 5)
 
 
 @unittest.skipIf(numpy is None, "numpy is not installed")

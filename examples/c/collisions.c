@@ -28,5 +28,5 @@ int main(int argc, char **argv)
         if (hits[k])
             printf(" %d", k);
     printf("\ncount %u\n", count);
-    return 0;
+    return fflush(stdout) == 0 ? 0 : 2;
 }

@@ -1,19 +1,18 @@
-/* Reads a zone plan, prints its zones, and writes it again: plan BYTE.. (each byte two hex digits). At most 128 bytes
-   are read, which decide: no plan is that long. */
+/* Reads a zone plan, prints its zones, and writes it again: plan BYTE.. (each byte two hex digits). The first 128 bytes
+   decide: no plan is that long. */
 #include <stdio.h>
 #include <stdlib.h>
+#include <string.h>
 
 #include "bellpulsar.h"
 
 static uint8_t byte(const char *word)
 {
-    char *end;
-    unsigned long n = strtoul(word, &end, 16);
-    if (end == word || *end != '\0' || n > 0xFF) {
-        fprintf(stderr, "not a number: %s\n", word);
+    if (strlen(word) != 2 || strspn(word, "0123456789ABCDEFabcdef") != 2) {
+        fprintf(stderr, "not two hex digits: %s\n", word);
         exit(2);
     }
-    return (uint8_t)n;
+    return (uint8_t)strtoul(word, NULL, 16);
 }
 
 int main(int argc, char **argv)
@@ -21,8 +20,11 @@ int main(int argc, char **argv)
     uint8_t bytes[128], again[128];
     size_t len = 0;
     uint32_t count, size, zones[24], written;
-    for (int i = 1; i < argc && len < sizeof bytes; i++)
-        bytes[len++] = byte(argv[i]);
+    for (int i = 1; i < argc; i++) {
+        uint8_t next = byte(argv[i]);
+        if (len < sizeof bytes)
+            bytes[len++] = next;
+    }
 
     uint32_t refused = bp_plan_read(bytes, len, &count, &size, zones);
     if (refused == 0)
@@ -38,5 +40,5 @@ int main(int argc, char **argv)
     for (uint32_t i = 0; i < written; i++)
         printf(" %02X", again[i]);
     printf("\n");
-    return 0;
+    return fflush(stdout) == 0 ? 0 : 2;
 }

@@ -25,5 +25,5 @@ int main(int argc, char **argv)
     printf("symbol %u carrier %u\n", symbol, carrier);
     if (kind == 3)
         printf("holds slot %u subchannel %u index %u\n", slot, subchannel, index);
-    return 0;
+    return fflush(stdout) == 0 ? 0 : 2;
 }

@@ -2,6 +2,13 @@
 # Builds and runs an example: run.sh point|collisions|slot|plan ARGUMENTS
 set -eu
 cd "$(dirname "$0")/../.."
+case ${1-} in
+point | collisions | slot | plan) ;;
+*)
+    echo "usage: run.sh point|collisions|slot|plan ARGUMENTS" >&2
+    exit 2
+    ;;
+esac
 example=$1
 shift
 ./build.sh

@@ -40,5 +40,5 @@ int main(int argc, char **argv)
            found, subchannel, index);
     printf("%zu points: %s\n", points_len / 2,
            memcmp(points, back, points_len * sizeof(float)) == 0 ? "all back" : "not all back");
-    return 0;
+    return fflush(stdout) == 0 ? 0 : 2;
 }

@@ -58,8 +58,8 @@ impl Refusal {
     /// The question in words.
     pub fn question(self) -> &'static str {
         match self.0 {
-            1 => "is the mode listed (in a plan: is it 0, 2 or 3)?",
-            2 => "is the size that mode's?",
+            1 => "is the mode listed (in a plan: 0, 2 or 3)?",
+            2 => "is the size that mode's (of a plan: 256, 512, 1024 or 2048)?",
             3 => "is the cell in range?",
             4 => "is the slot below 512, the zone's symbol below 512 times the slot length?",
             5 => "is the subchannel in range?",
@@ -69,7 +69,7 @@ impl Refusal {
             9 => "is the grid just 2 * size floats for each symbol of a slot?",
             10 => "do the bytes reach to the value's end or its third group?",
             11 => "does the value end by its third group, in shortest form?",
-            12 => "is the count 1 to 8 (writing: and every place past it zero)?",
+            12 => "is the count 1 to 8, and in writing every place past it zero?",
             13 => "are the slots 1 to 512?",
             14 => "at 2048, is the first zone mode 0 with cell 0, and does nothing but mode 3 follow mode 3?",
             15 => "are the bytes used up?",

@@ -11,6 +11,7 @@
 mod bellpulsar;
 
 use bellpulsar::{Address, Collisions, Content, Place, Refusal, Seen, Setup};
+use std::io::Write;
 use std::num::IntErrorKind;
 use std::process::exit;
 
@@ -39,32 +40,35 @@ fn field(word: &str) -> u32 {
     }
 }
 
-/// A byte from one or two hex digits.
+/// A byte from two hex digits.
 fn byte(word: &str) -> u8 {
-    u8::from_str_radix(word, 16).unwrap_or_else(|_| no_number(word))
+    if word.len() != 2 || !word.bytes().all(|c| c.is_ascii_hexdigit()) {
+        eprintln!("not two hex digits: {word}");
+        exit(2)
+    }
+    u8::from_str_radix(word, 16).unwrap()
 }
 
-fn point(setup: Setup, address: Address) -> Result<(), Refusal> {
+fn point(setup: Setup, address: Address) -> Result<String, Refusal> {
     let at = bellpulsar::place(setup, address)?;
     let content = bellpulsar::locate(setup, at)?;
-    println!("symbol {} carrier {}", at.symbol, at.carrier);
+    let mut text = format!("symbol {} carrier {}\n", at.symbol, at.carrier);
     if let Content::Data(of) = content {
-        println!(
-            "holds slot {} subchannel {} index {}",
+        text += &format!(
+            "holds slot {} subchannel {} index {}\n",
             of.slot, of.subchannel, of.index
         );
     }
-    Ok(())
+    Ok(text)
 }
 
-fn collisions(what: &str, found: Result<Collisions, Refusal>) -> Result<(), Refusal> {
+fn collisions(what: &str, found: Result<Collisions, Refusal>) -> Result<String, Refusal> {
     let found = found?;
     let hit: String = (0..48)
         .filter(|&k| found.hits[k])
         .map(|k| format!(" {k}"))
         .collect();
-    println!("{what}{hit}\ncount {}", found.count);
-    Ok(())
+    Ok(format!("{what}{hit}\ncount {}\n", found.count))
 }
 
 /// How many points a slot has, and how many symbols.
@@ -76,7 +80,7 @@ fn slot_shape(setup: Setup) -> (usize, usize) {
     }
 }
 
-fn slot(setup: Setup, slot: u32) -> Result<(), Refusal> {
+fn slot(setup: Setup, slot: u32) -> Result<String, Refusal> {
     // Asked first: only numbers that are in range make buffers.
     let address = Address {
         slot,
@@ -91,34 +95,37 @@ fn slot(setup: Setup, slot: u32) -> Result<(), Refusal> {
     bellpulsar::fill(setup, slot, [1.0, 0.0], &points, &mut grid)?;
     let seen = bellpulsar::look(setup, symbol, &grid, carrier)?;
     bellpulsar::empty(setup, slot, &grid, &mut back)?;
+    let mut text = String::new();
     if let Seen::Data([i, q], of) = seen {
-        println!(
-            "symbol {symbol} carrier {carrier}: point ({i}, {q}) of slot {} subchannel {} index {}",
+        text += &format!(
+            "symbol {symbol} carrier {carrier}: point ({i}, {q}) of slot {} subchannel {} index {}\n",
             of.slot, of.subchannel, of.index
         );
     }
     let all = if back == points { "all" } else { "not all" };
-    println!("{count} points: {all} back");
-    Ok(())
+    Ok(text + &format!("{count} points: {all} back\n"))
 }
 
-fn plan(bytes: &[u8]) -> Result<(), Refusal> {
+fn plan(bytes: &[u8]) -> Result<String, Refusal> {
     let plan = bellpulsar::plan_read(bytes)?;
     let mut again = [0; 128];
     let written = bellpulsar::plan_write(&plan, &mut again)?;
-    println!("size {}", plan.size);
+    let mut text = format!("size {}\n", plan.size);
     for zone in &plan.zones[..plan.count as usize] {
-        println!("mode {} cell {} slots {}", zone.mode, zone.cell, zone.slots);
+        text += &format!(
+            "mode {} cell {} slots {}\n",
+            zone.mode, zone.cell, zone.slots
+        );
     }
-    let text: String = again[..written]
+    let bytes: String = again[..written]
         .iter()
         .map(|byte| format!(" {byte:02X}"))
         .collect();
-    println!("bytes{text}");
-    Ok(())
+    Ok(text + &format!("bytes{bytes}\n"))
 }
 
-fn run(name: &str, words: &[String]) -> Result<(), Refusal> {
+/// What an example prints.
+fn run(name: &str, words: &[String]) -> Result<String, Refusal> {
     if name == "plan" {
         return plan(&words.iter().map(|word| byte(word)).collect::<Vec<u8>>());
     }
@@ -147,8 +154,11 @@ fn run(name: &str, words: &[String]) -> Result<(), Refusal> {
 fn main() {
     let words: Vec<String> = std::env::args().skip(1).collect();
     let (name, words) = words.split_first().unwrap_or_else(|| usage());
-    if let Err(Refusal(number)) = run(name, words) {
-        println!("refused {number}");
-        exit(1);
-    }
+    let (text, status) = match run(name, words) {
+        Ok(text) => (text, 0),
+        Err(Refusal(number)) => (format!("refused {number}\n"), 1),
+    };
+    // print! would panic where nobody reads, or nothing more can be written.
+    let written = std::io::stdout().write_all(text.as_bytes());
+    exit(if written.is_ok() { status } else { 2 })
 }
