@@ -6,7 +6,7 @@ use Rattle.base.specs.Steps.{entry}
 use Rattle.amc.specs.Table.{sequenceDigits}
 use Rattle.amc.specs.Element.{number, sequence}
 use Rattle.amc.specs.Map.{elementOf, traffic, dataNumber}
-use Rattle.amc.specs.Row.{sumPlace, sequencePlace, sequenceNumber}
+use Rattle.amc.specs.Model.{sumPlace, sequencePlace, sequenceNumber}
 use Rattle.amc.proofs.Tables.{powers}
 use Rattle.amc.proofs.Law.{traffic-lt, number-by-first}
 

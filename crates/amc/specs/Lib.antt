@@ -1,4 +1,4 @@
 pub mod Table
 pub mod Element
 pub mod Map
-pub mod Row
+pub mod Model

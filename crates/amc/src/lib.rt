@@ -5,7 +5,7 @@ use carriers::Address;
 ghost use mathlib.Core.Path.{_≡_};
 ghost use Prim.Native.Nat.{_/_, _%_, _<_};
 ghost use Rattle.base.specs.Tabulate.{tabulate, Starts};
-ghost use Rattle.amc.specs.Row.{sumPlace, sequencePlace, sequenceNumber};
+ghost use Rattle.amc.specs.Model.{sumPlace, sequencePlace, sequenceNumber};
 ghost use Rattle.amc.specs.Element.{Proper, element, number as Number, digits as Digits, add as Add, subtract as Subtract, sequence as Sequence};
 ghost use Rattle.amc.specs.Map.{off as Off, zeroRule, sumOf, elementOf, traffic as Traffic, indexOf, dataNumber, addressOf};
 

@@ -6,7 +6,7 @@ use Rattle.base.specs.Steps.{skip}
 use Rattle.carriers.specs.declared.Band.{Band}
 use Rattle.carriers.specs.declared.Spot.{Spot}
 use Rattle.carriers.specs.Band.{carrierOf}
-use Rattle.carriers.specs.Row.{spotNumber, carrierNumber, carrierStep}
+use Rattle.carriers.specs.Model.{spotNumber, carrierNumber, carrierStep}
 
 pub step-carrier : (b : Band) (x : Spot) → x .used < 2048 → carrierStep b (spotNumber x) ≡ carrierNumber b x
 unfolding carrierStep carrierOf skip

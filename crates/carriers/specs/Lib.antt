@@ -1,4 +1,4 @@
 pub mod Band
 pub mod Bin
 pub mod Law
-pub mod Row
+pub mod Model

@@ -7,7 +7,7 @@ ghost use Prim.Native.Nat.{_+_, _≤_, _<_};
 ghost use Rattle.base.specs.Steps.{entry};
 ghost use Rattle.base.specs.Tabulate.{tabulate, Below};
 ghost use Rattle.carriers.specs.Band.{binBand, puscBand, carrierOf, usedOf, isGuard, isDc};
-ghost use Rattle.carriers.specs.Row.{carrierStep};
+ghost use Rattle.carriers.specs.Model.{carrierStep};
 ghost use Rattle.carriers.specs.Bin.{binPilotPlace, isBinPilot, usedOfData, dataOfUsed};
 
 // A symbol's carriers, rising: left guards, the used carriers with DC among them, right guards.

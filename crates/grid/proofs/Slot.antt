@@ -11,7 +11,7 @@ use Rattle.base.specs.Steps.{entry}
 use Rattle.base.specs.Tabulate.{Turned}
 use Rattle.base.proofs.Tabulate.{turned-below}
 use Rattle.carriers.specs.Band.{carrierOf}
-use Rattle.carriers.specs.Row.{carrierNumber}
+use Rattle.carriers.specs.Model.{carrierNumber}
 use Rattle.carriers.specs.Law.{DataSpot}
 use Rattle.carriers.proofs.Guards.{carrier-lt}
 use Rattle.map.specs.declared.Setup.{Setup}
@@ -24,7 +24,7 @@ use Rattle.map.proofs.Law.{content-placed, locate-accepts, placed-where-located
 use Rattle.grid.specs.Row.{gridPoints, position, usedPosition, rowOf, columnOf}
 use Rattle.grid.specs.Grid.{standsAt, pointNumber}
 use Rattle.grid.specs.Model.{Within}
-use Rattle.map.specs.Row.{shiftOf}
+use Rattle.map.specs.Model.{shiftOf}
 use Rattle.map.proofs.Row.{shift-lt}
 
 -- what the grid holds at its point n

@@ -9,7 +9,7 @@ ghost use lib.ListN.{length, replicate};
 ghost use Rattle.map.specs.Mode.{symbols, subchannels, band};
 ghost use Rattle.map.specs.Place.{located};
 ghost use Rattle.map.specs.Valid.{Valid};
-ghost use Rattle.map.specs.Row.{TableOf};
+ghost use Rattle.map.specs.Model.{TableOf};
 ghost use Rattle.base.specs.Answer.{number};
 ghost use Rattle.base.specs.Steps.{entry};
 ghost use Rattle.grid.specs.Points.{zero32, pointAt};

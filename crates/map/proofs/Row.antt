@@ -17,18 +17,18 @@ use Rattle.amc.proofs.Row.{number-at, sequence-place-lt}
 use Rattle.pusc_ul.proofs.Row.{number-on-place}
 use Rattle.carriers.specs.Bin.{usedOfData, binSpot}
 use Rattle.carriers.specs.Law.{DataSpot}
-use Rattle.carriers.specs.Row.{spotNumber, carrierNumber, carrierStep}
+use Rattle.carriers.specs.Model.{spotNumber, carrierNumber, carrierStep}
 use Rattle.carriers.proofs.Row.{step-carrier}
 use Rattle.map.specs.declared.Setup.{Setup}
 use Rattle.map.specs.Mode.{width, subchannels, symbols, band, isPilot, spotOf}
 use Rattle.map.specs.Valid.{Valid}
-use Rattle.map.specs.Row.{tableLength, tableEntry, TableOf, shiftOf}
+use Rattle.map.specs.Model.{tableLength, tableEntry, TableOf, shiftOf}
 use Rattle.map.proofs.ByMode.{mode-0, mode-1, mode-2, mode-3, in-pusc-dl, in-pusc-ul, in-ofusc, in-amc, bin-width, symbols-range, used-few}
 use Rattle.map.proofs.Slot.{slot-law}
-use Rattle.pusc_dl.specs.Row as pusc-dl
-use Rattle.pusc_ul.specs.Row as pusc-ul
-use Rattle.ofusc.specs.Row as ofusc
-use Rattle.amc.specs.Row as amc
+use Rattle.pusc_dl.specs.Model as pusc-dl
+use Rattle.pusc_ul.specs.Model as pusc-ul
+use Rattle.ofusc.specs.Model as ofusc
+use Rattle.amc.specs.Model as amc
 use Rattle.pusc_dl.specs.Map as pusc-dl-map
 use Rattle.ofusc.specs.Map as ofusc-map
 

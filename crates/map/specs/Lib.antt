@@ -2,4 +2,4 @@ pub mod Mode
 pub mod Question
 pub mod Place
 pub mod Valid
-pub mod Row
+pub mod Model

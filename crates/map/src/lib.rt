@@ -8,12 +8,12 @@ ghost use Prim.Native.Nat.{_*_, _<_, _≤_};
 ghost use Rattle.base.specs.Answer.{accepted};
 ghost use Rattle.base.specs.Tabulate.{Turned};
 ghost use Rattle.carriers.specs.Bin.{binSpot};
-ghost use Rattle.carriers.specs.Row.{spotNumber, carrierNumber};
+ghost use Rattle.carriers.specs.Model.{spotNumber, carrierNumber};
 ghost use Rattle.map.specs.Mode.{width as Width, cells as Cells, subchannels as Subchannels, symbols as Symbols, band as BandOf, isPilot, spotOf, addressOf};
 ghost use Rattle.map.specs.Question.{isFourSizes, isSize, setupNumber};
 ghost use Rattle.map.specs.Place.{placed, placeAt, placeOf, located, contentOf, locateOf};
 ghost use Rattle.map.specs.Valid.{Valid};
-ghost use Rattle.map.specs.Row.{TableOf, shiftOf};
+ghost use Rattle.map.specs.Model.{TableOf, shiftOf};
 
 // What a zone fixes: mode, FFT size and cell.
 pub struct Setup {

@@ -6,7 +6,7 @@ use lib.Arith.{digits-lt}
 use lib.Bits.{bitXor, xor-block, xor-zero-r, xor-comm}
 use Rattle.ofusc.specs.Width.{Width}
 use Rattle.ofusc.specs.Map.{groupOf, mask, dataNumber}
-use Rattle.ofusc.specs.Row.{cellNumber, groupNumber}
+use Rattle.ofusc.specs.Model.{cellNumber, groupNumber}
 use Rattle.ofusc.proofs.Sequence.{size, mask-lt}
 
 module _ {n : ℕ} (w : Width n) (cell : ℕ) where

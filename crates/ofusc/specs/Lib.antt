@@ -2,4 +2,4 @@ pub mod Width
 pub mod Field
 pub mod Table
 pub mod Map
-pub mod Row
+pub mod Model

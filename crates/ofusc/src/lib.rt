@@ -8,7 +8,7 @@ ghost use Rattle.base.specs.Steps.{entry};
 ghost use Rattle.base.specs.Tabulate.{tabulate, Starts};
 ghost use Rattle.ofusc.specs.Width.{Width};
 ghost use Rattle.ofusc.specs.Map.{groupOf, term as Term, mask as Mask, dataNumber, addressOf};
-ghost use Rattle.ofusc.specs.Row.{cellNumber, groupNumber};
+ghost use Rattle.ofusc.specs.Model.{cellNumber, groupNumber};
 
 // The basic permutation sequences of document 002, table 6. The row of N, which has N-1 entries, starts at place N.
 const SEQUENCE_1: [u8; 63] = [

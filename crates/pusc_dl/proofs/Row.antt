@@ -12,7 +12,7 @@ use Rattle.pusc_dl.specs.Table.{base12, base8}
 use Rattle.pusc_dl.specs.Cluster.{unrenumber, clusterPlace}
 use Rattle.pusc_dl.specs.Group.{clusterStarts, groupSize, baseOf, groupData}
 use Rattle.pusc_dl.specs.Map.{groupUsed}
-use Rattle.pusc_dl.specs.Row.{tableEntry, baseStart, groupSpot}
+use Rattle.pusc_dl.specs.Model.{tableEntry, baseStart, groupSpot}
 use Rattle.pusc_dl.specs.declared.Logical.{Logical}
 use Rattle.pusc_dl.proofs.Cluster.{renumber-perm}
 use Rattle.pusc_dl.proofs.Group.{data-lt, cluster-runs}

@@ -2,4 +2,4 @@ pub mod Table
 pub mod Cluster
 pub mod Group
 pub mod Map
-pub mod Row
+pub mod Model

@@ -14,13 +14,13 @@ ghost use lib.Dec.{eqb};
 ghost use Rattle.base.specs.Choice.{pick};
 ghost use Rattle.base.specs.Steps.{entry};
 ghost use Rattle.base.specs.Tabulate.{tabulate, Starts};
-ghost use Rattle.carriers.specs.Row.{spotNumber};
+ghost use Rattle.carriers.specs.Model.{spotNumber};
 ghost use Rattle.pusc_dl.specs.Table.{renumberingInverse, base12, base8};
 ghost use Rattle.pusc_dl.specs.Cluster as cluster;
 ghost use Rattle.pusc_dl.specs.Cluster.{firstPilot, secondPilot, isClusterPilot, clusterPlace, clusterData};
 ghost use Rattle.pusc_dl.specs.Group.{groupIn, groupSize, groupData, groupSubchannel, groupIndex};
 ghost use Rattle.pusc_dl.specs.Map.{groupUsed, usedGroup, usedData, spotOf, addressOf};
-ghost use Rattle.pusc_dl.specs.Row.{tableEntry, baseStart, groupSpot};
+ghost use Rattle.pusc_dl.specs.Model.{tableEntry, baseStart, groupSpot};
 
 // A cluster's number in the order of the carriers, and its number after the renumbering. They are never added or compared.
 pub struct Physical(pub usize);

@@ -14,11 +14,11 @@ use Rattle.base.proofs.Test.{cases}
 use Rattle.base.proofs.Tabulate.{tabulated}
 use Rattle.base.proofs.LeaveOut.{skip-below, skip-above, skip-le}
 use Rattle.carriers.specs.Band.{puscBand, carrierOf}
-use Rattle.carriers.specs.Row.{carrierNumber}
+use Rattle.carriers.specs.Model.{carrierNumber}
 use Rattle.pusc_ul.specs.Table.{tilePermutation}
 use Rattle.pusc_ul.specs.Tile.{tileOf, isTilePilot, placeTile, dataPlace}
 use Rattle.pusc_ul.specs.Map.{spotOf}
-use Rattle.pusc_ul.specs.Row.{tableEntry, placeNumber}
+use Rattle.pusc_ul.specs.Model.{tableEntry, placeNumber}
 use Rattle.pusc_ul.proofs.Place.{on-carrier, on-place}
 
 -- index m is on data place (m+13s) mod 48

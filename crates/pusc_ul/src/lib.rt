@@ -9,7 +9,7 @@ ghost use Rattle.base.specs.Tabulate.{tabulate, Starts};
 ghost use Rattle.carriers.specs.Band.{puscBand, carrierOf};
 ghost use Rattle.pusc_ul.specs.Tile.{tileOf, tileSubchannel, isTilePilot, placeSymbol, placeTile, placeCarrier, dataPlace};
 ghost use Rattle.pusc_ul.specs.Map.{spotOf, addressOf};
-ghost use Rattle.pusc_ul.specs.Row.{tableEntry, placeNumber};
+ghost use Rattle.pusc_ul.specs.Model.{tableEntry, placeNumber};
 
 // Q of document 01, as document 000 prints it, and its inverse.
 const TILE_PERMUTATION: [u8; 70] = [

@@ -5,7 +5,7 @@ use native.Mathlib.Omega.{arith}
 use borrow.Author.Needs.{needs}
 use Rattle.base.specs.Steps.{entry}
 use Rattle.base.proofs.Tabulate.{Written, written-none, written-next, written-all}
-use Rattle.amc.specs.Row.{sequencePlace, sequenceNumber}
+use Rattle.amc.specs.Model.{sequencePlace, sequenceNumber}
 use Rattle.amc.proofs.Row.{sequence-place-lt}
 use Rattle.amc.proofs.numbers.Statement.{statement}
 use Rattle.amc.proofs.numbers.Tie as tie

@@ -4,7 +4,7 @@ use Prim.Native.Nat.{_-_}
 use native.Mathlib.Omega.{arith}
 use borrow.Author.Needs.{needs}
 use Rattle.base.proofs.Tabulate.{Written, written-none, written-next, written-starts}
-use Rattle.amc.specs.Row.{sumPlace, sequencePlace}
+use Rattle.amc.specs.Model.{sumPlace, sequencePlace}
 use Rattle.amc.proofs.Law.{off-proper}
 use Rattle.amc.proofs.Tables.{powers}
 use Rattle.amc.proofs.Row.{entry-digits}

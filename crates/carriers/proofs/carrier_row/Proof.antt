@@ -9,7 +9,7 @@ use Rattle.base.specs.Choice.{pick}
 use Rattle.base.specs.Steps.{entry}
 use Rattle.base.proofs.LeaveOut.{step-is, step-fits}
 use Rattle.base.proofs.Tabulate.{Written, written-none, written-next, written-all}
-use Rattle.carriers.specs.Row.{carrierStep}
+use Rattle.carriers.specs.Model.{carrierStep}
 use Rattle.carriers.proofs.carrier_row.Statement.{statement}
 use Rattle.carriers.proofs.carrier_row.Tie as tie
 

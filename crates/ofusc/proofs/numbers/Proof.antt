@@ -3,7 +3,7 @@ use Prim.Native.Nat.{_-_}
 use native.Mathlib.Omega.{arith}
 use borrow.Author.Needs.{needs}
 use Rattle.base.proofs.Tabulate.{Written, written-none, written-next, written-all}
-use Rattle.ofusc.specs.Row.{groupNumber}
+use Rattle.ofusc.specs.Model.{groupNumber}
 use Rattle.ofusc.proofs.Sequence.{size}
 use Rattle.ofusc.proofs.Row.{with-subchannel}
 use Rattle.ofusc.proofs.numbers.Statement.{statement}

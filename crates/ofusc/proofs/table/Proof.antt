@@ -6,7 +6,7 @@ use native.Mathlib.Omega.{arith}
 use lib.Bits.{bitXor}
 use borrow.Author.Needs.{needs}
 use Rattle.base.proofs.Tabulate.{Written, written-none, written-next, written-starts}
-use Rattle.ofusc.specs.Row.{cellNumber}
+use Rattle.ofusc.specs.Model.{cellNumber}
 use Rattle.ofusc.proofs.Sequence.{pos}
 use Rattle.ofusc.proofs.Tables.{mask-is}
 use Rattle.ofusc.proofs.Row.{cell-number-lt}

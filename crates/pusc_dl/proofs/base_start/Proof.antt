@@ -1,7 +1,7 @@
 -- `pusc_dl::base_start` meets its contract. Assumes nothing.
 use borrow.Author.Needs.{needs}
 use borrow.Author.Tests.{eq-eqb, ne-eqb}
-use Rattle.pusc_dl.specs.Row.{baseStart}
+use Rattle.pusc_dl.specs.Model.{baseStart}
 use Rattle.pusc_dl.proofs.base_start.Statement.{statement}
 use Rattle.pusc_dl.proofs.base_start.Tie as tie
 

@@ -4,7 +4,7 @@ use Prim.Native.Nat.{_+_, _-_}
 use native.Mathlib.Omega.{arith}
 use lib.Arith.{digits-lt}
 use borrow.Author.Needs.{needs}
-use Rattle.pusc_dl.specs.Row.{groupSpot}
+use Rattle.pusc_dl.specs.Model.{groupSpot}
 use Rattle.pusc_dl.proofs.Row.{Turn, in-base, data-number, in-clusters, cluster-lt, spot}
 use Rattle.pusc_dl.proofs.Halves.{Halves, halves-none, halves-next, halves-all}
 use Rattle.pusc_dl.proofs.group_spots.Statement.{statement}

@@ -1,7 +1,7 @@
 -- `pusc_dl::table_entry` meets its contract. Assumes nothing.
 use borrow.Author.Needs.{needs}
 use borrow.Author.Tests.{lt-ltb, le-ltb}
-use Rattle.pusc_dl.specs.Row.{tableEntry}
+use Rattle.pusc_dl.specs.Model.{tableEntry}
 use Rattle.pusc_dl.proofs.table_entry.Statement.{statement}
 use Rattle.pusc_dl.proofs.table_entry.Tie as tie
 

@@ -6,7 +6,7 @@ use lib.Dec.{lit<}
 use borrow.Author.Needs.{needs}
 use Rattle.base.specs.Steps.{entry}
 use Rattle.pusc_ul.specs.Tile.{dataPlace, isTilePilot}
-use Rattle.pusc_ul.specs.Row.{placeNumber}
+use Rattle.pusc_ul.specs.Model.{placeNumber}
 use Rattle.pusc_ul.proofs.Row.{TileTurn, tiles-none, tiles-next, tiles-all, first, number-of, start-lt, table-entry-lt}
 use Rattle.pusc_ul.proofs.carrier_row.Statement.{statement}
 use Rattle.pusc_ul.proofs.carrier_row.Tie as tie

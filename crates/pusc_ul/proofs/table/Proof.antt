@@ -3,7 +3,7 @@ use Prim.Native.Nat.{_-_}
 use native.Mathlib.Omega.{arith}
 use borrow.Author.Needs.{needs}
 use Rattle.base.proofs.Tabulate.{Written, written-none, written-next}
-use Rattle.pusc_ul.specs.Row.{tableEntry}
+use Rattle.pusc_ul.specs.Model.{tableEntry}
 use Rattle.pusc_ul.proofs.table.Statement.{statement}
 use Rattle.pusc_ul.proofs.table.Tie as tie
 

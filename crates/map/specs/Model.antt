@@ -4,10 +4,10 @@ use Prim.Native.Nat.{ℕ, _*_, _%_}
 use Rattle.base.specs.Tabulate.{Starts}
 use Rattle.map.specs.declared.Setup.{Setup}
 use Rattle.map.specs.Mode.{byMode, width}
-use Rattle.pusc_dl.specs.Row as pusc-dl
-use Rattle.pusc_ul.specs.Row as pusc-ul
-use Rattle.ofusc.specs.Row as ofusc
-use Rattle.amc.specs.Row as amc
+use Rattle.pusc_dl.specs.Model as pusc-dl
+use Rattle.pusc_ul.specs.Model as pusc-ul
+use Rattle.ofusc.specs.Model as ofusc
+use Rattle.amc.specs.Model as amc
 
 -- what the cell alone fixes, in the table of its mode: how many entries, and entry i
 unfoldable pub tableLength : Setup → ℕ
