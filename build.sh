@@ -5,7 +5,7 @@ set -eu
 cd "$(dirname "$0")"
 out=target/lib
 if [ -e "$out/libbellpulsar.so" ] &&
-    [ -z "$(find build.sh crates.txt crates -newer "$out/libbellpulsar.so" -print -quit)" ]; then
+    [ -z "$(find build.sh crates.txt crates/*/src crates/*/specs crates/*/proofs -newer "$out/libbellpulsar.so" -print -quit)" ]; then
     exit 0
 fi
 mkdir -p "$out"
