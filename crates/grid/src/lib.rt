@@ -354,7 +354,7 @@ fn carrier_position(c: Setup, symbol: usize, carrier: usize) -> usize
     requires { ⌜ carrier < c .size ⌝ }
     ensures { λ r. ⌜ (r ≡ Position c (symbol % symbols c) carrier) × (r < gridPoints c) ⌝ }
 {
-    symbol % map::symbols(c) * c.size + carrier
+    map::offset_of(c, symbol) * c.size + carrier
 }
 
 // The point on a carrier of a zone's symbol, and whose it is; or the first refusal of 1, 2, 3, 4, 7, 9.

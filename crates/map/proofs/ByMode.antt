@@ -44,6 +44,20 @@ same false a = refl
 pub mode-bins : {A : Type 0} (mode : ℕ) (a₀ a₁ a : A) → (mode ≡ 0 → ⊥) → (mode ≡ 1 → ⊥) → a ≡ byMode mode a₀ a₁ a a
 mode-bins mode a₀ a₁ a n₀ n₁ = rw (ne-eqb mode 0 n₀, ne-eqb mode 1 n₁) (same (eqb mode 2) a)
 
+-- the symbols of a slot by the mode
+module _ (c : Setup) where
+  pub two-symbols : c .mode ≡ 0 → 2 ≡ symbols c
+  unfolding symbols
+  two-symbols e = mode-0 _ _ _ _ _ e
+
+  pub three-symbols : c .mode ≡ 1 → 3 ≡ symbols c
+  unfolding symbols
+  three-symbols e = mode-1 _ _ _ _ _ e
+
+  pub one-symbol : (c .mode ≡ 0 → ⊥) → (c .mode ≡ 1 → ⊥) → 1 ≡ symbols c
+  unfolding symbols
+  one-symbol n₀ n₁ = mode-bins _ _ _ _ n₀ n₁
+
 -- the ranges of a valid setup, once its mode is known
 pub record Ranges (c : Setup) (cells subchannels′ used : ℕ) : Type 0 where
   pub cell-lt : c .cell < cells

@@ -76,8 +76,8 @@ module _ (c : Setup) (y k : ℕ) (b : Band) (e : b ≡ band c) where
   content-pilot g h t d h₁ t₁ u h₂ p h₃ t₃ = rw (← e, ← h, t, ← h₁, t₁, ← h₂, ← h₃, t₃)
 
   pub content-point : (g : Bool) → g ≡ isGuard b (c .size) k → g ≡ false → (d : Bool) → d ≡ isDc b k → d ≡ false
-      → (u : ℕ) → u ≡ usedOf b k → (p : Bool) → p ≡ isPilot c y u → p ≡ false → (a : Address) → a ≡ addressOf c y u → (n : ℕ) → n ≡ symbols c
-      → accepted (point (y / n) (a .subchannel) (a .index)) ≡ accepted (contentOf c y k)
+      → (u : ℕ) → u ≡ usedOf b k → (p : Bool) → p ≡ isPilot c y u → p ≡ false → (a : Address) → a ≡ addressOf c y u → (n : ℕ) → n ≡ y / symbols c
+      → accepted (point n (a .subchannel) (a .index)) ≡ accepted (contentOf c y k)
   unfolding contentOf pointAt
   content-point g h t d h₁ t₁ u h₂ p h₃ t₃ a h₄ n h₅ = rw (← e, ← h, t, ← h₁, t₁, ← h₂, ← h₃, t₃, ← h₄, ← h₅)
 

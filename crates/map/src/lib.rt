@@ -4,7 +4,7 @@ use carriers::Band;
 use carriers::Spot;
 ghost use mathlib.Core.Path.{_≡_};
 ghost use mathlib.Core.Bool.{false};
-ghost use Prim.Native.Nat.{_*_, _<_, _≤_};
+ghost use Prim.Native.Nat.{_*_, _/_, _%_, _<_, _≤_};
 ghost use Rattle.base.specs.Answer.{accepted};
 ghost use Rattle.base.specs.Tabulate.{Turned};
 ghost use Rattle.carriers.specs.Bin.{binSpot};
@@ -87,6 +87,32 @@ pub fn symbols(c: Setup) -> usize
         return 3;
     }
     1
+}
+
+// The slot of a zone's symbol, by a constant in each mode.
+fn slot_of(c: Setup, symbol: usize) -> usize
+    ensures { λ r. ⌜ r ≡ symbol / Symbols c ⌝ }
+{
+    if c.mode == 0 {
+        return symbol / 2;
+    }
+    if c.mode == 1 {
+        return symbol / 3;
+    }
+    symbol
+}
+
+// Its offset in that slot.
+pub fn offset_of(c: Setup, symbol: usize) -> usize
+    ensures { λ r. ⌜ r ≡ symbol % Symbols c ⌝ }
+{
+    if c.mode == 0 {
+        return symbol % 2;
+    }
+    if c.mode == 1 {
+        return symbol % 3;
+    }
+    0
 }
 
 pub fn band(c: Setup) -> Band
@@ -321,7 +347,7 @@ fn content(c: Setup, symbol: usize, carrier: usize) -> Located
     }
     let a = address(c, symbol, used);
     Located::Data {
-        slot: symbol / symbols(c),
+        slot: slot_of(c, symbol),
         subchannel: a.subchannel,
         index: a.index,
     }

@@ -40,9 +40,12 @@ size n32 = record { bits = 5; is = refl; above = omega arith; most = omega arith
 pub turn-pos : {n : ℕ} → Width n → 0 < n - 1
 turn-pos w = let z = size w .above in omega arith
 
--- a remainder by N-1, N being known
+-- a remainder by N-1, and a quotient and remainder by N, N being known
 pub turn-at : (x : ℕ) {n m : ℕ} → n ≡ m → x % (m - 1) ≡ x % (n - 1)
 turn-at x e = ap (λ (t : ℕ). x % (t - 1)) (sym e)
+
+pub parts-at : (x : ℕ) {n m : ℕ} → n ≡ m → (x / m ≡ x / n) × (x % m ≡ x % n)
+parts-at x e = (ap (λ (t : ℕ). x / t) (sym e), ap (λ (t : ℕ). x % t) (sym e))
 
 pub no-other : {n : ℕ} → Width n → (n ≡ 4 → ⊥) → (n ≡ 8 → ⊥) → (n ≡ 16 → ⊥) → n ≡ 32
 no-other n4 a b c = absurd (a refl)

@@ -3,7 +3,7 @@ use base::unrotate;
 use base::wide;
 use carriers::Address;
 ghost use mathlib.Core.Path.{_≡_};
-ghost use Prim.Native.Nat.{_+_, _*_, _-_, _%_, _<_};
+ghost use Prim.Native.Nat.{_+_, _*_, _-_, _/_, _%_, _<_};
 ghost use Rattle.base.specs.Steps.{entry};
 ghost use Rattle.base.specs.Tabulate.{tabulate, Starts};
 ghost use Rattle.ofusc.specs.Width.{Width};
@@ -160,6 +160,41 @@ fn turn(n: usize, x: usize) -> usize
     x % 31
 }
 
+// A number's quotient and remainder by N.
+struct ByWidth {
+    quotient: usize,
+    remainder: usize,
+}
+
+// Both by a constant at each width.
+fn parts(n: usize, x: usize) -> ByWidth
+    requires { ⌜ Width n ⌝ }
+    ensures { λ r. ⌜ (r .quotient ≡ x / n) × (r .remainder ≡ x % n) ⌝ }
+{
+    if n == 4 {
+        return ByWidth {
+            quotient: x / 4,
+            remainder: x % 4,
+        };
+    }
+    if n == 8 {
+        return ByWidth {
+            quotient: x / 8,
+            remainder: x % 8,
+        };
+    }
+    if n == 16 {
+        return ByWidth {
+            quotient: x / 16,
+            remainder: x % 16,
+        };
+    }
+    ByWidth {
+        quotient: x / 32,
+        remainder: x % 32,
+    }
+}
+
 // What the cell adds by one sequence in group k: its entry at (k'+c) mod (N-1), or nothing where c is 0.
 fn term(rows: &[u8; 63], n: usize, c: usize, k: usize) -> usize
     requires { ⌜ Width n ⌝ }
@@ -181,7 +216,8 @@ pub fn mask(n: usize, cell: usize, k: usize) -> usize
 {
     let first = SEQUENCE_1;
     let second = SEQUENCE_2;
-    term(&first, n, cell % n, k) ^ term(&second, n, cell / n, k)
+    let c = parts(n, cell);
+    term(&first, n, c.remainder, k) ^ term(&second, n, c.quotient, k)
 }
 
 fn group(s: usize, m: usize) -> usize
@@ -205,8 +241,9 @@ pub fn address(n: usize, cell: usize, d: usize) -> Address
     requires { ⌜ (cell < n * n) × (d < 48 * n) ⌝ }
     ensures { λ r. ⌜ r ≡ addressOf n cell d ⌝ }
 {
-    let k = d / n;
-    let s = (d % n) ^ mask(n, cell, k);
+    let p = parts(n, d);
+    let k = p.quotient;
+    let s = p.remainder ^ mask(n, cell, k);
     Address {
         subchannel: s,
         index: unrotate(48, 23 * s, k),

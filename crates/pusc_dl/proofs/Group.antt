@@ -14,9 +14,13 @@ use Rattle.base.proofs.Test.{cases}
 use Rattle.pusc_dl.specs.Group.{clusterStarts, subchannelStarts, groupIn, groupSize, baseOf, baseInverse, groupData, groupSubchannel, groupIndex}
 use Rattle.pusc_dl.proofs.Tables.{b12-perm, b8-perm}
 
-size-pos : (g : ℕ) → 0 < groupSize g
+pub size-pos : (g : ℕ) → 0 < groupSize g
 unfolding groupSize
 size-pos g = cases (eqb (g % 2) 0) (λ e. rw e (lit< tt)) (λ e. rw e (lit< tt))
+
+pub size-le : (g : ℕ) → groupSize g ≤ 12
+unfolding groupSize
+size-le g = cases (eqb (g % 2) 0) (λ e. rw e (omega arith)) (λ e. rw e (omega arith))
 
 pub size-8 : (g : ℕ) → (groupSize g ≡ 12 → ⊥) → groupSize g ≡ 8
 unfolding groupSize

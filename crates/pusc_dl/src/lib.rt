@@ -12,7 +12,7 @@ ghost use mathlib.Core.Bool.{false};
 ghost use Prim.Native.Nat.{_+_, _*_, _/_, _%_, _<_, _≤_};
 ghost use lib.Dec.{eqb};
 ghost use Rattle.base.specs.Choice.{pick};
-ghost use Rattle.base.specs.Steps.{entry};
+ghost use Rattle.base.specs.Steps.{entry, unrotate as Unrotate};
 ghost use Rattle.base.specs.Tabulate.{tabulate, Starts};
 ghost use Rattle.carriers.specs.Model.{spotNumber};
 ghost use Rattle.pusc_dl.specs.Table.{renumberingInverse, base12, base8};
@@ -393,6 +393,27 @@ fn group_size(g: usize) -> usize
     if g % 2 == 0 { 12 } else { 8 }
 }
 
+// The quotient and the remainder by a group's size, each by a constant.
+fn size_quotient(g: usize, x: usize) -> usize
+    ensures { λ r. ⌜ r ≡ x / groupSize g ⌝ }
+{
+    if group_size(g) == 12 { x / 12 } else { x / 8 }
+}
+
+fn size_remainder(g: usize, x: usize) -> usize
+    ensures { λ r. ⌜ (r ≡ x % groupSize g) × (r < groupSize g) ⌝ }
+{
+    if group_size(g) == 12 { x % 12 } else { x % 8 }
+}
+
+// y moved back by c, modulo a group's size.
+fn size_unrotate(g: usize, c: usize, y: usize) -> usize
+    requires { ⌜ y < 65536 ⌝ }
+    ensures { λ r. ⌜ (r ≡ Unrotate (groupSize g) c y) × (r < groupSize g) ⌝ }
+{
+    size_remainder(g, y + (group_size(g) - size_remainder(g, c)))
+}
+
 // The entry of the table for a group's size.
 fn of_size(g: usize, twelve: [u8; 12], eight: [u8; 8], i: usize) -> usize
     requires { ⌜ i < groupSize g ⌝ }
@@ -412,8 +433,8 @@ fn group_data(g: usize, cell: usize, s: usize, k: usize) -> usize
 {
     let m = group_size(g);
     let n = rotate(24, 13 * s, k);
-    let base = of_size(g, BASE_12, BASE_8, rotate(m, n, s));
-    n * m + rotate(m, cell, base)
+    let base = of_size(g, BASE_12, BASE_8, size_remainder(g, s + n));
+    n * m + size_remainder(g, base + cell)
 }
 
 // The reverse: the subchannel, counted in the group, and the index, below 24, of a group data number.
@@ -422,10 +443,10 @@ fn group_address(g: usize, cell: usize, d: usize) -> Address
     ensures { λ r. ⌜ (r .subchannel ≡ groupSubchannel (groupSize g) cell d) × (r .index ≡ groupIndex (groupSize g) cell d) ⌝ }
     ensures { λ r. ⌜ (r .subchannel < groupSize g) × (r .index < 24) ⌝ }
 {
-    let m = group_size(g);
-    let n = d / m;
-    let i = of_size(g, BASE_12_INVERSE, BASE_8_INVERSE, unrotate(m, cell, d % m));
-    let s = unrotate(m, n, i);
+    let n = size_quotient(g, d);
+    let place = size_unrotate(g, cell, size_remainder(g, d));
+    let i = of_size(g, BASE_12_INVERSE, BASE_8_INVERSE, place);
+    let s = size_unrotate(g, n, i);
     Address {
         subchannel: s,
         index: unrotate(24, 13 * s, n),

@@ -11,19 +11,16 @@ use borrow.Author.Needs.{needs}
 use Rattle.grid.proofs.carrier_position.Statement.{statement}
 use Rattle.grid.proofs.carrier_position.Tie as tie
 
-value : (c : tie.After-struct-known) → c .before .before .args .symbol % c .before .symbols .result * c .before .before .args .c .size + c .before .before .args .carrier
+value : (c : tie.After-struct-known) → c .before .offset-of .result * c .before .before .args .c .size + c .before .before .args .carrier
     ≡ position (c .before .before .args .c) (c .before .before .args .symbol % symbols (c .before .before .args .c)) (c .before .before .args .carrier)
 unfolding position
-value c = rw (c .before .symbols .ensures)
+value c = rw (c .before .offset-of .ensures)
 
-symbols-requires : tie.Need-symbols-requires
-symbols-requires c κs = search needs
-
-rem-result : tie.Need-rem-result
-rem-result c = omega (arith, symbols-range (c .before .pre .0))
+offset-of-requires : tie.Need-offset-of-requires
+offset-of-requires c κs = search needs
 
 mul-result : tie.Need-mul-result
-mul-result c = rw (c .before .symbols .ensures) (omega (arith, row-few (c .before .before .pre .0) _ (mod-lt (c .before .before .args .symbol) (symbols-range (c .before .before .pre .0) .0))))
+mul-result c = rw (c .before .offset-of .ensures) (omega (arith, row-few (c .before .before .pre .0) _ (mod-lt (c .before .before .args .symbol) (symbols-range (c .before .before .pre .0) .0))))
 
 add-result : tie.Need-add-result
 add-result c = omega (arith, value c, (position-lt (c .before .before .args .c) (c .before .before .args .symbol % symbols (c .before .before .args .c)) (c .before .before .args .carrier) (c .before .before .pre .1) (mod-lt (c .before .before .args .symbol) (symbols-range (c .before .before .pre .0) .0))), grid-few (c .before .before .pre .0))
@@ -33,4 +30,4 @@ returns c = (value c, subst⁻¹ (λ x. x < gridPoints (c .before .before .args 
 
 pub carrier-position-spec : {M : Type 1} → statement M
 carrier-position-spec =
-    tie.close (tie.spec symbols-requires rem-result mul-result add-result returns)
+    tie.close (tie.spec offset-of-requires mul-result add-result returns)

@@ -1,7 +1,6 @@
 -- `map::content` meets its contract. Assumes nothing.
 use Rattle.map.proofs.Outcome.{content-left, content-used, no-pilot, content-guard, content-dc, content-pilot, content-point}
 use Rattle.map.specs.Mode.{band}
-use Rattle.map.proofs.ByMode.{symbols-range}
 use native.Mathlib.Omega.{arith}
 use Rattle.map.proofs.Slot.{band-law}
 use borrow.Author.Needs.{needs}
@@ -35,11 +34,8 @@ returns-3 c = search (content-pilot, needs)
 address-requires : tie.Need-address-requires
 address-requires c κs = (search needs, (search (content-used, needs), no-pilot _ _ _ _ (c .before .is-pilot .ensures) (c .if3 .left)))
 
-symbols-requires : tie.Need-symbols-requires
-symbols-requires c κs = search needs
-
-div-t11 : tie.Need-div-t11
-div-t11 c = omega (arith, symbols-range (c .before .before .before .before .before .before .before .before .before .before .pre .0))
+slot-of-requires : tie.Need-slot-of-requires
+slot-of-requires c κs = search needs
 
 returns-4 : tie.Need-returns-4
 returns-4 c = search (content-point, needs)
@@ -57,6 +53,5 @@ content-spec =
     is-pilot-requires
     returns-3
     address-requires
-    symbols-requires
-    div-t11
+    slot-of-requires
     returns-4)

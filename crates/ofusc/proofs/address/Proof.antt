@@ -1,37 +1,36 @@
 -- `ofusc::address` meets its contract. Assumes nothing.
-use lib.Bits.{bitXor}
-use Prim.Native.Nat.{_<_, _%_}
+use Prim.Native.Nat.{_<_}
 use native.Mathlib.Nat.{div-lt-iff-lt-mul}
+use native.Mathlib.Omega.{arith}
+use lib.Bits.{bitXor}
+use Rattle.ofusc.specs.Map.{addressOf}
 use Rattle.ofusc.proofs.Law.{subchannel-lt}
 use Rattle.ofusc.proofs.Sequence.{size, pos}
-use Rattle.ofusc.specs.Map.{addressOf}
-use native.Mathlib.Omega.{arith}
-use borrow.Author.Needs.{needs}
 use Rattle.ofusc.proofs.address.Statement.{statement}
 use Rattle.ofusc.proofs.address.Tie as tie
 
-value-lt : (c : tie.After-mask) → bitXor (c .before .args .d % c .before .args .n) (c .mask .result) < c .before .args .n
-value-lt c = rw (c .mask .ensures) (subchannel-lt (c .before .pre .0) (c .before .args .cell) (c .before .args .d))
+parts-requires : tie.Need-parts-requires
+parts-requires c κs = c .pre .0
 
-div-k : tie.Need-div-k
-div-k c = search needs
-
-rem-s : tie.Need-rem-s
-rem-s c = search needs
+group-lt : (c : tie.After-parts) → c .parts .result .quotient < 48
+group-lt c = rw (c .parts .ensures .0) (div-lt-iff-lt-mul (pos (c .before .pre .0)) .1 (c .before .pre .1 .1))
 
 mask-requires : tie.Need-mask-requires
-mask-requires c κs = (c .pre .0, (c .pre .1 .0, div-lt-iff-lt-mul (pos (c .pre .0)) .1 (c .pre .1 .1)))
+mask-requires c κs = (c .before .pre .0, (c .before .pre .1 .0, group-lt c))
+
+value-lt : (c : tie.After-struct-known) → bitXor (c .before .before .parts .result .remainder) (c .before .mask .result) < c .before .before .before .args .n
+value-lt c = rw (c .before .mask .ensures, c .before .before .parts .ensures .0, c .before .before .parts .ensures .1) (subchannel-lt (c .before .before .before .pre .0) _ _)
 
 mul-unrotate : tie.Need-mul-unrotate
-mul-unrotate c = omega (arith, value-lt c, size (c .before .pre .0))
+mul-unrotate c = omega (arith, value-lt c, size (c .before .before .before .pre .0))
 
 unrotate-requires : tie.Need-unrotate-requires
-unrotate-requires c κs = omega (arith, div-lt-iff-lt-mul (pos (c .before .pre .0)) .1 (c .before .pre .1 .1))
+unrotate-requires c κs = omega (arith, group-lt (c .before .before))
 
 returns : tie.Need-returns
 unfolding addressOf
-returns c = rw (c .unrotate .ensures .0, c .before .mask .ensures)
+returns c = rw (c .unrotate .ensures .0, c .before .before .mask .ensures, c .before .before .before .parts .ensures .0, c .before .before .before .parts .ensures .1)
 
 pub address-spec : {M : Type 1} → statement M
 address-spec =
-    tie.close (tie.spec div-k rem-s mask-requires mul-unrotate unrotate-requires returns)
+    tie.close (tie.spec parts-requires mask-requires mul-unrotate unrotate-requires returns)

@@ -1,41 +1,52 @@
 -- `pusc_dl::group_address` meets its contract. Assumes nothing.
 use mathlib.Core.Path.{_≡_}
 use Prim.Native.Nat.{ℕ, _*_, _/_, _<_}
-use native.Mathlib.Nat.{mod-lt, div-lt-iff-lt-mul}
+use native.Mathlib.Nat.{div-lt-iff-lt-mul}
 use native.Mathlib.Omega.{arith}
 use borrow.Author.Needs.{needs}
 use Rattle.pusc_dl.specs.Group.{groupSize, groupSubchannel, groupIndex, baseInverse}
+use Rattle.pusc_dl.proofs.Group.{size-pos, size-le}
 use Rattle.pusc_dl.proofs.group_address.Statement.{statement}
 use Rattle.pusc_dl.proofs.group_address.Tie as tie
 
-quotient : (g d m : ℕ) → m ≡ groupSize g → 0 < m → d < 24 * groupSize g → d / m < 65536
-quotient g d m e pos h = let l : d / m < 24 = div-lt-iff-lt-mul pos .1 (rw e h) in omega arith
+size-quotient-requires : tie.Need-size-quotient-requires
+size-quotient-requires c κs = search needs
+
+size-remainder-requires : tie.Need-size-remainder-requires
+size-remainder-requires c κs = search needs
+
+-- the quotient and the remainder are small
+quotient-lt : (g d n : ℕ) → n ≡ d / groupSize g → d < 24 * groupSize g → n < 24
+quotient-lt g d n e h = rw e (div-lt-iff-lt-mul (size-pos g) .1 h)
+
+size-unrotate-requires : tie.Need-size-unrotate-requires
+size-unrotate-requires c κs = omega (arith, c .size-remainder .ensures .1, size-le (c .before .before .args .g))
+
+of-size-requires : tie.Need-of-size-requires
+of-size-requires c κs = search needs
+
+size-unrotate-requires-2 : tie.Need-size-unrotate-requires-2
+size-unrotate-requires-2 c κs = search needs
+
+mul-unrotate : tie.Need-mul-unrotate
+mul-unrotate c = omega (arith, c .size-unrotate2 .ensures .1, size-le (c .before .before .before .before .before .args .g))
 
 unrotate-requires : tie.Need-unrotate-requires
-unrotate-requires c κs = (search needs, search needs, omega (arith, mod-lt (c .before .args .d) (c .group-size .ensures .1)))
-
-unrotate-requires-3 : tie.Need-unrotate-requires-3
-unrotate-requires-3 c κs = search (quotient, needs)
+unrotate-requires c κs = omega (arith, quotient-lt (c .before .before .before .before .before .args .g) (c .before .before .before .before .before .args .d) (c .before .before .before .before .size-quotient .result) (c .before .before .before .before .size-quotient .ensures) (c .before .before .before .before .before .pre))
 
 returns : tie.Need-returns
 unfolding groupSubchannel groupIndex baseInverse
-returns c =
-    let m = c .before .before .before .before .group-size .ensures .0 in
-    let x = c .before .before .before .unrotate .ensures .0 in
-    let i = c .before .before .of-size .ensures .0 in
-    let s = c .before .unrotate2 .ensures .0 in
-    ((rw (s, i, x, m), rw (c .unrotate3 .ensures .0, s, i, x, m)), (search needs, search needs))
+returns c = ((rw (c .before .size-unrotate2 .ensures .0, c .before .before .of-size .ensures .0, c .before .before .before .size-unrotate .ensures .0, c .before .before .before .before .size-remainder .ensures .0, c .before .before .before .before .before .size-quotient .ensures), rw (c .unrotate .ensures .0, c .before .size-unrotate2 .ensures .0, c .before .before .of-size .ensures .0, c .before .before .before .size-unrotate .ensures .0, c .before .before .before .before .size-remainder .ensures .0, c .before .before .before .before .before .size-quotient .ensures)), (c .before .size-unrotate2 .ensures .1, c .unrotate .ensures .1))
 
 pub group-address-spec : {M : Type 1} → statement M
 group-address-spec =
     tie.close
     (tie.spec
-    (λ c κs. search needs)
-    (λ c. search needs)
-    (λ c. search needs)
+    size-quotient-requires
+    size-remainder-requires
+    size-unrotate-requires
+    of-size-requires
+    size-unrotate-requires-2
+    mul-unrotate
     unrotate-requires
-    (λ c κs. search needs)
-    (λ c κs. search needs)
-    (λ c. search needs)
-    unrotate-requires-3
     returns)

@@ -1,36 +1,62 @@
 -- `pusc_dl::group_data` meets its contract. Assumes nothing.
+use Prim.Native.Nat.{_+_, _*_, _<_}
 use native.Mathlib.Omega.{arith}
 use lib.Arith.{digits-lt}
 use borrow.Author.Needs.{needs}
-use Rattle.pusc_dl.specs.Group.{groupData, baseOf}
+use Rattle.pusc_dl.specs.Group.{groupSize, groupData, baseOf}
 use Rattle.pusc_dl.proofs.group_data.Statement.{statement}
 use Rattle.pusc_dl.proofs.group_data.Tie as tie
+
+group-size-requires : tie.Need-group-size-requires
+group-size-requires c κs = search needs
+
+mul-rotate : tie.Need-mul-rotate
+mul-rotate c = search needs
+
+rotate-requires : tie.Need-rotate-requires
+rotate-requires c κs = search needs
+
+add-size-remainder : tie.Need-add-size-remainder
+add-size-remainder c = search needs
+
+size-remainder-requires : tie.Need-size-remainder-requires
+size-remainder-requires c κs = search needs
+
+of-size-requires : tie.Need-of-size-requires
+of-size-requires c κs = search needs
 
 mul-result : tie.Need-mul-result
 mul-result c = omega (arith, digits-lt (c .before .before .rotate .ensures .1) (c .before .before .before .group-size .ensures .1))
 
+add-size-remainder-2 : tie.Need-add-size-remainder-2
+add-size-remainder-2 c = search needs
+
+size-remainder-requires-2 : tie.Need-size-remainder-requires-2
+size-remainder-requires-2 c κs = search needs
+
+-- the data number is small
+data-lt : (c : tie.After-size-remainder2) → c .before .before .before .rotate .result * c .before .before .before .before .group-size .result + c .size-remainder2 .result < 24 * groupSize (c .before .before .before .before .before .args .g)
+data-lt c = rw (c .before .before .before .before .group-size .ensures .0) (digits-lt (c .before .before .before .rotate .ensures .1) (c .size-remainder2 .ensures .1))
+
 add-result : tie.Need-add-result
-add-result c = omega (arith, digits-lt (c .before .before .before .rotate .ensures .1) (c .rotate3 .ensures .1))
+add-result c = omega (arith, data-lt c, c .before .before .before .before .group-size .ensures)
 
 returns : tie.Need-returns
 unfolding groupData baseOf
-returns c =
-    let n = c .before .before .before .rotate .ensures in
-    let m = c .before .before .before .before .group-size .ensures in (
-      rw (c .rotate3 .ensures .0, c .before .of-size .ensures .0, c .before .before .rotate2 .ensures .0, n .0, m .0),
-      rw (← m .0) (digits-lt (n .1) (c .rotate3 .ensures .1)),
-    )
+returns c = (rw (c .size-remainder2 .ensures .0, c .before .of-size .ensures .0, c .before .before .size-remainder .ensures .0, c .before .before .before .rotate .ensures .0, c .before .before .before .before .group-size .ensures .0), data-lt c)
 
 pub group-data-spec : {M : Type 1} → statement M
 group-data-spec =
     tie.close
     (tie.spec
-    (λ c κs. search needs)
-    (λ c. search needs)
-    (λ c κs. search needs)
-    (λ c κs. search needs)
-    (λ c κs. search needs)
+    group-size-requires
+    mul-rotate
+    rotate-requires
+    add-size-remainder
+    size-remainder-requires
+    of-size-requires
     mul-result
-    (λ c κs. search needs)
+    add-size-remainder-2
+    size-remainder-requires-2
     add-result
     returns)
