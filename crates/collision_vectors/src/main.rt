@@ -8,7 +8,9 @@
 // Each line is written back with its answer behind a colon. The input and what must come out are
 // made by tests/vectors.py.
 use collision::Collisions;
-use libc::STDOUT_FILENO;
+use vector_lines::fields;
+use vector_lines::print;
+use vector_lines::print_number;
 ghost use Prim.Native.Nat.{_<_};
 ghost use lib.ListN.{length};
 
@@ -38,25 +40,11 @@ fn answer_line(input: &[u8], at: usize) -> usize
     end + 1
 }
 
-// The five numbers of a line; those that it does not have are 0.
-fn fields(input: &[u8], from: usize) -> [usize; 5] {
-    let mut fields = [0usize; 5];
-    let mut at = from;
-    let mut i = 0;
-    while i < 5 {
-        let number = text::read_number(input, at);
-        fields[i] = number.value;
-        at = number.next;
-        i += 1;
-    }
-    fields
-}
-
-fn answer(operation: u8, f: [usize; 5]) {
+fn answer(operation: u8, f: [usize; 64]) {
     if operation == b'o' {
         print_collisions(collision::ofusc(f[0], f[1], f[2], f[3], f[4]));
     } else if operation == b's' {
-        print_number(sum(f[0], f[1], f[2], f[3]));
+        print_number(b' ', sum(f[0], f[1], f[2], f[3]));
     } else {
         print_collisions(collision::amc(f[0], f[1]));
     }
@@ -74,13 +62,9 @@ fn sum(size: usize, cell_a: usize, subchannel: usize, cell_b: usize) -> usize {
     sum
 }
 
-fn print(bytes: &[u8]) {
-    io::write_all(STDOUT_FILENO, bytes);
-}
-
 fn print_collisions(c: Collisions) {
-    print_number(c.refusal as usize);
-    print_number(c.count);
+    print_number(b' ', c.refusal as usize);
+    print_number(b' ', c.count);
     let hits = c.hits;
     print_marks(hits);
 }
@@ -94,11 +78,4 @@ fn print_marks(hits: [bool; 48]) {
         k += 1;
     }
     print(&out);
-}
-
-// Prints a number behind a space.
-fn print_number(x: usize) {
-    let mut out = [b' '; 21];
-    let end = text::put_number(&mut out, 1, x);
-    print(&out[..end]);
 }

@@ -6,10 +6,12 @@
 //
 // Each line is written back with its answers behind a colon. The input and what must come out are
 // made by tests/vectors.py.
-use libc::STDOUT_FILENO;
 use map::Located;
 use map::Placed;
 use map::Setup;
+use vector_lines::fields;
+use vector_lines::print;
+use vector_lines::print_number;
 ghost use Prim.Native.Nat.{_<_};
 ghost use lib.ListN.{length};
 
@@ -39,21 +41,7 @@ fn answer_line(input: &[u8], at: usize) -> usize
     end + 1
 }
 
-// The seven numbers of a line; those that it does not have are 0.
-fn fields(input: &[u8], from: usize) -> [usize; 7] {
-    let mut fields = [0usize; 7];
-    let mut at = from;
-    let mut i = 0;
-    while i < 7 {
-        let number = text::read_number(input, at);
-        fields[i] = number.value;
-        at = number.next;
-        i += 1;
-    }
-    fields
-}
-
-fn answer(operation: u8, fields: [usize; 7]) {
+fn answer(operation: u8, fields: [usize; 64]) {
     let setup = Setup {
         mode: fields[0],
         size: fields[1],
@@ -105,10 +93,6 @@ fn print_located(located: Located) {
     }
 }
 
-fn print(bytes: &[u8]) {
-    io::write_all(STDOUT_FILENO, bytes);
-}
-
 fn print_point(symbol: usize, carrier: usize) {
     print_number(b' ', symbol);
     print_number(b'.', carrier);
@@ -123,12 +107,4 @@ fn print_address(slot: usize, subchannel: usize, index: usize) {
 fn print_refusal(number: u8) {
     print(b" refused");
     print_number(b' ', number as usize);
-}
-
-// Prints a mark and a number behind it.
-fn print_number(mark: u8, x: usize) {
-    let mut out = [0u8; 21];
-    let at = text::put_byte(&mut out, 0, mark);
-    let end = text::put_number(&mut out, at, x);
-    print(&out[..end]);
 }

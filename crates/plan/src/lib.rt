@@ -61,7 +61,7 @@ fn slots_refusal(slots: usize) -> u8
 }
 
 // The number of the first of a zone's own questions that is answered no, or 0.
-pub fn own_refusal(size: usize, zone: Zone) -> u8
+fn own_refusal(size: usize, zone: Zone) -> u8
     ensures { λ r. ⌜ r ≡ ownNumber size zone ⌝ }
 {
     if zone.mode == 1 {

@@ -8,11 +8,13 @@
 //
 // Each line is written back with its answer behind a colon. The input and what must come out are
 // made by tests/vectors.py.
-use libc::STDOUT_FILENO;
 use plan::Plan;
 use plan::ReadPlan;
 use plan::Written;
 use plan::Zone;
+use vector_lines::fields;
+use vector_lines::print;
+use vector_lines::print_number;
 ghost use Prim.Native.Nat.{_<_, _≤_};
 ghost use lib.ListN.{length};
 
@@ -40,20 +42,6 @@ fn answer_line(input: &[u8], at: usize) -> usize
     answer(input[at], fields(input, at + 1));
     print(b"\n");
     end + 1
-}
-
-// The numbers of a line, 64 at most; those that it does not have are 0.
-fn fields(input: &[u8], from: usize) -> [usize; 64] {
-    let mut fields = [0usize; 64];
-    let mut at = from;
-    let mut i = 0;
-    while i < 64 {
-        let number = text::read_number(input, at);
-        fields[i] = number.value;
-        at = number.next;
-        i += 1;
-    }
-    fields
 }
 
 fn answer(operation: u8, f: [usize; 64]) {
@@ -123,15 +111,11 @@ fn least(n: usize, most: usize) -> usize
     most
 }
 
-fn print(bytes: &[u8]) {
-    io::write_all(STDOUT_FILENO, bytes);
-}
-
 fn print_read(answer: ReadPlan) {
     let plan = answer.plan;
-    print_number(answer.refusal as usize);
-    print_number(plan.count);
-    print_number(plan.size);
+    print_number(b' ', answer.refusal as usize);
+    print_number(b' ', plan.count);
+    print_number(b' ', plan.size);
     let zones = plan.zones;
     print_zones(zones);
 }
@@ -145,20 +129,20 @@ fn print_zones(zones: [Zone; 8]) {
 }
 
 fn print_zone(zone: Zone) {
-    print_number(zone.mode);
-    print_number(zone.cell);
-    print_number(zone.slots);
+    print_number(b' ', zone.mode);
+    print_number(b' ', zone.cell);
+    print_number(b' ', zone.slots);
 }
 
 fn print_written(answer: Written) {
     match answer {
         Written::Bytes(n) => {
-            print_number(0);
-            print_number(n);
+            print_number(b' ', 0);
+            print_number(b' ', n);
         }
         Written::Refused(number) => {
-            print_number(number as usize);
-            print_number(0);
+            print_number(b' ', number as usize);
+            print_number(b' ', 0);
         }
     }
 }
@@ -166,14 +150,7 @@ fn print_written(answer: Written) {
 fn print_bytes(bytes: [u8; 48]) {
     let mut i = 0;
     while i < 48 {
-        print_number(bytes[i] as usize);
+        print_number(b' ', bytes[i] as usize);
         i += 1;
     }
-}
-
-// Prints a number behind a space.
-fn print_number(x: usize) {
-    let mut out = [b' '; 21];
-    let end = text::put_number(&mut out, 1, x);
-    print(&out[..end]);
 }

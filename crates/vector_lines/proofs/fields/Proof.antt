@@ -1,16 +1,16 @@
--- `collision_vectors::fields` is safe and ends. The measure is the number of fields that are left. Assumes nothing.
+-- `vector_lines::fields` is safe and ends. The measure is the number of fields that are left. Assumes nothing.
 use borrow.Author.Needs.{needs}
 use Prim.Native.Nat.{_-_}
 use mathlib.Core.Path.{_≡_}
 use lib.ListN.{length}
-use Rattle.collision_vectors.proofs.fields.Statement.{statement}
-use Rattle.collision_vectors.proofs.fields.Tie as tie
+use Rattle.vector_lines.proofs.fields.Statement.{statement}
+use Rattle.vector_lines.proofs.fields.Tie as tie
 
 abbrev Inv-loop : tie.InvT-loop
-Inv-loop input from fields₀ at₀ i₀ fields at i = length fields ≡ 5
+Inv-loop input from fields₀ at₀ i₀ fields at i = length fields ≡ 64
 
 abbrev μ-loop : tie.MeasureT-loop
-μ-loop input from fields₀ at₀ i₀ fields at i = 5 - i
+μ-loop input from fields₀ at₀ i₀ fields at i = 64 - i
 
 loop-holds : tie.Need-loop-holds Inv-loop μ-loop
 loop-holds c = search needs

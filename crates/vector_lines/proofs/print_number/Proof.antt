@@ -1,11 +1,11 @@
--- `map_vectors::print_number` is safe: the mark is one byte and the number at most 20. Assumes nothing.
+-- `vector_lines::print_number` is safe: the mark is one byte and the number at most 20. Assumes nothing.
 use borrow.Author.Needs.{needs}
 use mathlib.Core.Path.{sym}
 use native.Mathlib.Omega.{arith}
 use lib.Seq.{length-take-le}
 use Rattle.text.proofs.Laws.{wrote-next, decimal-fits}
-use Rattle.map_vectors.proofs.print_number.Statement.{statement}
-use Rattle.map_vectors.proofs.print_number.Tie as tie
+use Rattle.vector_lines.proofs.print_number.Statement.{statement}
+use Rattle.vector_lines.proofs.print_number.Tie as tie
 
 slice-aggregate-put-byte : tie.Need-slice-aggregate-put-byte
 slice-aggregate-put-byte c = search needs
