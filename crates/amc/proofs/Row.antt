@@ -4,14 +4,13 @@ use Prim.Native.Nat.{ℕ, _+_, _-_, _*_, _/_, _%_, _<_}
 use native.Mathlib.Omega.{arith}
 use Rattle.base.specs.Steps.{entry}
 use Rattle.amc.specs.Table.{sequenceDigits}
-use Rattle.amc.specs.Element.{number, sequence}
 use Rattle.amc.specs.Map.{elementOf, traffic, dataNumber}
 use Rattle.amc.specs.Model.{sumPlace, sequencePlace, sequenceNumber}
 use Rattle.amc.proofs.Tables.{powers}
 use Rattle.amc.proofs.Law.{traffic-lt, number-by-first}
 
 -- index j is at place (j+per) mod 48 of P
-traffic-at : (cell j : ℕ) → sequencePlace cell ((j + cell % 48) % 48) ≡ traffic cell j
+pub traffic-at : (cell j : ℕ) → sequencePlace cell ((j + cell % 48) % 48) ≡ traffic cell j
 unfolding traffic elementOf sequencePlace sumPlace
 traffic-at cell j = refl
 

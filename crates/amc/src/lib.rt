@@ -195,7 +195,7 @@ fn sum_of(o: Element, e: Element) -> Element
 }
 
 // The place v of index j among the 48 traffic places of a subchannel.
-pub fn traffic(cell: usize, j: usize) -> usize
+fn traffic(cell: usize, j: usize) -> usize
     requires { ⌜ (cell < 2352) × (j < 48) ⌝ }
     ensures { λ r. ⌜ r ≡ Traffic cell j ⌝ }
 {

@@ -50,11 +50,13 @@ fn amc_hits(cell_a: usize, cell_b: usize) -> Collisions
     requires { ⌜ («cell_a» < 2352) × («cell_b» < 2352) ⌝ }
     ensures { λ r. ⌜ r ≡ answerOf (accepted (amcHit «cell_a» «cell_b»)) ⌝ }
 {
+    let places_a = amc::table(cell_a);
+    let places_b = amc::table(cell_b);
     let mut hits = [false; 48];
     let mut count = 0;
     let mut j = 0;
     while j < 48 {
-        let same_place = amc::traffic(cell_a, j) == amc::traffic(cell_b, j);
+        let same_place = places_a[(j + cell_a % 48) % 48] == places_b[(j + cell_b % 48) % 48];
         hits[j] = same_place;
         count += same_place as usize;
         j += 1;

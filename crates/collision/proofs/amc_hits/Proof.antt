@@ -1,25 +1,47 @@
--- `collision::amc_hits` meets its contract: the marks below j are set and counted. Assumes nothing.
-use Prim.Native.Nat.{_-_}
+-- `collision::amc_hits` meets its contract. Assumes nothing.
+use mathlib.Core.Path.{ap₂, _∙_}
+use Prim.Native.Nat.{_+_, _-_, _%_}
+use native.Mathlib.Omega.{arith}
+use lib.Dec.{eqb}
 use borrow.Author.Needs.{needs}
+use Rattle.amc.proofs.Row.{traffic-at}
 use Rattle.collision.specs.Collision.{amcHit}
 use Rattle.collision.proofs.Pass.{Passed, start, fits, step, answer}
 use Rattle.collision.proofs.amc_hits.Statement.{statement}
 use Rattle.collision.proofs.amc_hits.Tie as tie
 
 abbrev Inv-loop : tie.InvT-loop
-Inv-loop cell-a cell-b hits₀ count₀ j₀ hits count j = Passed (amcHit cell-a cell-b) j hits count
+Inv-loop cell-a cell-b places-a places-b hits₀ count₀ j₀ hits count j = Passed (amcHit cell-a cell-b) j hits count
 
 abbrev μ-loop : tie.MeasureT-loop
-μ-loop cell-a cell-b hits₀ count₀ j₀ hits count j = 48 - j
+μ-loop cell-a cell-b places-a places-b hits₀ count₀ j₀ hits count j = 48 - j
+
+table-requires : tie.Need-table-requires Inv-loop μ-loop
+table-requires c κs = search needs
+
+table-requires-2 : tie.Need-table-requires-2 Inv-loop μ-loop
+table-requires-2 c κs = search needs
 
 loop-holds : tie.Need-loop-holds Inv-loop μ-loop
 loop-holds c = start _
 
-traffic-requires : tie.Need-traffic-requires Inv-loop μ-loop
-traffic-requires c κs = search needs
+add-same-place : tie.Need-add-same-place Inv-loop μ-loop
+add-same-place c = search needs
 
-traffic-requires-2 : tie.Need-traffic-requires-2 Inv-loop μ-loop
-traffic-requires-2 c κs = search needs
+mul-same-place : tie.Need-mul-same-place Inv-loop μ-loop
+mul-same-place c = search needs
+
+array-read-same-place : tie.Need-array-read-same-place Inv-loop μ-loop
+array-read-same-place c = search needs
+
+add-same-place-2 : tie.Need-add-same-place-2 Inv-loop μ-loop
+add-same-place-2 c = search needs
+
+mul-same-place-2 : tie.Need-mul-same-place-2 Inv-loop μ-loop
+mul-same-place-2 c = search needs
+
+array-read-same-place-2 : tie.Need-array-read-same-place-2 Inv-loop μ-loop
+array-read-same-place-2 c = search needs
 
 array-write-hits : tie.Need-array-write-hits Inv-loop μ-loop
 array-write-hits c = search needs
@@ -38,7 +60,11 @@ loop-less c = search needs
 
 loop-again : tie.Need-loop-again Inv-loop μ-loop
 unfolding amcHit
-loop-again c = step _ _ _ _ _ (c .before .before .before .loop .inv) (c .before .before .loop-test .taken) (rw (c .before .traffic .ensures, c .traffic2 .ensures))
+loop-again c =
+    step _ _ _ _ _ (c .before .loop .inv) (c .loop-test .taken)
+    (ap₂ eqb
+    (c .before .before .before .table .ensures ((c .before .loop .j + c .before .before .before .before .args .cell-a % 48) % 48) (omega arith) ∙ traffic-at (c .before .before .before .before .args .cell-a) (c .before .loop .j))
+    (c .before .before .table2 .ensures ((c .before .loop .j + c .before .before .before .before .args .cell-b % 48) % 48) (omega arith) ∙ traffic-at (c .before .before .before .before .args .cell-b) (c .before .loop .j)))
 
 returns : tie.Need-returns Inv-loop μ-loop
 returns c = answer _ _ _ _ (c .before .loop .inv) (c .loop-test .left)
@@ -49,9 +75,15 @@ amc-hits-spec =
     (tie.spec
     Inv-loop
     μ-loop
+    table-requires
+    table-requires-2
     loop-holds
-    traffic-requires
-    traffic-requires-2
+    add-same-place
+    mul-same-place
+    array-read-same-place
+    add-same-place-2
+    mul-same-place-2
+    array-read-same-place-2
     array-write-hits
     cast-count
     add-count
