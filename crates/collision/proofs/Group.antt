@@ -14,7 +14,9 @@ use Rattle.carriers.proofs.Guards.{bin-band, used-carrier}
 use Rattle.carriers.proofs.Bin.{data-used, used-lt}
 use Rattle.ofusc.specs.Width.{Width}
 use Rattle.ofusc.specs.Map.{groupOf, mask, dataNumber}
+use Rattle.ofusc.specs.Model.{cellNumber, groupNumber}
 use Rattle.ofusc.proofs.Sequence.{pos, sum-lt, mask-lt}
+use Rattle.ofusc.proofs.Row.{with-subchannel}
 use Rattle.map.specs.Mode.{width, band, spotOf}
 use Rattle.map.specs.Place.{placeAt}
 use Rattle.map.specs.Valid.{setup}
@@ -79,3 +81,11 @@ module _ {n : ℕ} (w : Width n) (k : ℕ) (h : k < 48) where
       ∙ same-test _ _ _ _
       (same-element 0 (element a s) (element b t) (element-lt a s hs) (element-lt b t ht))
       (ap (λ (x : ℕ). carrierAt n 0 (k * n + x)))
+
+  -- so it is enough to compare the data numbers
+  pub number-hit : (a s b t : ℕ) → s < n → t < n → eqb (bitXor (cellNumber n a k) s) (bitXor (cellNumber n b k) t) ≡ ofuscHit (64 * n) a s b t k
+  unfolding groupNumber
+  number-hit a s b t hs ht =
+      ap₂ eqb (with-subchannel w a s k hs) (with-subchannel w b t k ht)
+      ∙ same-test _ _ (element a s) (element b t) (λ e. omega arith) (ap (λ (x : ℕ). k * n + x))
+      ∙ sym (hit-is a s b t hs ht)

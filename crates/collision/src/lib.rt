@@ -29,11 +29,15 @@ fn ofusc_hits(n: usize, cell_a: usize, a: usize, cell_b: usize, b: usize) -> Col
     requires { ⌜ (a < n) × (b < n) ⌝ }
     ensures { λ r. ⌜ r ≡ answerOf (accepted (ofuscHit (64 * n) «cell_a» a «cell_b» b)) ⌝ }
 {
+    let numbers_a = ofusc::table(n, cell_a);
+    let numbers_b = ofusc::table(n, cell_b);
+    let s = a as u16;
+    let t = b as u16;
     let mut hits = [false; 48];
     let mut count = 0;
     let mut k = 0;
     while k < 48 {
-        let same_element = a ^ ofusc::mask(n, cell_a, k) == b ^ ofusc::mask(n, cell_b, k);
+        let same_element = numbers_a[k] ^ s == numbers_b[k] ^ t;
         hits[k] = same_element;
         count += same_element as usize;
         k += 1;

@@ -209,7 +209,7 @@ fn term(rows: &[u8; 63], n: usize, c: usize, k: usize) -> usize
 }
 
 // What the cell adds to the subchannel in group k.
-pub fn mask(n: usize, cell: usize, k: usize) -> usize
+fn mask(n: usize, cell: usize, k: usize) -> usize
     requires { ⌜ Width n ⌝ }
     requires { ⌜ (cell < n * n) × (k < 48) ⌝ }
     ensures { λ r. ⌜ r ≡ Mask n cell k ⌝ }
