@@ -15,5 +15,5 @@ if ! rt staticlib capi >"$out/build.log" 2>&1; then
     exit 1
 fi
 cp target/staticlib/libcapi.a "$out/libbellpulsar.a"
-"${CC:-cc}" -shared -o "$out/libbellpulsar.so.new" -Wl,--whole-archive "$out/libbellpulsar.a" -Wl,--no-whole-archive
+"${CC:-cc}" -shared -Wl,-soname,libbellpulsar.so -o "$out/libbellpulsar.so.new" -Wl,--whole-archive "$out/libbellpulsar.a" -Wl,--no-whole-archive
 mv "$out/libbellpulsar.so.new" "$out/libbellpulsar.so"

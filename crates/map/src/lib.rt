@@ -199,7 +199,7 @@ fn bin_spot(slot: usize, d: usize) -> Spot
 }
 
 // Where a point lies in its slot.
-pub fn spot(c: Setup, slot: usize, subchannel: usize, index: usize) -> Spot
+fn spot(c: Setup, slot: usize, subchannel: usize, index: usize) -> Spot
     requires { ⌜ Valid c ⌝ }
     requires { ⌜ (subchannel < Subchannels c) × (index < 48) ⌝ }
     ensures { λ r. ⌜ r ≡ spotOf c slot subchannel index ⌝ }
@@ -264,7 +264,7 @@ pub fn carrier_row(c: Setup, slot: usize, subchannel: usize, table: &[u16; 188])
     carriers::carrier_row(band(c), row)
 }
 
-pub fn is_pilot(c: Setup, symbol: usize, used: usize) -> bool
+fn is_pilot(c: Setup, symbol: usize, used: usize) -> bool
     ensures { λ r. ⌜ r ≡ isPilot c symbol used ⌝ }
 {
     if c.mode == 0 {
