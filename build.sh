@@ -1,10 +1,10 @@
 #!/bin/sh
 # Proves the engine and builds its C library, target/lib/libbellpulsar.a and target/lib/libbellpulsar.so; nothing is done
-# where both are newer than all they are made from.
+# where both are there and newer than all they are made from.
 set -eu
 cd "$(dirname "$0")"
 out=target/lib
-if [ -e "$out/libbellpulsar.so" ] &&
+if [ -e "$out/libbellpulsar.a" ] && [ -e "$out/libbellpulsar.so" ] &&
     [ -z "$(find build.sh crates.txt crates/*/src crates/*/specs crates/*/proofs -newer "$out/libbellpulsar.so" -print -quit)" ]; then
     exit 0
 fi

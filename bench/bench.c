@@ -195,18 +195,23 @@ static void do_row(struct row r) {
 
 // --- the table -------------------------------------------------------------------------------------------------------
 
-// Each mode at its smallest and largest size.
+// Each mode at each of its sizes.
 static const struct setup {
     const char *name;
     uint32_t mode, size;
+    bool between; // not its mode's smallest size nor its largest: timed for fill and empty only
 } setups[] = {
-    {"PUSC downlink, 2048", PUSC_DL, 2048}, {"PUSC uplink, 2048", PUSC_UL, 2048}, {"optional FUSC, 256", OFUSC, 256},
-    {"optional FUSC, 2048", OFUSC, 2048},   {"AMC, 256", AMC, 256},               {"AMC, 2048", AMC, 2048},
+    {"PUSC downlink, 2048", PUSC_DL, 2048, false}, {"PUSC uplink, 2048", PUSC_UL, 2048, false},
+    {"optional FUSC, 256", OFUSC, 256, false},     {"optional FUSC, 512", OFUSC, 512, true},
+    {"optional FUSC, 1024", OFUSC, 1024, true},    {"optional FUSC, 2048", OFUSC, 2048, false},
+    {"AMC, 256", AMC, 256, false},                 {"AMC, 512", AMC, 512, true},
+    {"AMC, 1024", AMC, 1024, true},                {"AMC, 2048", AMC, 2048, false},
 };
 enum { SETUPS = sizeof setups / sizeof setups[0] };
 
 static void map_rows(const char *call, run_fn *run, bool by_point) {
     for (const struct setup *s = setups; s < setups + SETUPS; s++) {
+        if (s->between && !by_point) continue;
         uint32_t points = INDICES * subchannels(s->mode, s->size);
         draw_requests(s->mode, s->size);
         do_row((struct row){call, s->name, run, REQUESTS, by_point ? points : 1});

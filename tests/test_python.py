@@ -278,7 +278,7 @@ class Refusals(unittest.TestCase):
     def test_the_wrapper_in_rust_has_the_same_questions(self):
         with open(os.path.join(ROOT, "examples", "rust", "bellpulsar.rs")) as file:
             rust = dict(re.findall(r'^ +(\d+) => "(.*\?)",$', file.read(), re.MULTILINE))
-        self.assertEqual(rust, {str(n): text[0].lower() + text[1:] for n, text in bp.QUESTIONS.items()})
+        self.assertEqual(rust, {str(n): text for n, text in bp.QUESTIONS.items()})
 
     def test_every_number_comes_back(self):
         def read(text):

@@ -3,6 +3,7 @@
 
 #include "bellpulsar.h"
 #include "field.h"
+#include "refusal.h"
 
 int main(int argc, char **argv)
 {
@@ -19,14 +20,12 @@ int main(int argc, char **argv)
         refused = bp_ofusc_collisions(f[0], f[1], f[2], f[3], f[4], hits, &count);
     else
         refused = bp_amc_collisions(f[0], f[1], hits, &count);
-    if (refused != 0) {
-        printf("refused %u\n", refused);
-        return 1;
-    }
+    if (refused != 0)
+        return print_refusal(refused);
     printf("%s", argc == 6 ? "groups" : "indices");
     for (int k = 0; k < 48; k++)
         if (hits[k])
             printf(" %d", k);
     printf("\ncount %u\n", count);
-    return fflush(stdout) == 0 ? 0 : 2;
+    return output_status();
 }

@@ -1,5 +1,5 @@
 /* A field's number from a word. One that 32 bits do not hold, a negative one too, is the largest that they do: it is
-   out of every range. A word that is no number ends the program; a blank is no part of one. */
+   out of every range. A word that is no number ends the program; a blank or a plus is no part of one. */
 #ifndef FIELD_H
 #define FIELD_H
 
@@ -12,7 +12,7 @@ static uint32_t field(const char *word)
 {
     char *end;
     unsigned long long n = strtoull(word, &end, 10);
-    if (end == word || *end != '\0' || isspace((unsigned char)word[0])) {
+    if (end == word || *end != '\0' || isspace((unsigned char)word[0]) || word[0] == '+') {
         fprintf(stderr, "not a number: %s\n", word);
         exit(2);
     }

@@ -5,6 +5,7 @@
 #include <string.h>
 
 #include "bellpulsar.h"
+#include "refusal.h"
 
 static uint8_t byte(const char *word)
 {
@@ -29,10 +30,8 @@ int main(int argc, char **argv)
     uint32_t refused = bp_plan_read(bytes, len, &count, &size, zones);
     if (refused == 0)
         refused = bp_plan_write(count, size, zones, again, sizeof again, &written);
-    if (refused != 0) {
-        printf("refused %u\n", refused);
-        return 1;
-    }
+    if (refused != 0)
+        return print_refusal(refused);
     printf("size %u\n", size);
     for (uint32_t k = 0; k < count; k++)
         printf("mode %u cell %u slots %u\n", zones[3 * k], zones[3 * k + 1], zones[3 * k + 2]);
@@ -40,5 +39,5 @@ int main(int argc, char **argv)
     for (uint32_t i = 0; i < written; i++)
         printf(" %02X", again[i]);
     printf("\n");
-    return fflush(stdout) == 0 ? 0 : 2;
+    return output_status();
 }

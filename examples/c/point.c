@@ -3,6 +3,7 @@
 
 #include "bellpulsar.h"
 #include "field.h"
+#include "refusal.h"
 
 int main(int argc, char **argv)
 {
@@ -18,12 +19,10 @@ int main(int argc, char **argv)
     uint32_t refused = bp_place(f[0], f[1], f[2], f[3], f[4], f[5], &symbol, &carrier);
     if (refused == 0)
         refused = bp_locate(f[0], f[1], f[2], symbol, carrier, &kind, &slot, &subchannel, &index);
-    if (refused != 0) {
-        printf("refused %u\n", refused);
-        return 1;
-    }
+    if (refused != 0)
+        return print_refusal(refused);
     printf("symbol %u carrier %u\n", symbol, carrier);
     if (kind == 3)
         printf("holds slot %u subchannel %u index %u\n", slot, subchannel, index);
-    return fflush(stdout) == 0 ? 0 : 2;
+    return output_status();
 }

@@ -5,6 +5,7 @@
 
 #include "bellpulsar.h"
 #include "field.h"
+#include "refusal.h"
 
 /* The largest slot: 70 subchannels of 48 points, three symbols of 2048 carriers; two floats each. */
 static float points[2 * 48 * 70], back[2 * 48 * 70], grid[2 * 3 * 2048];
@@ -32,13 +33,11 @@ int main(int argc, char **argv)
         refused = bp_look(mode, size, cell, symbol, grid, grid_len, carrier, &kind, point, &found, &subchannel, &index);
     if (refused == 0)
         refused = bp_empty(mode, size, cell, slot, grid, grid_len, back, points_len);
-    if (refused != 0) {
-        printf("refused %u\n", refused);
-        return 1;
-    }
+    if (refused != 0)
+        return print_refusal(refused);
     printf("symbol %u carrier %u: point (%g, %g) of slot %u subchannel %u index %u\n", symbol, carrier, point[0], point[1],
            found, subchannel, index);
     printf("%zu points: %s\n", points_len / 2,
            memcmp(points, back, points_len * sizeof(float)) == 0 ? "all back" : "not all back");
-    return fflush(stdout) == 0 ? 0 : 2;
+    return output_status();
 }

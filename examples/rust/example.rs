@@ -15,22 +15,31 @@ use std::io::Write;
 use std::num::IntErrorKind;
 use std::process::exit;
 
-fn usage() -> ! {
-    eprintln!("usage: point MODE SIZE CELL SLOT SUBCHANNEL INDEX");
-    eprintln!("       collisions SIZE CELL SUBCHANNEL CELL SUBCHANNEL, or collisions CELL CELL");
-    eprintln!("       slot MODE SIZE CELL SLOT");
-    eprintln!("       plan BYTE..");
+const USAGE: &str = "usage: point MODE SIZE CELL SLOT SUBCHANNEL INDEX
+       collisions SIZE CELL SUBCHANNEL CELL SUBCHANNEL, or collisions CELL CELL
+       slot MODE SIZE CELL SLOT
+       plan BYTE..";
+
+/// Ends a program that is misused. (eprintln! would panic where nothing can be written.)
+fn misused(text: &str) -> ! {
+    let _ = writeln!(std::io::stderr(), "{text}");
     exit(2)
 }
 
+fn usage() -> ! {
+    misused(USAGE)
+}
+
 fn no_number(word: &str) -> ! {
-    eprintln!("not a number: {word}");
-    exit(2)
+    misused(&format!("not a number: {word}"))
 }
 
 /// A field's number from a word. One that 32 bits do not hold, a negative one too, is the largest that they do: it is
 /// out of every range.
 fn field(word: &str) -> u32 {
+    if word.starts_with('+') {
+        no_number(word)
+    }
     match word.parse::<i128>() {
         Ok(number) => number.try_into().unwrap_or(u32::MAX),
         Err(error) => match error.kind() {
@@ -43,8 +52,7 @@ fn field(word: &str) -> u32 {
 /// A byte from two hex digits.
 fn byte(word: &str) -> u8 {
     if word.len() != 2 || !word.bytes().all(|c| c.is_ascii_hexdigit()) {
-        eprintln!("not two hex digits: {word}");
-        exit(2)
+        misused(&format!("not two hex digits: {word}"))
     }
     u8::from_str_radix(word, 16).unwrap()
 }
@@ -152,11 +160,14 @@ fn run(name: &str, words: &[String]) -> Result<String, Refusal> {
 }
 
 fn main() {
-    let words: Vec<String> = std::env::args().skip(1).collect();
+    let words: Vec<String> = std::env::args_os()
+        .skip(1)
+        .map(|word| word.into_string().unwrap_or_else(|_| misused("not text")))
+        .collect();
     let (name, words) = words.split_first().unwrap_or_else(|| usage());
     let (text, status) = match run(name, words) {
         Ok(text) => (text, 0),
-        Err(Refusal(number)) => (format!("refused {number}\n"), 1),
+        Err(refusal) => (format!("{refusal}\n"), 1),
     };
     // print! would panic where nobody reads, or nothing more can be written.
     let written = std::io::stdout().write_all(text.as_bytes());

@@ -1,7 +1,6 @@
 -- Laws of grids.
 pub mod Points
 pub mod Slot
-pub mod Pilots
 pub mod PilotRows
 pub mod Filled
 pub mod Copy

@@ -17,7 +17,7 @@ use Rattle.carriers.proofs.Guards.{carrier-lt}
 use Rattle.map.specs.declared.Setup.{Setup}
 use Rattle.map.specs.Mode.{subchannels, symbols, band, isPilot, spotOf}
 use Rattle.map.specs.Place.{Content, point, Place, placeAt, contentOf}
-use Rattle.map.specs.Valid.{Valid, pusc-dl, pusc-ul, ofusc, amc}
+use Rattle.map.specs.Valid.{Valid}
 use Rattle.map.proofs.ByMode.{symbols-range, size-few}
 use Rattle.map.proofs.Slot.{slot-law, band-law}
 use Rattle.map.proofs.Law.{content-placed, locate-accepts, placed-where-located, placing}
@@ -25,7 +25,7 @@ use Rattle.grid.specs.Row.{gridPoints, position, usedPosition, rowOf, co
 use Rattle.grid.specs.Grid.{standsAt, pointNumber}
 use Rattle.grid.specs.Model.{Within}
 use Rattle.map.specs.Model.{shiftOf}
-use Rattle.map.proofs.Row.{shift-lt}
+use Rattle.map.proofs.Row.{shift-lt, row-start}
 
 -- what the grid holds at its point n
 abbrev pub contentAt : Setup → ℕ → ℕ → Content
@@ -136,14 +136,6 @@ module _ (c : Setup) (v : Valid c) (slot : ℕ) (hs : slot < 512) (n : ℕ) (hn 
         index-lt = q .index-lt;
         stands = rw (s-is, m-is, ← same-slot, same-row, k) at-place;
       }
-
--- a row starts at the same number in the grid as in the numbers of spots: either the size is 2048 or there is one row
-row-start : {c : Setup} → Valid c → (row : ℕ) → row < symbols c → row * c .size ≡ row * 2048
-unfolding symbols
-row-start (pusc-dl h) row l = omega arith
-row-start (pusc-ul h) row l = omega arith
-row-start (ofusc {n = n} w h) row l = let z : row ≡ 0 = omega arith in rw z (omega arith)
-row-start (amc {n = n} w h) row l = let z : row ≡ 0 = omega arith in rw z (omega arith)
 
 -- the carrier of a point, as a number, is where the point stands
 module _ {c : Setup} (v : Valid c) (slot s : ℕ) (hs : s < subchannels c) (m : ℕ) (hm : m < 48) where

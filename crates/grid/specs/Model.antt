@@ -1,17 +1,14 @@
 -- How fill and empty go about it, put by put: what the inner functions' contracts cite. No reader needs these to know what the calls do.
 use mathlib.Core.List.{List}
-use Prim.Native.Nat.{ℕ, zero, suc, _+_, _*_, _/_, _%_, _<_}
-use lib.Dec.{eqb}
+use Prim.Native.Nat.{ℕ, zero, suc, _+_, _*_, _<_}
 use lib.ListN.{set}
 use lib.Ieee.{Float}
-use Rattle.base.specs.Choice.{pick}
 use Rattle.base.specs.Steps.{entry}
-use Rattle.carriers.specs.Bin.{binPilotPlace}
-use Rattle.pusc_dl.specs.Cluster.{firstPilot, secondPilot}
 use Rattle.map.specs.declared.Setup.{Setup}
-use Rattle.map.specs.Mode.{byMode, width, symbols}
+use Rattle.map.specs.Mode.{symbols}
 use Rattle.grid.specs.declared.Point.{Point}
-use Rattle.grid.specs.declared.Comb.{Comb}
+use Rattle.map.specs.declared.Comb.{Comb}
+use Rattle.map.specs.Model.{combOf, pilotNumber}
 use Rattle.grid.specs.Points.{pointAt}
 use Rattle.grid.specs.Row.{usedPosition}
 use Rattle.grid.specs.Grid.{standsAt, pointNumber}
@@ -28,23 +25,6 @@ puts place source (suc m) floats = putPoint (puts place source m floats) (place 
 -- each of the 48 places of a row is a point of a buffer of so many floats
 abbrev pub Within : List ℕ → ℕ → Type 0
 Within row floats = (k : ℕ) → k < 48 → entry row k * 2 + 1 < floats
-
--- the corners of the tiles; the middle symbol of a slot has none
-abbrev pub tileComb : ℕ → Comb
-tileComb y = record { first = 0; second = 3; step = 4; count = pick (eqb (y % 3) 1) 0 420 }
-
--- the pilots of symbol y of the zone: in each of `count` runs of `step` used numbers the places `first` and `second`
-unfoldable pub combOf : Setup → ℕ → Comb
-combOf c y =
-    byMode (c .mode)
-    (record { first = firstPilot y; second = secondPilot y; step = 14; count = 120 })
-    (tileComb y)
-    (record { first = binPilotPlace y; second = binPilotPlace y; step = 9; count = 6 * width c })
-    (record { first = binPilotPlace y; second = binPilotPlace y; step = 9; count = 6 * width c })
-
--- the used number of a comb's pilot j, two a run
-abbrev pub pilotNumber : Comb → ℕ → ℕ
-pilotNumber b j = j / 2 * b .step + pick (eqb (j % 2) 0) (b .first) (b .second)
 
 abbrev pub pilotPlace : Setup → ℕ → Comb → ℕ → ℕ
 pilotPlace c row b j = usedPosition c row (pilotNumber b j)

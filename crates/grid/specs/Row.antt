@@ -8,7 +8,7 @@ use Rattle.map.specs.Mode.{symbols, band}
 unfoldable pub gridPoints : Setup → ℕ
 gridPoints c = symbols c * c .size
 
--- a carrier of a row of the grid, and the row and carrier of a point of the grid
+-- where a carrier of a row stands in the grid
 unfoldable pub position : Setup → ℕ → ℕ → ℕ
 position c row carrier = row * c .size + carrier
 
@@ -16,6 +16,7 @@ position c row carrier = row * c .size + carrier
 unfoldable pub usedPosition : Setup → ℕ → ℕ → ℕ
 usedPosition c row used = position c row (carrierOf (band c) used)
 
+-- the row and the carrier of point n of the grid
 unfoldable pub rowOf : Setup → ℕ → ℕ
 rowOf c n = n / c .size
 

@@ -16,7 +16,7 @@ ghost use Rattle.grid.specs.Points.{zero32, pointAt};
 ghost use Rattle.grid.specs.Row.{gridPoints, position as Position, usedPosition};
 ghost use Rattle.grid.specs.Question.{slotNumber};
 ghost use Rattle.grid.specs.Grid.{fillOf, emptyOf, seen, sightOf, lookOf};
-ghost use Rattle.grid.specs.Model.{putPoint, puts, Within, combOf, tileComb, pilotNumber, pilotRow, pilotRows, laidOne, takenOne};
+ghost use Rattle.grid.specs.Model.{putPoint, puts, Within, pilotRow, pilotRows, laidOne, takenOne};
 
 // A point, in-phase first.
 pub struct Point {
@@ -35,14 +35,6 @@ pub enum Seen {
         index: usize,
     },
     Refused(u8),
-}
-
-// The pilots of a symbol: in each of `count` runs of `step` used numbers the places `first` and `second`.
-struct Comb {
-    first: usize,
-    second: usize,
-    step: usize,
-    count: usize,
 }
 
 // Point n of a buffer.
@@ -82,62 +74,6 @@ fn position(c: Setup, row: usize, used: usize) -> usize
     row * c.size + carriers::carrier(map::band(c), used)
 }
 
-fn pilot_comb(c: Setup, symbol: usize) -> Comb
-    requires { ⌜ Valid c ⌝ }
-    ensures { λ r. ⌜ r ≡ combOf c symbol ⌝ }
-{
-    if c.mode == 0 {
-        let p = pusc_dl::pilots(symbol);
-        return Comb {
-            first: p.first,
-            second: p.second,
-            step: 14,
-            count: 120,
-        };
-    }
-    if c.mode == 1 {
-        return tile_comb(symbol);
-    }
-    let place = carriers::bin_pilot_place(symbol);
-    Comb {
-        first: place,
-        second: place,
-        step: 9,
-        count: 6 * map::width(c),
-    }
-}
-
-// The corners of the tiles; the middle symbol of a slot has none.
-fn tile_comb(symbol: usize) -> Comb
-    ensures { λ r. ⌜ r ≡ tileComb symbol ⌝ }
-{
-    if symbol % 3 == 1 {
-        return Comb {
-            first: 0,
-            second: 3,
-            step: 4,
-            count: 0,
-        };
-    }
-    Comb {
-        first: 0,
-        second: 3,
-        step: 4,
-        count: 420,
-    }
-}
-
-// The used number of a comb's pilot j.
-fn pilot_number(k: Comb, j: usize) -> usize
-    requires { ⌜ (k .first < 16) × (k .second < 16) × (k .step < 16) × (j < 65536) ⌝ }
-    ensures { λ r. ⌜ r ≡ pilotNumber k j ⌝ }
-{
-    if j % 2 == 0 {
-        return j / 2 * k.step + k.first;
-    }
-    j / 2 * k.step + k.second
-}
-
 fn put_used(c: Setup, row: usize, used: usize, p: Point, grid: &mut [f32])
     requires { ⌜ Valid c ⌝ }
     requires { ⌜ (row < symbols c) × (used < band c .used) × (length (now grid) ≡ 2 * gridPoints c) ⌝ }
@@ -152,11 +88,11 @@ fn pilot_row(c: Setup, slot: usize, row: usize, p: Point, grid: &mut [f32])
     requires { ⌜ (slot < 512) × (row < symbols c) × (length (now grid) ≡ 2 * gridPoints c) ⌝ }
     ensures { λ _. ⌜ now (grid .exit) ≡ pilotRow c slot p row (now (grid .entry)) ⌝ }
 {
-    let k = pilot_comb(c, slot * map::symbols(c) + row);
+    let k = map::pilot_comb(c, slot * map::symbols(c) + row);
     let mut i = 0;
     while i < k.count {
-        put_used(c, row, pilot_number(k, i * 2), p, grid);
-        put_used(c, row, pilot_number(k, i * 2 + 1), p, grid);
+        put_used(c, row, map::pilot_number(k, i * 2), p, grid);
+        put_used(c, row, map::pilot_number(k, i * 2 + 1), p, grid);
         i += 1;
     }
 }

@@ -5,3 +5,4 @@ pub mod Slot
 pub mod Law
 pub mod Outcome
 pub mod Row
+pub mod Pilots

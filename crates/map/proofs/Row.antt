@@ -21,7 +21,7 @@ use Rattle.carriers.specs.Model.{spotNumber, carrierNumber, carrierStep}
 use Rattle.carriers.proofs.Row.{step-carrier}
 use Rattle.map.specs.declared.Setup.{Setup}
 use Rattle.map.specs.Mode.{width, subchannels, symbols, band, isPilot, spotOf}
-use Rattle.map.specs.Valid.{Valid}
+use Rattle.map.specs.Valid.{Valid, pusc-dl, pusc-ul, ofusc, amc}
 use Rattle.map.specs.Model.{tableLength, tableEntry, TableOf, shiftOf}
 use Rattle.map.proofs.ByMode.{mode-0, mode-1, mode-2, mode-3, in-pusc-dl, in-pusc-ul, in-ofusc, in-amc, bin-width, symbols-range, used-few}
 use Rattle.map.proofs.Slot.{slot-law}
@@ -165,3 +165,11 @@ module _ (c : Setup) (s : ℕ) where
   pub shift-3 : (c .mode ≡ 0 → ⊥) → (c .mode ≡ 1 → ⊥) → (c .mode ≡ 2 → ⊥) → c .cell % 48 ≡ shiftOf c s
   unfolding shiftOf
   shift-3 n₀ n₁ n₂ = mode-3 _ _ _ _ _ n₀ n₁ n₂
+
+-- a row starts at the same number in the grid as in the numbers of spots: either the size is 2048 or there is one row
+pub row-start : {c : Setup} → Valid c → (row : ℕ) → row < symbols c → row * c .size ≡ row * 2048
+unfolding symbols
+row-start (pusc-dl h) row l = omega arith
+row-start (pusc-ul h) row l = omega arith
+row-start (ofusc {n = n} w h) row l = let z : row ≡ 0 = omega arith in rw z (omega arith)
+row-start (amc {n = n} w h) row l = let z : row ≡ 0 = omega arith in rw z (omega arith)

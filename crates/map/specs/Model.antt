@@ -1,8 +1,13 @@
 -- How a subchannel's carriers are found fast. No reader needs this to know what the calls do.
 use mathlib.Core.List.{List}
-use Prim.Native.Nat.{ℕ, _*_, _%_}
+use Prim.Native.Nat.{ℕ, _+_, _*_, _/_, _%_}
+use lib.Dec.{eqb}
+use Rattle.base.specs.Choice.{pick}
 use Rattle.base.specs.Tabulate.{Starts}
+use Rattle.carriers.specs.Bin.{binPilotPlace}
+use Rattle.pusc_dl.specs.Cluster.{firstPilot, secondPilot}
 use Rattle.map.specs.declared.Setup.{Setup}
+use Rattle.map.specs.declared.Comb.{Comb}
 use Rattle.map.specs.Mode.{byMode, width}
 use Rattle.pusc_dl.specs.Model as pusc-dl
 use Rattle.pusc_ul.specs.Model as pusc-ul
@@ -27,3 +32,20 @@ TableOf c table = Starts (tableLength c) (tableEntry c) table
 -- how far a subchannel's row is shifted round: by data place in PUSC uplink, by group in optional FUSC, by the places of P in AMC
 unfoldable pub shiftOf : Setup → ℕ → ℕ
 shiftOf c s = byMode (c .mode) 0 (13 * s % 48) (23 * s % 48) (c .cell % 48)
+
+-- the corners of the tiles; the middle symbol of a slot has none
+abbrev pub tileComb : ℕ → Comb
+tileComb y = record { first = 0; second = 3; step = 4; count = pick (eqb (y % 3) 1) 0 420 }
+
+-- the pilots of symbol y of the zone: in each of `count` runs of `step` used numbers the places `first` and `second`
+unfoldable pub combOf : Setup → ℕ → Comb
+combOf c y =
+    byMode (c .mode)
+    (record { first = firstPilot y; second = secondPilot y; step = 14; count = 120 })
+    (tileComb y)
+    (record { first = binPilotPlace y; second = binPilotPlace y; step = 9; count = 6 * width c })
+    (record { first = binPilotPlace y; second = binPilotPlace y; step = 9; count = 6 * width c })
+
+-- the used number of a comb's pilot j, two a run
+abbrev pub pilotNumber : Comb → ℕ → ℕ
+pilotNumber b j = j / 2 * b .step + pick (eqb (j % 2) 0) (b .first) (b .second)

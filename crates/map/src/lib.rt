@@ -13,7 +13,7 @@ ghost use Rattle.map.specs.Mode.{width as Width, cells as Cells, subchan
 ghost use Rattle.map.specs.Question.{isFourSizes, isSize, setupNumber};
 ghost use Rattle.map.specs.Place.{placed, placeAt, placeOf, located, contentOf, locateOf};
 ghost use Rattle.map.specs.Valid.{Valid};
-ghost use Rattle.map.specs.Model.{TableOf, shiftOf};
+ghost use Rattle.map.specs.Model.{TableOf, shiftOf, combOf, tileComb, pilotNumber};
 
 // What a zone fixes: mode, FFT size and cell.
 pub struct Setup {
@@ -41,8 +41,16 @@ pub enum Located {
     Refused(u8),
 }
 
+// The pilots of a symbol: in each of `count` runs of `step` used numbers the places `first` and `second`.
+pub struct Comb {
+    pub first: usize,
+    pub second: usize,
+    pub step: usize,
+    pub count: usize,
+}
+
 // N of modes 2 and 3.
-pub fn width(c: Setup) -> usize
+fn width(c: Setup) -> usize
     ensures { λ r. ⌜ r ≡ Width c ⌝ }
 {
     c.size / 64
@@ -219,7 +227,7 @@ fn spot(c: Setup, slot: usize, subchannel: usize, index: usize) -> Spot
     bin_spot(slot, amc::data_number(c.cell, subchannel, index))
 }
 
-// How far the row of a subchannel's carriers is shifted round.
+// The place in a subchannel's row at which index 0 stands; the others follow, going on at the row's start.
 pub fn shift(c: Setup, subchannel: usize) -> usize
     requires { ⌜ subchannel < 65536 ⌝ }
     ensures { λ r. ⌜ (r ≡ shiftOf c subchannel) × (r < 48) ⌝ }
@@ -236,7 +244,7 @@ pub fn shift(c: Setup, subchannel: usize) -> usize
     c.cell % 48
 }
 
-// Where the points of a subchannel lie in its slot, as numbers; not in PUSC uplink.
+// Where the points of a subchannel lie in its slot, as numbers, index 0 at place `shift`; not in PUSC uplink.
 fn spots(c: Setup, slot: usize, subchannel: usize, table: &[u16; 188]) -> [u16; 48]
     requires { ⌜ Valid c ⌝ }
     requires { ⌜ (c .mode ≡ 1 → ⊥) × (subchannel < Subchannels c) × TableOf c (now table) ⌝ }
@@ -251,7 +259,7 @@ fn spots(c: Setup, slot: usize, subchannel: usize, table: &[u16; 188]) -> [u16; 
     carriers::used_numbers(slot, amc::numbers(c.cell, subchannel, table))
 }
 
-// The carriers of a subchannel's points as numbers, 2048 for each symbol of the slot.
+// The carriers of a subchannel's points as numbers, 2048 for each symbol of the slot, index 0 at place `shift`.
 pub fn carrier_row(c: Setup, slot: usize, subchannel: usize, table: &[u16; 188]) -> [u16; 48]
     requires { ⌜ Valid c ⌝ }
     requires { ⌜ (subchannel < Subchannels c) × TableOf c (now table) ⌝ }
@@ -274,6 +282,63 @@ fn is_pilot(c: Setup, symbol: usize, used: usize) -> bool
         return pusc_ul::is_pilot(symbol % 3, used);
     }
     carriers::is_bin_pilot(symbol, used)
+}
+
+// The pilots of a symbol of the zone.
+pub fn pilot_comb(c: Setup, symbol: usize) -> Comb
+    requires { ⌜ Valid c ⌝ }
+    ensures { λ r. ⌜ r ≡ combOf c symbol ⌝ }
+{
+    if c.mode == 0 {
+        let p = pusc_dl::pilots(symbol);
+        return Comb {
+            first: p.first,
+            second: p.second,
+            step: 14,
+            count: 120,
+        };
+    }
+    if c.mode == 1 {
+        return tile_comb(symbol);
+    }
+    let place = carriers::bin_pilot_place(symbol);
+    Comb {
+        first: place,
+        second: place,
+        step: 9,
+        count: 6 * width(c),
+    }
+}
+
+// The corners of the tiles; the middle symbol of a slot has none.
+fn tile_comb(symbol: usize) -> Comb
+    ensures { λ r. ⌜ r ≡ tileComb symbol ⌝ }
+{
+    if symbol % 3 == 1 {
+        return Comb {
+            first: 0,
+            second: 3,
+            step: 4,
+            count: 0,
+        };
+    }
+    Comb {
+        first: 0,
+        second: 3,
+        step: 4,
+        count: 420,
+    }
+}
+
+// The used number of a comb's pilot j.
+pub fn pilot_number(k: Comb, j: usize) -> usize
+    requires { ⌜ (k .first < 16) × (k .second < 16) × (k .step < 16) × (j < 65536) ⌝ }
+    ensures { λ r. ⌜ r ≡ pilotNumber k j ⌝ }
+{
+    if j % 2 == 0 {
+        return j / 2 * k.step + k.first;
+    }
+    j / 2 * k.step + k.second
 }
 
 // Whose point a used number holds that is no pilot.

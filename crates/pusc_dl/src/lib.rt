@@ -288,7 +288,7 @@ const CLUSTER_STARTS: [usize; 6] = [0, 24, 40, 64, 80, 104];
 
 const SUBCHANNEL_STARTS: [usize; 6] = [0, 12, 20, 32, 40, 52];
 
-// The only passage between the two numbers of a cluster.
+// The renumbering and its inverse: the only passage between the two numbers of a cluster.
 fn renumber(cell: usize, p: Physical) -> Logical
     requires { ⌜ (cell < 32) × (p .0 < 120) ⌝ }
     ensures { λ r. ⌜ (r ≡ cluster.renumber cell p) × (r .0 < 120) ⌝ }

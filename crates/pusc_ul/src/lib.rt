@@ -264,7 +264,8 @@ pub fn address(cell: usize, offset: usize, used: usize) -> Address
     }
 }
 
-// The table of a cell: the first used number of each tile, counted in its seventy, on past the seventieth so that no sum is reduced.
+// Entry s + t is the first used number of tile t of subchannel s, counted from the start of its seventy tiles; 76 entries,
+// so that s + t needs no reduction.
 pub fn table(cell: usize) -> [u16; 188]
     requires { ⌜ cell < 70 ⌝ }
     ensures { λ r. ⌜ Starts 76 (tableEntry cell) r ⌝ }
@@ -279,7 +280,7 @@ pub fn table(cell: usize) -> [u16; 188]
     table
 }
 
-// The carrier on which the seventy tiles start that tile t is one of.
+// The first carrier of tiles 70t to 70t+69.
 fn seventy_start(t: usize) -> u16
     requires { ⌜ t < 6 ⌝ }
     ensures { λ r. ⌜ (r ≡ carrierOf puscBand (t * 280)) × (r < 2048) ⌝ }

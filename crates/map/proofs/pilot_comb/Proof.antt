@@ -1,11 +1,11 @@
--- `grid::pilot_comb` meets its contract. Assumes nothing.
+-- `map::pilot_comb` meets its contract. Assumes nothing.
 use Rattle.ofusc.proofs.Sequence.{size}
 use Rattle.map.proofs.ByMode.{mode-0, mode-1, mode-bins, bin-width}
-use Rattle.grid.specs.Model.{combOf}
+use Rattle.map.specs.Model.{combOf}
 use native.Mathlib.Omega.{arith}
 use borrow.Author.Needs.{needs}
-use Rattle.grid.proofs.pilot_comb.Statement.{statement}
-use Rattle.grid.proofs.pilot_comb.Tie as tie
+use Rattle.map.proofs.pilot_comb.Statement.{statement}
+use Rattle.map.proofs.pilot_comb.Tie as tie
 
 pilots-requires : tie.Need-pilots-requires
 pilots-requires c κs = search needs

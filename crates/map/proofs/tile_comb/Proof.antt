@@ -1,7 +1,7 @@
--- `grid::tile_comb` meets its contract. Assumes nothing.
+-- `map::tile_comb` meets its contract. Assumes nothing.
 use borrow.Author.Tests.{eq-eqb, ne-eqb}
-use Rattle.grid.proofs.tile_comb.Statement.{statement}
-use Rattle.grid.proofs.tile_comb.Tie as tie
+use Rattle.map.proofs.tile_comb.Statement.{statement}
+use Rattle.map.proofs.tile_comb.Tie as tie
 
 returns : tie.Need-returns
 returns c = rw (eq-eqb _ _ (c .if1 .taken))
