@@ -322,5 +322,5 @@ fn refusals_have_words() {
             "{question}"
         );
     }
-    assert_eq!(Refusal(6).to_string(), "refused 6: is the index below 48?");
+    assert_eq!(Refusal(6).to_string(), "refused 6: Is the index below 48?");
 }
