@@ -280,6 +280,11 @@ class Refusals(unittest.TestCase):
             rust = dict(re.findall(r'^ +(\d+) => "(.*\?)",$', file.read(), re.MULTILINE))
         self.assertEqual(rust, {str(n): text for n, text in bp.QUESTIONS.items()})
 
+    def test_the_examples_in_c_have_the_same_questions(self):
+        with open(os.path.join(ROOT, "examples", "c", "refusal.h")) as file:
+            c = re.findall(r'^    "(.*)",$', file.read(), re.MULTILINE)
+        self.assertEqual(c, [""] + [bp.QUESTIONS[n] for n in range(1, 17)])
+
     def test_every_number_comes_back(self):
         def read(text):
             return refusal(bp.plan_read, bytes.fromhex(text))
