@@ -1,4 +1,4 @@
--- A chain of questions, link by link. Assumes nothing.
+-- A chain of questions, link by link.
 use mathlib.Core.Path.{_≡_, refl}
 use mathlib.Core.Bool.{Bool, true, false}
 use Prim.Native.Nat.{ℕ}

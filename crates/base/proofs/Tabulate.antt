@@ -1,4 +1,4 @@
--- A tabulated list has its length and its entries, and is the only list that has them; and a loop that writes one entry a turn. Assumes nothing.
+-- A tabulated list has its length and its entries, and is the only list that has them; and a loop that writes one entry a turn.
 use mathlib.Core.Path.{_≡_, refl, sym, ap, _∙_, subst}
 use mathlib.Core.List.{List}
 use Prim.Native.Nat.{ℕ, zero, suc, _+_, _-_, _%_, _<_, _≤_}

@@ -1,4 +1,4 @@
--- Used numbers and the carriers that are neither guard nor DC are the same, one for one. Assumes nothing.
+-- Used numbers and the carriers that are neither guard nor DC are the same, one for one.
 use mathlib.Core.Path.{_≡_, refl, sym, ap, _∙_}
 use mathlib.Core.Bool.{true, false}
 use Prim.Native.Nat.{ℕ, _+_, _-_, _*_, _<_, _≤_}

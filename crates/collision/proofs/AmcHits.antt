@@ -1,4 +1,4 @@
--- The hits of AMC as places: in a slot of one symbol, two cells put index j of a subchannel on one carrier just where they give the same v. Assumes nothing.
+-- The hits of AMC as places: in a slot of one symbol, two cells put index j of a subchannel on one carrier just where they give the same v.
 use mathlib.Core.Path.{_≡_, sym, ap, _∙_}
 use mathlib.Core.Bool.{true}
 use Prim.Native.Nat.{ℕ, _+_, _*_, _/_, _%_, _<_}

@@ -1,4 +1,4 @@
--- THE PLANNERS' FIGURES: theorems about placing (`placeOf`) and about what the two calls return (`ofuscOf` and `amcOf`), lettered as in docs/FIGURES.md. `Width n` says that N is 4, 8, 16 or 32; the size is 64·N, and a cell allowed there is below N·N. Assumes nothing.
+-- THE PLANNERS' FIGURES: theorems about placing (`placeOf`) and about what the two calls return (`ofuscOf` and `amcOf`), lettered as in docs/FIGURES.md. `Width n` says that N is 4, 8, 16 or 32; the size is 64·N, and a cell allowed there is below N·N.
 use mathlib.Core.Path.{_≡_, refl, sym, _∙_, subst, subst⁻¹}
 use mathlib.Core.Logic.{_↔_}
 use Prim.Native.Nat.{ℕ, _+_, _-_, _*_, _/_, _<_, _≤_}

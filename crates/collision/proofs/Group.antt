@@ -1,4 +1,4 @@
--- Groups of optional FUSC: where a subchannel's point lies in group k, and that two are on one carrier where their elements of the field are the same. Assumes nothing.
+-- Groups of optional FUSC: where a subchannel's point lies in group k, and that two are on one carrier where their elements of the field are the same.
 use mathlib.Core.Path.{_≡_, sym, ap, ap₂, _∙_}
 use Prim.Native.Nat.{ℕ, _+_, _*_, _<_}
 use native.Mathlib.Omega.{arith}

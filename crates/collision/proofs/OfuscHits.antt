@@ -1,4 +1,4 @@
--- The hits of optional FUSC, from the algebra of the field: in a row, in a group, for one cell, and as places. Assumes nothing.
+-- The hits of optional FUSC, from the algebra of the field: in a row, in a group, for one cell, and as places.
 use mathlib.Core.Path.{_≡_, refl, sym, ap, _∙_, subst⁻¹}
 use mathlib.Core.Bool.{Bool, true}
 use Prim.Native.Nat.{ℕ, _+_, _-_, _*_, _<_, _≤_}

@@ -1,4 +1,4 @@
--- What `place` answers in optional FUSC and AMC, by data numbers, and who is in group k. Assumes nothing.
+-- What `place` answers in optional FUSC and AMC, by data numbers, and who is in group k.
 use mathlib.Core.Path.{_≡_, refl, sym, ap, _∙_}
 use Prim.Native.Nat.{ℕ, _+_, _-_, _*_, _/_, _<_}
 use native.Mathlib.Omega.{arith}

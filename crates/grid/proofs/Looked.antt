@@ -1,4 +1,4 @@
--- Look by the reverse: what `locateOf` says of the carrier decides what is seen. Assumes nothing.
+-- Look by the reverse: what `locateOf` says of the carrier decides what is seen.
 use mathlib.Core.Path.{_≡_, refl, sym, ap, _∙_}
 use Prim.Native.Nat.{ℕ, _*_, _%_, _<_}
 use native.Mathlib.Omega.{arith}

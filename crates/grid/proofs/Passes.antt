@@ -1,4 +1,4 @@
--- The loops of fill and empty over the subchannels, and what they come to. Assumes nothing.
+-- The loops of fill and empty over the subchannels, and what they come to.
 use mathlib.Core.Path.{_≡_, sym, ap, _∙_}
 use mathlib.Core.List.{List}
 use Prim.Native.Nat.{ℕ, _+_, _*_, _<_, _≤_}

@@ -1,4 +1,4 @@
--- What the questions of fill, empty and look come to. Assumes nothing.
+-- What the questions of fill, empty and look come to.
 use mathlib.Core.Path.{_≡_, refl, sym, ap, _∙_}
 use mathlib.Core.Bool.{Bool, true, false}
 use Prim.Native.Nat.{ℕ, _*_, _<_, _≤_}

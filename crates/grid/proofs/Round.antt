@@ -1,4 +1,4 @@
--- THE LAWS OF THE GRID, for every accepted request, every pilot point and whatever the buffers held before. They rest on the law of the map, and on no mode's text. Assumes nothing.
+-- THE LAWS OF THE GRID, for every accepted request, every pilot point and whatever the buffers held before. They rest on the law of the map, and on no mode's text.
 use mathlib.Core.Path.{_≡_, refl, sym, ap, _∙_}
 use mathlib.Core.Bool.{Bool, true, false}
 use mathlib.Core.List.{List}

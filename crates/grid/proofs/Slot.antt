@@ -1,4 +1,4 @@
--- A slot's points and the places of its grid: from the law of the map. Assumes nothing.
+-- A slot's points and the places of its grid: from the law of the map.
 use mathlib.Core.Path.{_≡_, sym, ap, _∙_}
 use mathlib.Core.List.{List}
 use Prim.Native.Nat.{ℕ, _+_, _-_, _*_, _/_, _%_, _<_, _≤_}

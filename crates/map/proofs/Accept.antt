@@ -1,4 +1,4 @@
--- Questions 1, 2 and 3 let pass just the valid setups. Assumes nothing.
+-- Questions 1, 2 and 3 let pass just the valid setups.
 use mathlib.Core.Path.{_≡_, refl, subst⁻¹}
 use mathlib.Core.Bool.{Bool, true, false}
 use Prim.Native.Nat.{ℕ, zero, suc, _*_, _/_, _<_, _≤_}

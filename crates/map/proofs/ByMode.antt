@@ -1,4 +1,4 @@
--- A choice by the mode, and what a valid setup says of its mode. Assumes nothing.
+-- A choice by the mode, and what a valid setup says of its mode.
 use mathlib.Core.Path.{_≡_, refl, sym, ap, _∙_}
 use mathlib.Core.Bool.{Bool, true, false}
 use Prim.Native.Nat.{ℕ, _*_, _/_, _%_, _<_, _≤_}

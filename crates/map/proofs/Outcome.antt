@@ -1,4 +1,4 @@
--- What placing and locating come to at each of their returns. Assumes nothing.
+-- What placing and locating come to at each of their returns.
 use mathlib.Core.Path.{_≡_, sym, ap, _∙_, subst}
 use mathlib.Core.Bool.{Bool, true, false}
 use Prim.Native.Nat.{ℕ, _*_, _/_, _<_, _≤_}

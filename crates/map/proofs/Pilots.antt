@@ -1,4 +1,4 @@
--- The combs are the pilots: mode by mode, from one lemma over the comb. Assumes nothing.
+-- The combs are the pilots: mode by mode, from one lemma over the comb.
 use mathlib.Core.Path.{_≡_, refl, sym, ap, _∙_, subst}
 use mathlib.Core.Bool.{Bool, true, false}
 use Prim.Native.Nat.{ℕ, _+_, _*_, _/_, _%_, _<_, _≤_}

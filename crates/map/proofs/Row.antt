@@ -1,4 +1,4 @@
--- A subchannel's row of spots, from the table and the rows of its mode. Assumes nothing.
+-- A subchannel's row of spots, from the table and the rows of its mode.
 use mathlib.Core.Path.{_≡_, sym, ap, ap₂, _∙_}
 use mathlib.Core.List.{List}
 use Prim.Native.Nat.{ℕ, _+_, _*_, _%_, _<_}

@@ -1,4 +1,4 @@
--- The questions put to zones, and what a yes to all of them says. Assumes nothing.
+-- The questions put to zones, and what a yes to all of them says.
 use mathlib.Core.Path.{_≡_, refl, _∙_}
 use mathlib.Core.Bool.{true}
 use mathlib.Core.List.{List, [], _∷_}

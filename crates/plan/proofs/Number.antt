@@ -1,4 +1,4 @@
--- A chain of questions by its number: the first that is answered no, or 0. Assumes nothing.
+-- A chain of questions by its number: the first that is answered no, or 0.
 use mathlib.Core.Path.{_≡_, refl, sym, ap, _∙_}
 use mathlib.Core.Bool.{Bool, true, false}
 use mathlib.Core.List.{List, [], _∷_}

@@ -1,4 +1,4 @@
--- Reading from a place on, value by value and zone by zone. Assumes nothing.
+-- Reading from a place on, value by value and zone by zone.
 use mathlib.Core.Path.{_≡_, refl, sym, ap, _∙_}
 use mathlib.Core.List.{List, [], _∷_, _++_, append-nil}
 use Prim.Native.Nat.{ℕ, suc, _+_, _-_, _<_, _≤_}

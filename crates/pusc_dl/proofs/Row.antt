@@ -1,4 +1,4 @@
--- The spots of a subchannel from the table of the cell. Assumes nothing.
+-- The spots of a subchannel from the table of the cell.
 use mathlib.Core.Path.{_≡_, ap, _∙_}
 use mathlib.Core.List.{List}
 use Prim.Native.Nat.{ℕ, _+_, _-_, _*_, _/_, _%_, _<_}

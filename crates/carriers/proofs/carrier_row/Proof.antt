@@ -1,4 +1,4 @@
--- `carriers::carrier_row` meets its contract. Assumes nothing.
+-- `carriers::carrier_row` meets its contract.
 use mathlib.Core.Path.{ap}
 use mathlib.Core.Bool.{Bool}
 use Prim.Native.Nat.{ℕ, _+_, _-_, _%_, _<_}
@@ -28,12 +28,6 @@ cast-turn c = omega (arith, c .before .before .pre .1)
 loop-holds : tie.Need-loop-holds Inv-loop μ-loop
 loop-holds c = written-none 48 _
 
-mul-x : tie.Need-mul-x Inv-loop μ-loop
-mul-x c = search needs
-
-array-read-x : tie.Need-array-read-x Inv-loop μ-loop
-array-read-x c = search needs
-
 -- a spot and the left guards are small
 sum-few : (c : tie.In-loop Inv-loop μ-loop) → entry (c .before .before .before .before .args .t2) (c .before .loop .k) + c .before .before .before .before .args .b .left < 65535
 sum-few c = omega (arith, c .before .before .before .before .pre .0, c .before .before .before .before .pre .2 _ (c .loop-test .taken))
@@ -51,18 +45,6 @@ cast-row c = tt
 add-row-2 : tie.Need-add-row-2 Inv-loop μ-loop
 add-row-2 c = step-fits _ (past-dc c) (sum-few c)
 
-mul-row : tie.Need-mul-row Inv-loop μ-loop
-mul-row c = search needs
-
-array-write-row : tie.Need-array-write-row Inv-loop μ-loop
-array-write-row c = search needs
-
-add-k : tie.Need-add-k Inv-loop μ-loop
-add-k c = search needs
-
-loop-less : tie.Need-loop-less Inv-loop μ-loop
-loop-less c = search needs
-
 loop-again : tie.Need-loop-again Inv-loop μ-loop
 loop-again c = written-next (c .before .loop .inv) (c .loop-test .taken) _ (ap (λ (x : ℕ). entry (c .before .before .before .before .args .t2) (c .before .loop .k) + c .before .before .before .before .args .b .left + x) (step-is (past-dc c)))
 
@@ -74,19 +56,5 @@ pub carrier-row-spec : {M : Type 1} → statement M
 carrier-row-spec =
     tie.close
     (tie.spec
-    Inv-loop
-    μ-loop
-    cast-left
-    cast-turn
-    loop-holds
-    mul-x
-    array-read-x
-    add-row
-    cast-row
-    add-row-2
-    mul-row
-    array-write-row
-    add-k
-    loop-less
-    loop-again
-    returns)
+    Inv-loop μ-loop cast-left cast-turn loop-holds (λ c. search needs) (λ c. search needs) add-row cast-row add-row-2
+    (λ c. search needs) (λ c. search needs) (λ c. search needs) (λ c. search needs) loop-again returns)

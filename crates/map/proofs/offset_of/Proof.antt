@@ -1,4 +1,4 @@
--- `map::offset_of` meets its contract. Assumes nothing.
+-- `map::offset_of` meets its contract.
 use mathlib.Core.Path.{ap}
 use Prim.Native.Nat.{ℕ, _%_}
 use native.Mathlib.Omega.{arith}

@@ -1,4 +1,4 @@
--- `plan::zones_refusal` meets its contract: the zones from the k-th on give the number that all give. Assumes nothing.
+-- `plan::zones_refusal` meets its contract: the zones from the k-th on give the number that all give.
 use mathlib.Core.Path.{_≡_, refl, _∙_}
 use Prim.Native.Nat.{_-_, _≤_}
 use native.Mathlib.Omega.{arith}
@@ -38,4 +38,6 @@ returns-2 c =
 pub zones-refusal-spec : {M : Type 1} → statement M
 zones-refusal-spec =
     tie.close
-    (tie.spec Inv-loop μ-loop loop-holds (λ c. search needs) (λ c. search needs) (λ c κs. search needs) returns (λ c. search needs) (λ c. search needs) loop-again returns-2)
+    (tie.spec
+    Inv-loop μ-loop loop-holds (λ c. search needs) (λ c. search needs) (λ c κs. search needs) returns
+    (λ c. search needs) (λ c. search needs) loop-again returns-2)
