@@ -8,7 +8,8 @@ use lib.ListN.{length, getD, set, replicate, length-set, length-replicate}
 use lib.Seq.{getD-set-same, getD-set-other, ext-getD}
 use borrow.Author.Count.{below-none, below-more}
 use Rattle.base.specs.Steps.{entry}
-use Rattle.base.specs.Tabulate.{tabulate, Starts, Below, Turned}
+use Rattle.base.specs.Tabulate.{tabulate}
+use Rattle.base.specs.Model.{Starts, Below, Turned}
 
 pub length-tabulate : {A : Type 0} (n : ℕ) (f : ℕ → A) → length (tabulate n f) ≡ n
 unfolding tabulate

@@ -10,11 +10,11 @@ ghost use Rattle.map.specs.Mode.{symbols, subchannels, band};
 ghost use Rattle.map.specs.Place.{located};
 ghost use Rattle.map.specs.Valid.{Valid};
 ghost use Rattle.map.specs.Model.{TableOf};
-ghost use Rattle.base.specs.Answer.{number};
+ghost use Rattle.base.specs.Answer.{refusalOf};
 ghost use Rattle.base.specs.Steps.{entry};
 ghost use Rattle.grid.specs.Points.{zero32, pointAt};
 ghost use Rattle.grid.specs.Row.{gridPoints, position as Position, usedPosition};
-ghost use Rattle.grid.specs.Question.{slotNumber};
+ghost use Rattle.grid.specs.Question.{slotRefusal};
 ghost use Rattle.grid.specs.Grid.{fillOf, emptyOf, seen, sightOf, lookOf};
 ghost use Rattle.grid.specs.Model.{putPoint, puts, Within, pilotRow, pilotRows, laidOne, takenOne};
 
@@ -182,7 +182,7 @@ fn take(
 
 // The number of the first of questions 1, 2, 3, 4, 8 and 9 that is answered no, or 0.
 fn slot_refusal(c: Setup, slot: usize, points: usize, grid: usize) -> u8
-    ensures { λ r. ⌜ r ≡ slotNumber c slot points grid ⌝ }
+    ensures { λ r. ⌜ r ≡ slotRefusal c slot points grid ⌝ }
 {
     let k = map::refusal(c);
     if k != 0 {
@@ -269,7 +269,7 @@ fn sight(found: Located, p: Point) -> Seen
 
 // The number of a refusal, or 0.
 fn refusal_of(found: Located) -> u8
-    ensures { λ r. ⌜ r ≡ number (located found) ⌝ }
+    ensures { λ r. ⌜ r ≡ refusalOf (located found) ⌝ }
 {
     match found {
         Located::Guard => 0,

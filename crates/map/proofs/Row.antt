@@ -7,7 +7,8 @@ use lib.Dec.{lit<, eqb}
 use Rattle.base.proofs.Test.{cases}
 use native.Mathlib.Omega.{arith}
 use Rattle.base.specs.Steps.{entry}
-use Rattle.base.specs.Tabulate.{tabulate, Starts, Below, Turned}
+use Rattle.base.specs.Tabulate.{tabulate}
+use Rattle.base.specs.Model.{Starts, Below, Turned}
 use Rattle.base.proofs.Tabulate.{starts-as, entry-of, turned-row, turned-by, turned-below}
 use Rattle.carriers.specs.declared.Spot.{Spot}
 use Rattle.ofusc.specs.Width.{Width}

@@ -6,7 +6,7 @@ use native.Mathlib.Omega.{arith}
 use lib.Dec.{eqb}
 use borrow.Author.Tests.{lt-ltb, le-ltb}
 use Rattle.base.specs.Steps.{rotate, entry}
-use Rattle.base.specs.Tabulate.{Starts}
+use Rattle.base.specs.Model.{Starts}
 use Rattle.base.proofs.Test.{cases}
 use Rattle.pusc_dl.specs.Table.{base12, base8}
 use Rattle.pusc_dl.specs.Cluster.{unrenumber, clusterPlace}

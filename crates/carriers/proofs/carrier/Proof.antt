@@ -7,7 +7,7 @@ use Rattle.carriers.proofs.carrier.Statement.{statement}
 use Rattle.carriers.proofs.carrier.Tie as tie
 
 add-result : tie.Need-add-result
-add-result c = omega (arith, skip-le (c .before .before .args .b .turn) (c .before .before .args .u))
+add-result c = omega (arith, skip-le (c .before .before .args .b .half) (c .before .before .args .u))
 
 returns : tie.Need-returns
 unfolding carrierOf

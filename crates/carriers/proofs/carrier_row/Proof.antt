@@ -14,16 +14,16 @@ use Rattle.carriers.proofs.carrier_row.Statement.{statement}
 use Rattle.carriers.proofs.carrier_row.Tie as tie
 
 abbrev Inv-loop : tie.InvT-loop
-Inv-loop spots left turn row₀ k₀ row k = Written 48 (λ j. entry spots j + left + pick (leb turn (entry spots j % 2048)) 1 0) row k
+Inv-loop spots left half row₀ k₀ row k = Written 48 (λ j. entry spots j + left + pick (leb half (entry spots j % 2048)) 1 0) row k
 
 abbrev μ-loop : tie.MeasureT-loop
-μ-loop spots left turn row₀ k₀ row k = 48 - k
+μ-loop spots left half row₀ k₀ row k = 48 - k
 
 cast-left : tie.Need-cast-left Inv-loop μ-loop
 cast-left c = omega (arith, c .before .pre .0)
 
-cast-turn : tie.Need-cast-turn Inv-loop μ-loop
-cast-turn c = omega (arith, c .before .before .pre .1)
+cast-half : tie.Need-cast-half Inv-loop μ-loop
+cast-half c = omega (arith, c .before .before .pre .1)
 
 loop-holds : tie.Need-loop-holds Inv-loop μ-loop
 loop-holds c = written-none 48 _
@@ -34,7 +34,7 @@ sum-few c = omega (arith, c .before .before .before .before .pre .0, c .before .
 
 -- DC lies below the carrier
 abbrev past-dc : tie.In-loop Inv-loop μ-loop → Bool
-past-dc c = leb (c .before .before .before .before .args .b .turn) (entry (c .before .before .before .before .args .t2) (c .before .loop .k) % 2048)
+past-dc c = leb (c .before .before .before .before .args .b .half) (entry (c .before .before .before .before .args .t2) (c .before .loop .k) % 2048)
 
 add-row : tie.Need-add-row Inv-loop μ-loop
 add-row c = omega (arith, sum-few c)
@@ -56,5 +56,5 @@ pub carrier-row-spec : {M : Type 1} → statement M
 carrier-row-spec =
     tie.close
     (tie.spec
-    Inv-loop μ-loop cast-left cast-turn loop-holds (λ c. search needs) (λ c. search needs) add-row cast-row add-row-2
+    Inv-loop μ-loop cast-left cast-half loop-holds (λ c. search needs) (λ c. search needs) add-row cast-row add-row-2
     (λ c. search needs) (λ c. search needs) (λ c. search needs) (λ c. search needs) loop-again returns)

@@ -5,14 +5,14 @@ use native.Mathlib.Omega.{arith}
 use borrow.Author.Needs.{needs}
 use lib.ListN.{length, take, drop}
 use Rattle.plan.specs.declared.Before.the-variants.{First}
-use Rattle.plan.specs.Write.{zonesNumber}
+use Rattle.plan.specs.Write.{zonesRefusal}
 use Rattle.plan.proofs.Places.{length-mapped}
 use Rattle.plan.proofs.Number.{zones-no, zones-next, zones-end}
 use Rattle.plan.proofs.zones_refusal.Statement.{statement}
 use Rattle.plan.proofs.zones_refusal.Tie as tie
 
 abbrev Inv-loop : tie.InvT-loop
-Inv-loop count size zones prior₀ k₀ prior k = (length zones ≡ 8) × (count ≤ 8) × (zonesNumber size prior (drop k (take count zones)) ≡ zonesNumber size First (take count zones))
+Inv-loop count size zones prior₀ k₀ prior k = (length zones ≡ 8) × (count ≤ 8) × (zonesRefusal size prior (drop k (take count zones)) ≡ zonesRefusal size First (take count zones))
 
 abbrev μ-loop : tie.MeasureT-loop
 μ-loop count size zones prior₀ k₀ prior k = count - k
