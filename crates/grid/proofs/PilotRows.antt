@@ -16,13 +16,13 @@ use Rattle.map.specs.Place.{pilot}
 use Rattle.map.specs.Valid.{Valid}
 use Rattle.map.proofs.Law.{pilot-content, pilot-at}
 use Rattle.grid.specs.declared.Point.{Point}
-use Rattle.map.specs.declared.Comb.{Comb}
+use Rattle.rows.specs.declared.Comb.{Comb}
 use Rattle.grid.specs.Points.{zero32, pointAt}
 use Rattle.grid.specs.Row.{gridPoints, usedPosition, rowOf, columnOf}
 use Rattle.grid.specs.Model.{putPoint, puts, pilotPlace, pilotRow, pilotRows}
-use Rattle.map.specs.Model.{combOf, pilotNumber}
+use Rattle.rows.specs.Model.{combOf, pilotNumber}
 use Rattle.grid.proofs.Points.{length-puts, puts-miss, puts-one, puts-next}
-use Rattle.map.proofs.Pilots.{CombLaw, pilots-law, Small, comb-small}
+use Rattle.rows.proofs.Pilots.{CombLaw, pilots-law, Small, comb-small}
 use Rattle.grid.proofs.Slot.{contentAt, used-row, used-column, used-position-lt, at-place}
 
 module _ (c : Setup) (v : Valid c) (slot : ℕ) (p : Point) where

@@ -24,8 +24,8 @@ use Rattle.map.proofs.Law.{content-placed, locate-accepts, placed-where-located
 use Rattle.grid.specs.Row.{gridPoints, position, usedPosition, rowOf, columnOf}
 use Rattle.grid.specs.Grid.{standsAt, pointNumber}
 use Rattle.grid.specs.Model.{Within}
-use Rattle.map.specs.Model.{shiftOf}
-use Rattle.map.proofs.Row.{shift-lt, row-start}
+use Rattle.rows.specs.Model.{shiftOf}
+use Rattle.rows.proofs.Row.{shift-lt, row-start}
 
 -- what the grid holds at its point n
 abbrev pub contentAt : Setup → ℕ → ℕ → Content

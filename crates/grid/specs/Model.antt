@@ -7,8 +7,8 @@ use Rattle.base.specs.Steps.{entry}
 use Rattle.map.specs.declared.Setup.{Setup}
 use Rattle.map.specs.Mode.{symbols}
 use Rattle.grid.specs.declared.Point.{Point}
-use Rattle.map.specs.declared.Comb.{Comb}
-use Rattle.map.specs.Model.{combOf, pilotNumber}
+use Rattle.rows.specs.declared.Comb.{Comb}
+use Rattle.rows.specs.Model.{combOf, pilotNumber}
 use Rattle.grid.specs.Points.{pointAt}
 use Rattle.grid.specs.Row.{usedPosition}
 use Rattle.grid.specs.Grid.{standsAt, pointNumber}

@@ -9,7 +9,7 @@ ghost use lib.ListN.{length, replicate};
 ghost use Rattle.map.specs.Mode.{symbols, subchannels, band};
 ghost use Rattle.map.specs.Place.{located};
 ghost use Rattle.map.specs.Valid.{Valid};
-ghost use Rattle.map.specs.Model.{TableOf};
+ghost use Rattle.rows.specs.Model.{TableOf};
 ghost use Rattle.base.specs.Answer.{refusalOf};
 ghost use Rattle.base.specs.Steps.{entry};
 ghost use Rattle.grid.specs.Points.{zero32, pointAt};
@@ -88,11 +88,11 @@ fn pilot_row(c: Setup, slot: usize, row: usize, p: Point, grid: &mut [f32])
     requires { ⌜ (slot < 512) × (row < symbols c) × (length (now grid) ≡ 2 * gridPoints c) ⌝ }
     ensures { λ _. ⌜ now (grid .exit) ≡ pilotRow c slot p row (now (grid .entry)) ⌝ }
 {
-    let k = map::pilot_comb(c, slot * map::symbols(c) + row);
+    let k = rows::pilot_comb(c, slot * map::symbols(c) + row);
     let mut i = 0;
     while i < k.count {
-        put_used(c, row, map::pilot_number(k, i * 2), p, grid);
-        put_used(c, row, map::pilot_number(k, i * 2 + 1), p, grid);
+        put_used(c, row, rows::pilot_number(k, i * 2), p, grid);
+        put_used(c, row, rows::pilot_number(k, i * 2 + 1), p, grid);
         i += 1;
     }
 }
@@ -139,8 +139,8 @@ fn lay(
     requires { ⌜ TableOf c (now table) ⌝ }
     ensures { λ _. ⌜ now (grid .exit) ≡ laidOne c slot (now (points .entry)) subchannel (now (grid .entry)) ⌝ }
 {
-    let row = map::carrier_row(c, slot, subchannel, table);
-    let by = map::shift(c, subchannel);
+    let row = rows::carrier_row(c, slot, subchannel, table);
+    let by = rows::shift(c, subchannel);
     let first = subchannel * 48;
     lay_run(&row, by, 48 - by, first, points, grid);
     lay_run(&row, 0, by, first + (48 - by), points, grid);
@@ -173,8 +173,8 @@ fn take(
     requires { ⌜ TableOf c (now table) ⌝ }
     ensures { λ _. ⌜ now (points .exit) ≡ takenOne c slot (now (grid .entry)) subchannel (now (points .entry)) ⌝ }
 {
-    let row = map::carrier_row(c, slot, subchannel, table);
-    let by = map::shift(c, subchannel);
+    let row = rows::carrier_row(c, slot, subchannel, table);
+    let by = rows::shift(c, subchannel);
     let first = subchannel * 48;
     take_run(&row, by, 48 - by, first, grid, points);
     take_run(&row, 0, by, first + (48 - by), grid, points);
@@ -217,7 +217,7 @@ pub fn fill(c: Setup, slot: usize, pilot: Point, points: &[f32], grid: &mut [f32
         return k;
     }
     ground(c, slot, pilot, grid);
-    let table = map::table(c);
+    let table = rows::table(c);
     let n = map::subchannels(c);
     let mut s = 0;
     while s < n {
@@ -235,7 +235,7 @@ pub fn empty(c: Setup, slot: usize, grid: &[f32], points: &mut [f32]) -> u8
     if k != 0 {
         return k;
     }
-    let table = map::table(c);
+    let table = rows::table(c);
     let n = map::subchannels(c);
     let mut s = 0;
     while s < n {

@@ -4,5 +4,3 @@ pub mod ByMode
 pub mod Slot
 pub mod Law
 pub mod Outcome
-pub mod Row
-pub mod Pilots

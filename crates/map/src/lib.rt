@@ -6,15 +6,12 @@ ghost use mathlib.Core.Path.{_≡_};
 ghost use mathlib.Core.Bool.{false};
 ghost use Prim.Native.Nat.{_*_, _/_, _%_, _<_, _≤_};
 ghost use Rattle.base.specs.Answer.{accepted};
-ghost use Rattle.base.specs.Model.{Turned};
 ghost use Rattle.carriers.specs.Bin.{binSpot};
-ghost use Rattle.carriers.specs.Model.{spotNumber, carrierNumber};
-ghost use Rattle.map.specs.Mode.{width as Width, cells as Cells, subchannels as Subchannels, symbols as Symbols, band as BandOf, isPilot, spotOf, addressOf};
+ghost use Rattle.map.specs.Mode.{width as WidthOf, cells as Cells, subchannels as Subchannels, symbols as Symbols, band as BandOf, isPilot, spotOf, addressOf};
 ghost use Rattle.map.specs.Question.{isFourSizes, isSize};
 ghost use Rattle.map.specs.Model.{setupRefusal};
 ghost use Rattle.map.specs.Place.{placed, placeAt, placeOf, located, contentOf, locateOf};
 ghost use Rattle.map.specs.Valid.{Valid};
-ghost use Rattle.map.specs.Model.{TableOf, shiftOf, combOf, tileComb, pilotNumber};
 
 // What a zone fixes: mode, FFT size and cell.
 pub struct Setup {
@@ -42,17 +39,9 @@ pub enum Located {
     Refused(u8),
 }
 
-// The pilots of a symbol: in each of `count` runs of `step` used numbers the places `first` and `second`.
-pub struct Comb {
-    pub first: usize,
-    pub second: usize,
-    pub step: usize,
-    pub count: usize,
-}
-
 // N of modes 2 and 3.
-fn width(setup: Setup) -> usize
-    ensures { λ r. ⌜ r ≡ Width setup ⌝ }
+pub fn width(setup: Setup) -> usize
+    ensures { λ r. ⌜ r ≡ WidthOf setup ⌝ }
 {
     setup.size / 64
 }
@@ -179,23 +168,6 @@ pub fn refusal(setup: Setup) -> u8
     0
 }
 
-// What the cell alone fixes of the places of a slot.
-pub fn table(setup: Setup) -> [u16; 188]
-    requires { ⌜ Valid setup ⌝ }
-    ensures { λ r. ⌜ TableOf setup r ⌝ }
-{
-    if setup.mode == 0 {
-        return pusc_dl::table(setup.cell);
-    }
-    if setup.mode == 1 {
-        return pusc_ul::table(setup.cell);
-    }
-    if setup.mode == 2 {
-        return ofusc::table(width(setup), setup.cell);
-    }
-    amc::table(setup.cell)
-}
-
 // Where data number d lies in a slot of one symbol.
 fn bin_spot(slot: usize, d: usize) -> Spot
     requires { ⌜ d < 65536 ⌝ }
@@ -228,54 +200,6 @@ fn spot(setup: Setup, slot: usize, subchannel: usize, index: usize) -> Spot
     bin_spot(slot, amc::data_number(setup.cell, subchannel, index))
 }
 
-// The place in a subchannel's row at which index 0 stands; the others follow, going on at the row's start.
-pub fn shift(setup: Setup, subchannel: usize) -> usize
-    requires { ⌜ subchannel < 65536 ⌝ }
-    ensures { λ r. ⌜ (r ≡ shiftOf setup subchannel) × (r < 48) ⌝ }
-{
-    if setup.mode == 0 {
-        return 0;
-    }
-    if setup.mode == 1 {
-        return 13 * subchannel % 48;
-    }
-    if setup.mode == 2 {
-        return 23 * subchannel % 48;
-    }
-    setup.cell % 48
-}
-
-// Where the points of a subchannel lie in its slot, as numbers, index 0 at place `shift`; not in PUSC uplink.
-fn spots(setup: Setup, slot: usize, subchannel: usize, table: &[u16; 188]) -> [u16; 48]
-    requires { ⌜ Valid setup ⌝ }
-    requires { ⌜ (setup .mode ≡ 1 → ⊥) × (subchannel < Subchannels setup) × TableOf setup (now table) ⌝ }
-    ensures { λ r. ⌜ Turned (shiftOf setup subchannel) (λ m. spotNumber (spotOf setup slot subchannel m)) r ⌝ }
-{
-    if setup.mode == 0 {
-        return pusc_dl::spots(setup.cell, subchannel, table);
-    }
-    if setup.mode == 2 {
-        return carriers::used_numbers(
-            slot,
-            ofusc::numbers(width(setup), setup.cell, subchannel, table),
-        );
-    }
-    carriers::used_numbers(slot, amc::numbers(setup.cell, subchannel, table))
-}
-
-// The carriers of a subchannel's points as numbers, 2048 for each symbol of the slot, index 0 at place `shift`.
-pub fn carrier_row(setup: Setup, slot: usize, subchannel: usize, table: &[u16; 188]) -> [u16; 48]
-    requires { ⌜ Valid setup ⌝ }
-    requires { ⌜ (subchannel < Subchannels setup) × TableOf setup (now table) ⌝ }
-    ensures { λ r. ⌜ Turned (shiftOf setup subchannel) (λ m. carrierNumber (BandOf setup) (spotOf setup slot subchannel m)) r ⌝ }
-{
-    if setup.mode == 1 {
-        return pusc_ul::carrier_row(setup.cell, subchannel, table);
-    }
-    let row = spots(setup, slot, subchannel, table);
-    carriers::carrier_row(band(setup), row)
-}
-
 fn is_pilot(setup: Setup, symbol: usize, used: usize) -> bool
     ensures { λ r. ⌜ r ≡ isPilot setup symbol used ⌝ }
 {
@@ -286,63 +210,6 @@ fn is_pilot(setup: Setup, symbol: usize, used: usize) -> bool
         return pusc_ul::is_pilot(symbol % 3, used);
     }
     carriers::is_bin_pilot(symbol, used)
-}
-
-// The pilots of a symbol of the zone.
-pub fn pilot_comb(setup: Setup, symbol: usize) -> Comb
-    requires { ⌜ Valid setup ⌝ }
-    ensures { λ r. ⌜ r ≡ combOf setup symbol ⌝ }
-{
-    if setup.mode == 0 {
-        let p = pusc_dl::pilots(symbol);
-        return Comb {
-            first: p.first,
-            second: p.second,
-            step: 14,
-            count: 120,
-        };
-    }
-    if setup.mode == 1 {
-        return tile_comb(symbol);
-    }
-    let place = carriers::bin_pilot_place(symbol);
-    Comb {
-        first: place,
-        second: place,
-        step: 9,
-        count: 6 * width(setup),
-    }
-}
-
-// The corners of the tiles; the middle symbol of a slot has none.
-fn tile_comb(symbol: usize) -> Comb
-    ensures { λ r. ⌜ r ≡ tileComb symbol ⌝ }
-{
-    if symbol % 3 == 1 {
-        return Comb {
-            first: 0,
-            second: 3,
-            step: 4,
-            count: 0,
-        };
-    }
-    Comb {
-        first: 0,
-        second: 3,
-        step: 4,
-        count: 420,
-    }
-}
-
-// The used number of a comb's pilot j.
-pub fn pilot_number(k: Comb, j: usize) -> usize
-    requires { ⌜ (k .first < 16) × (k .second < 16) × (k .step < 16) × (j < 65536) ⌝ }
-    ensures { λ r. ⌜ r ≡ pilotNumber k j ⌝ }
-{
-    if j % 2 == 0 {
-        return j / 2 * k.step + k.first;
-    }
-    j / 2 * k.step + k.second
 }
 
 // Whose point a used number holds that is no pilot.

@@ -1,7 +1,7 @@
--- `map::tile_comb` meets its contract.
+-- `rows::tile_comb` meets its contract.
 use borrow.Author.Tests.{eq-eqb, ne-eqb}
-use Rattle.map.proofs.tile_comb.Statement.{statement}
-use Rattle.map.proofs.tile_comb.Tie as tie
+use Rattle.rows.proofs.tile_comb.Statement.{statement}
+use Rattle.rows.proofs.tile_comb.Tie as tie
 
 returns : tie.Need-returns
 returns c = rw (eq-eqb _ _ (c .if1 .taken))

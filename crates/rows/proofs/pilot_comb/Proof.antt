@@ -1,11 +1,11 @@
--- `map::pilot_comb` meets its contract.
+-- `rows::pilot_comb` meets its contract.
 use Rattle.ofusc.proofs.Sequence.{size}
 use Rattle.map.proofs.ByMode.{mode-0, mode-1, mode-bins, bin-width}
-use Rattle.map.specs.Model.{combOf}
+use Rattle.rows.specs.Model.{combOf}
 use native.Mathlib.Omega.{arith}
 use borrow.Author.Needs.{needs}
-use Rattle.map.proofs.pilot_comb.Statement.{statement}
-use Rattle.map.proofs.pilot_comb.Tie as tie
+use Rattle.rows.proofs.pilot_comb.Statement.{statement}
+use Rattle.rows.proofs.pilot_comb.Tie as tie
 
 returns : tie.Need-returns
 unfolding combOf

@@ -1,10 +1,10 @@
--- `map::table` meets its contract.
+-- `rows::table` meets its contract.
 use native.Mathlib.Omega.{arith}
 use borrow.Author.Needs.{needs}
 use Rattle.map.proofs.ByMode.{in-pusc-dl, in-pusc-ul, in-ofusc, in-amc, bin-width}
-use Rattle.map.proofs.Row.{as-0, as-1, as-2, as-3, to-table}
-use Rattle.map.proofs.table.Statement.{statement}
-use Rattle.map.proofs.table.Tie as tie
+use Rattle.rows.proofs.Row.{as-0, as-1, as-2, as-3, to-table}
+use Rattle.rows.proofs.table.Statement.{statement}
+use Rattle.rows.proofs.table.Tie as tie
 
 table-requires : tie.Need-table-requires
 table-requires c κs = in-pusc-dl (c .before .before .pre) (c .if1 .taken) .cell-lt

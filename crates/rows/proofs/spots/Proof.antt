@@ -1,8 +1,8 @@
--- `map::spots` meets its contract.
+-- `rows::spots` meets its contract.
 use borrow.Author.Needs.{needs}
-use Rattle.map.proofs.Row.{asks-0, asks-2, asks-3, row-0, row-below, bin-row, group-number-lt, sequence-number-lt, spot-2, spot-3}
-use Rattle.map.proofs.spots.Statement.{statement}
-use Rattle.map.proofs.spots.Tie as tie
+use Rattle.rows.proofs.Row.{asks-0, asks-2, asks-3, row-0, row-below, bin-row, group-number-lt, sequence-number-lt, spot-2, spot-3}
+use Rattle.rows.proofs.spots.Statement.{statement}
+use Rattle.rows.proofs.spots.Tie as tie
 
 spots-requires : tie.Need-spots-requires
 spots-requires c κs = asks-0 (c .before .before .pre .0) _ (c .before .before .pre .1 .1) (c .before .before .args .table .now) (c .before .before .pre .1 .2) (c .if1 .taken)

@@ -1,9 +1,9 @@
--- `map::shift` meets its contract.
+-- `rows::shift` meets its contract.
 use native.Mathlib.Omega.{arith}
 use borrow.Author.Needs.{needs}
-use Rattle.map.proofs.Row.{shift-0, shift-1, shift-2, shift-3}
-use Rattle.map.proofs.shift.Statement.{statement}
-use Rattle.map.proofs.shift.Tie as tie
+use Rattle.rows.proofs.Row.{shift-0, shift-1, shift-2, shift-3}
+use Rattle.rows.proofs.shift.Statement.{statement}
+use Rattle.rows.proofs.shift.Tie as tie
 
 returns : tie.Need-returns
 returns c = (shift-0 _ _ (c .if1 .taken), omega arith)

@@ -1,10 +1,10 @@
--- `map::pilot_number` meets its contract.
+-- `rows::pilot_number` meets its contract.
 use Prim.Native.Nat.{_/_}
 use native.Mathlib.Nat.{mul-le-mul}
 use borrow.Author.Tests.{eq-eqb, ne-eqb}
 use native.Mathlib.Omega.{arith}
-use Rattle.map.proofs.pilot_number.Statement.{statement}
-use Rattle.map.proofs.pilot_number.Tie as tie
+use Rattle.rows.proofs.pilot_number.Statement.{statement}
+use Rattle.rows.proofs.pilot_number.Tie as tie
 
 mul-result : tie.Need-mul-result
 mul-result c = omega (arith, mul-le-mul {n₁ = c .before .before .args .j / 2} {m₁ = c .before .before .args .k .step} {n₂ = 32768} {m₂ = 16} (omega arith) (omega arith))

@@ -1,10 +1,10 @@
--- `map::carrier_row` meets its contract.
+-- `rows::carrier_row` meets its contract.
 use native.Mathlib.Omega.{arith}
 use borrow.Author.Needs.{needs}
 use Rattle.map.proofs.ByMode.{left-few, half-few}
-use Rattle.map.proofs.Row.{asks-1, row-1, spots-below, carriers-of}
-use Rattle.map.proofs.carrier_row.Statement.{statement}
-use Rattle.map.proofs.carrier_row.Tie as tie
+use Rattle.rows.proofs.Row.{asks-1, row-1, spots-below, carriers-of}
+use Rattle.rows.proofs.carrier_row.Statement.{statement}
+use Rattle.rows.proofs.carrier_row.Tie as tie
 
 carrier-row-requires : tie.Need-carrier-row-requires
 carrier-row-requires c κs = asks-1 (c .before .before .pre .0) _ (c .before .before .pre .1 .0) (c .before .before .args .table .now) (c .before .before .pre .1 .1) (c .if1 .taken)

@@ -20,12 +20,12 @@ use Rattle.carriers.specs.Bin.{usedOfData, binSpot}
 use Rattle.carriers.specs.Law.{DataSpot}
 use Rattle.carriers.specs.Model.{spotNumber, carrierNumber, carrierStep}
 use Rattle.carriers.proofs.Row.{step-carrier}
 use Rattle.map.specs.declared.Setup.{Setup}
 use Rattle.map.specs.Mode.{width, subchannels, symbols, band, isPilot, spotOf}
 use Rattle.map.specs.Valid.{Valid, pusc-dl, pusc-ul, ofusc, amc}
-use Rattle.map.specs.Model.{tableLength, tableEntry, TableOf, shiftOf}
+use Rattle.rows.specs.Model.{tableLength, tableEntry, TableOf, shiftOf}
 use Rattle.map.proofs.ByMode.{mode-0, mode-1, mode-2, mode-3, in-pusc-dl, in-pusc-ul, in-ofusc, in-amc, bin-width, symbols-range, used-few}
 use Rattle.map.proofs.Slot.{slot-law}
 use Rattle.pusc_dl.specs.Model as pusc-dl
 use Rattle.pusc_ul.specs.Model as pusc-ul
 use Rattle.ofusc.specs.Model as ofusc

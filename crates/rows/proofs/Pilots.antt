@@ -13,11 +13,11 @@ use Rattle.carriers.specs.Bin.{isBinPilot, binPilotPlace}
 use Rattle.pusc_dl.specs.Cluster.{isClusterPilot, firstPilot, secondPilot}
 use Rattle.pusc_ul.specs.Tile.{isTilePilot}
 use Rattle.ofusc.proofs.Sequence.{size}
 use Rattle.map.specs.declared.Setup.{Setup}
 use Rattle.map.specs.Mode.{width, band, isPilot}
 use Rattle.map.specs.Valid.{Valid, setupWith, pusc-dl, pusc-ul, ofusc, amc}
-use Rattle.map.specs.declared.Comb.{Comb}
-use Rattle.map.specs.Model.{combOf, pilotNumber}
+use Rattle.rows.specs.declared.Comb.{Comb}
+use Rattle.rows.specs.Model.{combOf, pilotNumber}
 
 -- each number of a comb is a pilot, and each pilot is a number of the comb
 pub record CombLaw (b : Comb) (used : ℕ) (is-pilot : ℕ → Bool) : Type 0 where

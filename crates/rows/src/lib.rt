@@ -1,0 +1,140 @@
+// Where a subchannel's points and a symbol's pilots stand, found fast: a table for the cell, then a row of 48 carriers, and the
+// pilots as combs. The map's own definitions say what they are.
+use map::Setup;
+ghost use mathlib.Core.Path.{_≡_};
+ghost use Prim.Native.Nat.{_<_};
+ghost use Rattle.base.specs.Model.{Turned};
+ghost use Rattle.carriers.specs.Model.{spotNumber, carrierNumber};
+ghost use Rattle.map.specs.Mode.{subchannels, band, spotOf};
+ghost use Rattle.map.specs.Valid.{Valid};
+ghost use Rattle.rows.specs.Model.{TableOf, shiftOf, combOf, tileComb, pilotNumber};
+
+// The pilots of a symbol: in each of `count` runs of `step` used numbers the places `first` and `second`.
+pub struct Comb {
+    pub first: usize,
+    pub second: usize,
+    pub step: usize,
+    pub count: usize,
+}
+
+// What the cell alone fixes of the places of a slot.
+pub fn table(setup: Setup) -> [u16; 188]
+    requires { ⌜ Valid setup ⌝ }
+    ensures { λ r. ⌜ TableOf setup r ⌝ }
+{
+    if setup.mode == 0 {
+        return pusc_dl::table(setup.cell);
+    }
+    if setup.mode == 1 {
+        return pusc_ul::table(setup.cell);
+    }
+    if setup.mode == 2 {
+        return ofusc::table(map::width(setup), setup.cell);
+    }
+    amc::table(setup.cell)
+}
+
+// The place in a subchannel's row at which index 0 stands; the others follow, going on at the row's start.
+pub fn shift(setup: Setup, subchannel: usize) -> usize
+    requires { ⌜ subchannel < 65536 ⌝ }
+    ensures { λ r. ⌜ (r ≡ shiftOf setup subchannel) × (r < 48) ⌝ }
+{
+    if setup.mode == 0 {
+        return 0;
+    }
+    if setup.mode == 1 {
+        return 13 * subchannel % 48;
+    }
+    if setup.mode == 2 {
+        return 23 * subchannel % 48;
+    }
+    setup.cell % 48
+}
+
+// Where the points of a subchannel lie in its slot, as numbers, index 0 at place `shift`; not in PUSC uplink.
+fn spots(setup: Setup, slot: usize, subchannel: usize, table: &[u16; 188]) -> [u16; 48]
+    requires { ⌜ Valid setup ⌝ }
+    requires { ⌜ (setup .mode ≡ 1 → ⊥) × (subchannel < subchannels setup) × TableOf setup (now table) ⌝ }
+    ensures { λ r. ⌜ Turned (shiftOf setup subchannel) (λ m. spotNumber (spotOf setup slot subchannel m)) r ⌝ }
+{
+    if setup.mode == 0 {
+        return pusc_dl::spots(setup.cell, subchannel, table);
+    }
+    if setup.mode == 2 {
+        return carriers::used_numbers(
+            slot,
+            ofusc::numbers(map::width(setup), setup.cell, subchannel, table),
+        );
+    }
+    carriers::used_numbers(slot, amc::numbers(setup.cell, subchannel, table))
+}
+
+// The carriers of a subchannel's points as numbers, 2048 for each symbol of the slot, index 0 at place `shift`.
+pub fn carrier_row(setup: Setup, slot: usize, subchannel: usize, table: &[u16; 188]) -> [u16; 48]
+    requires { ⌜ Valid setup ⌝ }
+    requires { ⌜ (subchannel < subchannels setup) × TableOf setup (now table) ⌝ }
+    ensures { λ r. ⌜ Turned (shiftOf setup subchannel) (λ m. carrierNumber (band setup) (spotOf setup slot subchannel m)) r ⌝ }
+{
+    if setup.mode == 1 {
+        return pusc_ul::carrier_row(setup.cell, subchannel, table);
+    }
+    let row = spots(setup, slot, subchannel, table);
+    carriers::carrier_row(map::band(setup), row)
+}
+
+// The pilots of a symbol of the zone.
+pub fn pilot_comb(setup: Setup, symbol: usize) -> Comb
+    requires { ⌜ Valid setup ⌝ }
+    ensures { λ r. ⌜ r ≡ combOf setup symbol ⌝ }
+{
+    if setup.mode == 0 {
+        let p = pusc_dl::pilots(symbol);
+        return Comb {
+            first: p.first,
+            second: p.second,
+            step: 14,
+            count: 120,
+        };
+    }
+    if setup.mode == 1 {
+        return tile_comb(symbol);
+    }
+    let place = carriers::bin_pilot_place(symbol);
+    Comb {
+        first: place,
+        second: place,
+        step: 9,
+        count: 6 * map::width(setup),
+    }
+}
+
+// The corners of the tiles; the middle symbol of a slot has none.
+fn tile_comb(symbol: usize) -> Comb
+    ensures { λ r. ⌜ r ≡ tileComb symbol ⌝ }
+{
+    if symbol % 3 == 1 {
+        return Comb {
+            first: 0,
+            second: 3,
+            step: 4,
+            count: 0,
+        };
+    }
+    Comb {
+        first: 0,
+        second: 3,
+        step: 4,
+        count: 420,
+    }
+}
+
+// The used number of a comb's pilot j.
+pub fn pilot_number(k: Comb, j: usize) -> usize
+    requires { ⌜ (k .first < 16) × (k .second < 16) × (k .step < 16) × (j < 65536) ⌝ }
+    ensures { λ r. ⌜ r ≡ pilotNumber k j ⌝ }
+{
+    if j % 2 == 0 {
+        return j / 2 * k.step + k.first;
+    }
+    j / 2 * k.step + k.second
+}
