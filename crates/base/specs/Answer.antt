@@ -7,11 +7,11 @@ pub data Answer (A : Type 0) : Type 0 where
   refused : ℕ → Answer A
 
 -- Document 01, "The questions put to a request, in order": a no gives the number. A chain of `ask` has its questions in the order of its lines.
-abbrev pub ask : {A : Type 0} → Bool → ℕ → Answer A → Answer A
+abbrev pub ask : {A : Type 0} (ok : Bool) (number : ℕ) (rest : Answer A) → Answer A
 ask true number rest = rest
 ask false number rest = refused number
 
 -- Document 01's number of an answer, 0 where the request is accepted.
-abbrev pub refusalOf : {A : Type 0} → Answer A → ℕ
+abbrev pub refusalOf : {A : Type 0} (answer : Answer A) → ℕ
 refusalOf (accepted a) = 0
 refusalOf (refused k) = k

@@ -5,20 +5,22 @@ use lib.ListN.{getD}
 use Prim.Native.Nat.{ℕ, _+_, _-_, _%_}
 use Rattle.base.specs.Choice.{pick}
 
--- x moved on by c, modulo n, as `(k+13s) mod 24`; and moved back
-abbrev pub rotate : ℕ → ℕ → ℕ → ℕ
-rotate n c x = (x + c) % n
+-- x moved on, modulo n, as `(k+13s) mod 24`
+abbrev pub rotate : (n by x : ℕ) → ℕ
+rotate n by x = (x + by) % n
 
-abbrev pub unrotate : ℕ → ℕ → ℕ → ℕ
-unrotate n c y = (y + (n - c % n)) % n
+-- The reverse: y moved back.
+abbrev pub unrotate : (n by y : ℕ) → ℕ
+unrotate n by y = (y + (n - by % n)) % n
 
 -- the entry of a constant table
-abbrev pub entry : List ℕ → ℕ → ℕ
+abbrev pub entry : (table : List ℕ) (i : ℕ) → ℕ
 entry table i = getD table i 0
 
--- counting that leaves the place p out: r, and one more where r is p or above; and the count of a place other than p
-unfoldable pub skip : ℕ → ℕ → ℕ
+-- counting that leaves the place p out: r, and one more where r is p or above
+unfoldable pub skip : (p r : ℕ) → ℕ
 skip p r = r + pick (leb p r) 1 0
 
-unfoldable pub unskip : ℕ → ℕ → ℕ
+-- The reverse: the count of a place other than p.
+unfoldable pub unskip : (p place : ℕ) → ℕ
 unskip p place = place - pick (ltb p place) 1 0

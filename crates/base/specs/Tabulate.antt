@@ -3,6 +3,6 @@ use mathlib.Core.List.{List, [], _∷_}
 use Prim.Native.Nat.{ℕ, zero, suc}
 
 -- the values at 0, 1, .., n-1
-unfoldable pub tabulate : {A : Type 0} → ℕ → (ℕ → A) → List A
+unfoldable pub tabulate : {A : Type 0} (n : ℕ) (f : ℕ → A) → List A
 tabulate zero f = []
 tabulate (suc n) f = f 0 ∷ tabulate n (λ k. f (suc k))

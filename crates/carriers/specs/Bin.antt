@@ -5,20 +5,20 @@ use lib.Dec.{eqb}
 use Rattle.base.specs.Steps.{skip, unskip}
 use Rattle.carriers.specs.declared.Spot.{Spot}
 
-unfoldable pub binPilotPlace : ℕ → ℕ
-binPilotPlace y = 3 * (y % 3) + 1
+unfoldable pub binPilotPlace : (symbol : ℕ) → ℕ
+binPilotPlace symbol = 3 * (symbol % 3) + 1
 
-unfoldable pub isBinPilot : ℕ → ℕ → Bool
-isBinPilot y u = eqb (u % 9) (binPilotPlace y)
+unfoldable pub isBinPilot : (symbol used : ℕ) → Bool
+isBinPilot symbol used = eqb (used % 9) (binPilotPlace symbol)
 
--- the used number of data number d in symbol y
-unfoldable pub usedOfData : ℕ → ℕ → ℕ
-usedOfData y d = d / 8 * 9 + skip (binPilotPlace y) (d % 8)
+-- the used number of data number d
+unfoldable pub usedOfData : (symbol d : ℕ) → ℕ
+usedOfData symbol d = d / 8 * 9 + skip (binPilotPlace symbol) (d % 8)
 
--- the data number of a used number that is no pilot
-unfoldable pub dataOfUsed : ℕ → ℕ → ℕ
-dataOfUsed y u = u / 9 * 8 + unskip (binPilotPlace y) (u % 9)
+-- The reverse: the data number of a used number that is no pilot.
+unfoldable pub dataOfUsed : (symbol used : ℕ) → ℕ
+dataOfUsed symbol used = used / 9 * 8 + unskip (binPilotPlace symbol) (used % 9)
 
--- where data number d lies in a slot of one symbol, symbol y of the zone
-abbrev pub binSpot : ℕ → ℕ → Spot
-binSpot y d = record { offset = 0; used = usedOfData y d }
+-- where data number d lies in a slot of one symbol
+abbrev pub binSpot : (symbol d : ℕ) → Spot
+binSpot symbol d = record { offset = 0; used = usedOfData symbol d }

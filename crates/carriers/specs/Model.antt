@@ -6,12 +6,12 @@ use Rattle.carriers.specs.declared.Band.{Band}
 use Rattle.carriers.specs.declared.Spot.{Spot}
 use Rattle.carriers.specs.Band.{carrierOf}
 
-abbrev pub spotNumber : Spot → ℕ
+abbrev pub spotNumber : (x : Spot) → ℕ
 spotNumber x = x .offset * 2048 + x .used
 
-abbrev pub carrierNumber : Band → Spot → ℕ
+abbrev pub carrierNumber : (b : Band) (x : Spot) → ℕ
 carrierNumber b x = x .offset * 2048 + carrierOf b (x .used)
 
 -- from the one to the other by sums of steps
-unfoldable pub carrierStep : Band → ℕ → ℕ
+unfoldable pub carrierStep : (b : Band) (x : ℕ) → ℕ
 carrierStep b x = x + b .left + pick (leb (b .half) (x % 2048)) 1 0

@@ -121,7 +121,9 @@ module _ (c : Setup) where
   size-most h =
       cases (ltb (c .mode) 2)
       (λ e. omega (arith, eqb-true (c .size) 2048 (rw e at h)))
-      (λ e. most (four-sizes (c .size) (rw e at h)))
+      (λ e. cases (ltb (c .mode) 4)
+      (λ f. most (four-sizes (c .size) (rw (e, f) at h)))
+      (λ f. absurd (let z : false ≡ true = rw (e, f) at h in let w : _≡_ {A = ℕ} 0 1 = cc in omega arith)))
     where
       most : {z : ℕ} → Sized z → z ≤ 2048
       most (sized w) = omega (arith, size w .most)

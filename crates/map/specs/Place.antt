@@ -19,11 +19,11 @@ pub record Place : Type 0 where
   pub carrier : ℕ
 
 -- Document 01, "Modes and their ranges": a symbol's number in its zone is slot times slot length plus the offset in the slot.
-unfoldable pub placeAt : Setup → ℕ → Spot → Place
+unfoldable pub placeAt : (setup : Setup) (slot : ℕ) (spot : Spot) → Place
 placeAt setup slot spot = record { symbol = slot * symbols setup + spot .offset; carrier = carrierOf (band setup) (spot .used) }
 
 -- Document 01, "Grids": placing takes mode, size, cell, slot, subchannel and index and gives the zone's symbol and the carrier. Questions 1, 2, 3, 4, 5, 6.
-unfoldable pub placeOf : Setup → ℕ → ℕ → ℕ → Answer Place
+unfoldable pub placeOf : (setup : Setup) (slot subchannel index : ℕ) → Answer Place
 placeOf setup slot subchannel index =
     askSetup setup
     (ask (isSlot slot) 4
@@ -32,7 +32,7 @@ placeOf setup slot subchannel index =
     (accepted (placeAt setup slot (spotOf setup slot subchannel index))))))
 
 -- What an answer of `place` says: document 01's values, or its number.
-abbrev pub placed : Placed → Answer Place
+abbrev pub placed : (answer : Placed) → Answer Place
 placed (At y k) = accepted (record { symbol = y; carrier = k })
 placed (Refused number) = refused number
 
@@ -41,21 +41,21 @@ pub data Content : Type 0 where
   guard dc pilot : Content
   point : (slot subchannel index : ℕ) → Content
 
--- the point whose address in its slot is a, in symbol y of the zone
-unfoldable pub pointAt : Setup → ℕ → Address → Content
-pointAt setup y a = point (y / symbols setup) (a .subchannel) (a .index)
+-- The reverse: the point whose address in its slot is known, in a symbol of the zone.
+unfoldable pub pointAt : (setup : Setup) (symbol : ℕ) (address : Address) → Content
+pointAt setup symbol address = point (symbol / symbols setup) (address .subchannel) (address .index)
 
--- guard and DC by the carrier, pilot by its used number in symbol y of the zone; else the point that lies there
-unfoldable pub contentOf : Setup → ℕ → ℕ → Content
-contentOf setup y carrier =
-    let u = usedOf (band setup) carrier in
+-- guard and DC by the carrier, pilot by its used number in the symbol; else the point that lies there
+unfoldable pub contentOf : (setup : Setup) (symbol carrier : ℕ) → Content
+contentOf setup symbol carrier =
+    let used = usedOf (band setup) carrier in
     pick (isGuard (band setup) (setup .size) carrier) guard
     (pick (isDc (band setup) carrier) dc
-    (pick (isPilot setup y u) pilot
-    (pointAt setup y (addressOf setup y u))))
+    (pick (isPilot setup symbol used) pilot
+    (pointAt setup symbol (addressOf setup symbol used))))
 
 -- Document 01, "Grids": its reverse takes mode, size, cell, the zone's symbol and a carrier and gives guard, DC, pilot or the data address (slot, subchannel, index). Questions 1, 2, 3, 4, 7.
-unfoldable pub locateOf : Setup → ℕ → ℕ → Answer Content
+unfoldable pub locateOf : (setup : Setup) (symbol carrier : ℕ) → Answer Content
 locateOf setup symbol carrier =
     askSetup setup
     (ask (isSymbol setup symbol) 4
@@ -63,7 +63,7 @@ locateOf setup symbol carrier =
     (accepted (contentOf setup symbol carrier))))
 
 -- What an answer of `locate` says.
-abbrev pub located : Located → Answer Content
+abbrev pub located : (answer : Located) → Answer Content
 located Guard = accepted guard
 located Dc = accepted dc
 located Pilot = accepted pilot

@@ -1,5 +1,5 @@
 -- Document 01, "The questions put to a request, in order": 1 to 7, each a test.
-use mathlib.Core.Bool.{Bool, true}
+use mathlib.Core.Bool.{Bool, true, false}
 use Prim.Native.Nat.{ℕ, _*_}
 use lib.Dec.{eqb, ltb}
 use Rattle.base.specs.Choice.{pick}
@@ -8,41 +8,41 @@ use Rattle.map.specs.declared.Setup.{Setup}
 use Rattle.map.specs.Mode.{cells, subchannels, symbols}
 
 -- 1 Is the mode listed?
-unfoldable pub isMode : Setup → Bool
+unfoldable pub isMode : (setup : Setup) → Bool
 isMode setup = ltb (setup .mode) 4
 
 -- 2 Is the size that mode's? Modes 0 and 1 have 2048, modes 2 and 3 the four sizes.
-unfoldable pub isFourSizes : ℕ → Bool
+unfoldable pub isFourSizes : (size : ℕ) → Bool
 isFourSizes size = pick (eqb size 256) true (pick (eqb size 512) true (pick (eqb size 1024) true (eqb size 2048)))
 
-unfoldable pub isSize : Setup → Bool
-isSize setup = pick (ltb (setup .mode) 2) (eqb (setup .size) 2048) (isFourSizes (setup .size))
+unfoldable pub isSize : (setup : Setup) → Bool
+isSize setup = pick (ltb (setup .mode) 2) (eqb (setup .size) 2048) (pick (ltb (setup .mode) 4) (isFourSizes (setup .size)) false)
 
 -- 3 Is the cell in range?
-unfoldable pub isCell : Setup → Bool
+unfoldable pub isCell : (setup : Setup) → Bool
 isCell setup = ltb (setup .cell) (cells setup)
 
 -- 4 Is the slot below 512, the zone's symbol below 512 times the slot length?
-unfoldable pub isSlot : ℕ → Bool
+unfoldable pub isSlot : (slot : ℕ) → Bool
 isSlot slot = ltb slot 512
 
-unfoldable pub isSymbol : Setup → ℕ → Bool
+unfoldable pub isSymbol : (setup : Setup) (symbol : ℕ) → Bool
 isSymbol setup symbol = ltb symbol (512 * symbols setup)
 
 -- 5 Is the subchannel in range?
-unfoldable pub isSubchannel : Setup → ℕ → Bool
+unfoldable pub isSubchannel : (setup : Setup) (subchannel : ℕ) → Bool
 isSubchannel setup subchannel = ltb subchannel (subchannels setup)
 
 -- 6 Is the index below 48?
-unfoldable pub isIndex : ℕ → Bool
+unfoldable pub isIndex : (index : ℕ) → Bool
 isIndex index = ltb index 48
 
 -- 7 Is the carrier below the size?
-unfoldable pub isCarrier : Setup → ℕ → Bool
+unfoldable pub isCarrier : (setup : Setup) (carrier : ℕ) → Bool
 isCarrier setup carrier = ltb carrier (setup .size)
 
 -- the questions that every call with mode, size and cell puts first
-abbrev pub askSetup : {A : Type 0} → Setup → Answer A → Answer A
+abbrev pub askSetup : {A : Type 0} (setup : Setup) (rest : Answer A) → Answer A
 askSetup setup rest =
     ask (isMode setup) 1
     (ask (isSize setup) 2

@@ -3,7 +3,7 @@ use Prim.Native.Nat.{ℕ, _*_, _<_}
 use Rattle.ofusc.specs.Width.{Width}
 use Rattle.map.specs.declared.Setup.{Setup}
 
-abbrev pub setupWith : ℕ → ℕ → ℕ → Setup
+abbrev pub setupWith : (mode size cell : ℕ) → Setup
 setupWith m z k = record { mode = m; size = z; cell = k }
 
 pub data Valid : Setup → Type 0 where

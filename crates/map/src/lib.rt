@@ -47,7 +47,7 @@ pub fn width(setup: Setup) -> usize
 }
 
 fn cells(setup: Setup) -> usize
-    requires { ⌜ setup .size ≤ 2048 ⌝ }
+    requires { ⌜ (setup .mode < 4) × (setup .size ≤ 2048) ⌝ }
     ensures { λ r. ⌜ r ≡ Cells setup ⌝ }
 {
     if setup.mode == 0 {
@@ -71,7 +71,10 @@ pub fn subchannels(setup: Setup) -> usize
     if setup.mode == 1 {
         return 70;
     }
-    width(setup)
+    if setup.mode < 4 {
+        return width(setup);
+    }
+    0
 }
 
 // Symbols a slot.
@@ -84,11 +87,15 @@ pub fn symbols(setup: Setup) -> usize
     if setup.mode == 1 {
         return 3;
     }
-    1
+    if setup.mode < 4 {
+        return 1;
+    }
+    0
 }
 
 // The slot of a zone's symbol, by a constant in each mode.
 fn slot_of(setup: Setup, symbol: usize) -> usize
+    requires { ⌜ Valid setup ⌝ }
     ensures { λ r. ⌜ r ≡ symbol / Symbols setup ⌝ }
 {
     if setup.mode == 0 {
@@ -102,6 +109,7 @@ fn slot_of(setup: Setup, symbol: usize) -> usize
 
 // Its offset in that slot.
 pub fn offset_of(setup: Setup, symbol: usize) -> usize
+    requires { ⌜ Valid setup ⌝ }
     ensures { λ r. ⌜ r ≡ symbol % Symbols setup ⌝ }
 {
     if setup.mode == 0 {
@@ -146,10 +154,12 @@ fn is_size(setup: Setup) -> bool
     ensures { λ r. ⌜ r ≡ isSize setup ⌝ }
 {
     if setup.mode < 2 {
-        setup.size == 2048
-    } else {
-        is_four_sizes(setup.size)
+        return setup.size == 2048;
     }
+    if setup.mode < 4 {
+        return is_four_sizes(setup.size);
+    }
+    false
 }
 
 // The number of the first of questions 1, 2 and 3 that is answered no, or 0.
@@ -201,6 +211,7 @@ fn spot(setup: Setup, slot: usize, subchannel: usize, index: usize) -> Spot
 }
 
 fn is_pilot(setup: Setup, symbol: usize, used: usize) -> bool
+    requires { ⌜ Valid setup ⌝ }
     ensures { λ r. ⌜ r ≡ isPilot setup symbol used ⌝ }
 {
     if setup.mode == 0 {

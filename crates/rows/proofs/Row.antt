@@ -1,7 +1,7 @@
 -- A subchannel's row of spots, from the table and the rows of its mode.
 use mathlib.Core.Path.{_≡_, sym, ap, ap₂, _∙_}
 use mathlib.Core.List.{List}
-use Prim.Native.Nat.{ℕ, _+_, _*_, _%_, _<_}
+use Prim.Native.Nat.{ℕ, _+_, _*_, _%_, _<_, _≤_}
 use lib.Arith.{digits-lt}
 use lib.Dec.{lit<, eqb}
 use Rattle.base.proofs.Test.{cases}
@@ -24,7 +24,7 @@ use Rattle.map.specs.declared.Setup.{Setup}
 use Rattle.map.specs.Mode.{width, subchannels, symbols, band, isPilot, spotOf}
 use Rattle.map.specs.Valid.{Valid, pusc-dl, pusc-ul, ofusc, amc}
 use Rattle.rows.specs.Model.{tableLength, tableEntry, TableOf, shiftOf}
-use Rattle.map.proofs.ByMode.{mode-0, mode-1, mode-2, mode-3, in-pusc-dl, in-pusc-ul, in-ofusc, in-amc, bin-width, symbols-range, used-few}
+use Rattle.map.proofs.ByMode.{mode-0, mode-1, mode-2, mode-3, mode-other, in-pusc-dl, in-pusc-ul, in-ofusc, in-amc, bin-width, symbols-range, used-few}
 use Rattle.map.proofs.Slot.{slot-law}
 use Rattle.pusc_dl.specs.Model as pusc-dl
 use Rattle.pusc_ul.specs.Model as pusc-ul
@@ -41,19 +41,19 @@ pub record TableAs (c : Setup) (n : ℕ) (f : ℕ → ℕ) : Type 0 where
 module _ {c : Setup} where
   pub as-0 : c .mode ≡ 0 → TableAs c 188 (pusc-dl.tableEntry (c .cell))
   unfolding tableLength tableEntry
-  as-0 e = record { length-is = mode-0 _ _ _ _ _ e; entry-is = λ i. mode-0 _ _ _ _ _ e }
+  as-0 e = record { length-is = mode-0 _ _ _ _ _ _ e; entry-is = λ i. mode-0 _ _ _ _ _ _ e }
 
   pub as-1 : c .mode ≡ 1 → TableAs c 76 (pusc-ul.tableEntry (c .cell))
   unfolding tableLength tableEntry
-  as-1 e = record { length-is = mode-1 _ _ _ _ _ e; entry-is = λ i. mode-1 _ _ _ _ _ e }
+  as-1 e = record { length-is = mode-1 _ _ _ _ _ _ e; entry-is = λ i. mode-1 _ _ _ _ _ _ e }
 
   pub as-2 : c .mode ≡ 2 → TableAs c 48 (ofusc.cellNumber (width c) (c .cell))
   unfolding tableLength tableEntry
-  as-2 e = record { length-is = mode-2 _ _ _ _ _ e; entry-is = λ i. mode-2 _ _ _ _ _ e }
+  as-2 e = record { length-is = mode-2 _ _ _ _ _ _ e; entry-is = λ i. mode-2 _ _ _ _ _ _ e }
 
-  pub as-3 : (c .mode ≡ 0 → ⊥) → (c .mode ≡ 1 → ⊥) → (c .mode ≡ 2 → ⊥) → TableAs c 48 (amc.sequencePlace (c .cell))
+  pub as-3 : c .mode ≡ 3 → TableAs c 48 (amc.sequencePlace (c .cell))
   unfolding tableLength tableEntry
-  as-3 n₀ n₁ n₂ = record { length-is = mode-3 _ _ _ _ _ n₀ n₁ n₂; entry-is = λ i. mode-3 _ _ _ _ _ n₀ n₁ n₂ }
+  as-3 e = record { length-is = mode-3 _ _ _ _ _ _ e; entry-is = λ i. mode-3 _ _ _ _ _ _ e }
 
   pub to-table : {n : ℕ} {f : ℕ → ℕ} (table : List ℕ) → TableAs c n f → Starts n f table → TableOf c table
   to-table table a s = starts-as table s (a .length-is) (a .entry-is)
@@ -85,10 +85,10 @@ module _ {c : Setup} (v : Valid c) (s : ℕ) (hs : s < subchannels c) (table : L
       let r = in-ofusc v e in
       (rw q (bin-width v (λ z. omega arith) (λ z. omega arith)), rw q (rw (r .subchannels-are) at hs), rw q (from-table table (as-2 e) t))
 
-  pub asks-3 : (c .mode ≡ 0 → ⊥) → (c .mode ≡ 1 → ⊥) → (c .mode ≡ 2 → ⊥) → ((c .cell < 2352) × (s < 32)) × Starts 48 (amc.sequencePlace (c .cell)) table
-  asks-3 n₀ n₁ n₂ =
-      let r = in-amc v n₀ n₁ n₂ in
-      ((r .cell-lt, omega (arith, r .subchannels-are, size (bin-width v n₀ n₁) .most)), from-table table (as-3 n₀ n₁ n₂) t)
+  pub asks-3 : c .mode ≡ 3 → ((c .cell < 2352) × (s < 32)) × Starts 48 (amc.sequencePlace (c .cell)) table
+  asks-3 e =
+      let r = in-amc v e in
+      ((r .cell-lt, omega (arith, r .subchannels-are, size (bin-width v (λ z. omega arith) (λ z. omega arith)) .most)), from-table table (as-3 e) t)
 
 module _ (c : Setup) (slot s : ℕ) where
   shift-none : (m : ℕ) → m < 48 → shiftOf c s ≡ 0 → (m + shiftOf c s) % 48 ≡ m
@@ -99,27 +99,27 @@ module _ (c : Setup) (slot s : ℕ) where
   unfolding spotOf shiftOf
   row-0 q row e =
       turned-row (shiftOf c s) _ (λ m. spotNumber (pusc-dl-map.spotOf (c .cell) s m)) row e
-      (λ m h. ap (λ (k : ℕ). spotNumber (pusc-dl-map.spotOf (c .cell) s k)) (shift-none m h (sym (mode-0 _ _ _ _ _ q))) ∙ ap spotNumber (mode-0 _ _ _ _ _ q))
+      (λ m h. ap (λ (k : ℕ). spotNumber (pusc-dl-map.spotOf (c .cell) s k)) (shift-none m h (sym (mode-0 _ _ _ _ _ _ q))) ∙ ap spotNumber (mode-0 _ _ _ _ _ _ q))
 
   pub row-1 : c .mode ≡ 1 → (row : List ℕ) → row ≡ tabulate 48 (pusc-ul.placeNumber (c .cell) s)
       → Turned (shiftOf c s) (λ m. carrierNumber (band c) (spotOf c slot s m)) row
   unfolding spotOf shiftOf band
   row-1 q row e =
       turned-row (shiftOf c s) _ (pusc-ul.placeNumber (c .cell) s) row e
-      (λ m h. ap (λ (by : ℕ). pusc-ul.placeNumber (c .cell) s ((m + by) % 48)) (sym (mode-1 _ _ _ _ _ q))
-      ∙ number-on-place (c .cell) s m ∙ ap₂ carrierNumber (mode-1 _ _ _ _ _ q) (mode-1 _ _ _ _ _ q))
+      (λ m h. ap (λ (by : ℕ). pusc-ul.placeNumber (c .cell) s ((m + by) % 48)) (sym (mode-1 _ _ _ _ _ _ q))
+      ∙ number-on-place (c .cell) s m ∙ ap₂ carrierNumber (mode-1 _ _ _ _ _ _ q) (mode-1 _ _ _ _ _ _ q))
 
   pub spot-2 : c .mode ≡ 2 → (m : ℕ) → m < 48 → binSpot slot (ofusc.groupNumber (width c) (c .cell) s ((m + shiftOf c s) % 48)) ≡ spotOf c slot s m
   unfolding spotOf shiftOf
   spot-2 q m h =
-      ap (λ (by : ℕ). binSpot slot (ofusc.groupNumber (width c) (c .cell) s ((m + by) % 48))) (sym (mode-2 _ _ _ _ _ q))
-      ∙ ap (binSpot slot) (number-in-group (width c) (c .cell) s m) ∙ mode-2 _ _ _ _ _ q
+      ap (λ (by : ℕ). binSpot slot (ofusc.groupNumber (width c) (c .cell) s ((m + by) % 48))) (sym (mode-2 _ _ _ _ _ _ q))
+      ∙ ap (binSpot slot) (number-in-group (width c) (c .cell) s m) ∙ mode-2 _ _ _ _ _ _ q
 
-  pub spot-3 : (c .mode ≡ 0 → ⊥) → (c .mode ≡ 1 → ⊥) → (c .mode ≡ 2 → ⊥) → (m : ℕ) → m < 48 → binSpot slot (amc.sequenceNumber (c .cell) s ((m + shiftOf c s) % 48)) ≡ spotOf c slot s m
+  pub spot-3 : c .mode ≡ 3 → (m : ℕ) → m < 48 → binSpot slot (amc.sequenceNumber (c .cell) s ((m + shiftOf c s) % 48)) ≡ spotOf c slot s m
   unfolding spotOf shiftOf
-  spot-3 n₀ n₁ n₂ m h =
-      ap (λ (by : ℕ). binSpot slot (amc.sequenceNumber (c .cell) s ((m + by) % 48))) (sym (mode-3 _ _ _ _ _ n₀ n₁ n₂))
-      ∙ ap (binSpot slot) (number-at (c .cell) s m) ∙ mode-3 _ _ _ _ _ n₀ n₁ n₂
+  spot-3 e m h =
+      ap (λ (by : ℕ). binSpot slot (amc.sequenceNumber (c .cell) s ((m + by) % 48))) (sym (mode-3 _ _ _ _ _ _ e))
+      ∙ ap (binSpot slot) (number-at (c .cell) s m) ∙ mode-3 _ _ _ _ _ _ e
 
 pub group-number-lt : {n : ℕ} → Width n → (cell s k : ℕ) → s < n → k < 48 → ofusc.groupNumber n cell s k < 2048
 unfolding ofusc.groupNumber
@@ -132,7 +132,11 @@ sequence-number-lt cell s i hc hs hi = omega (arith, sequence-place-lt cell i hc
 -- the shift is below 48
 pub shift-lt : (c : Setup) (s : ℕ) → shiftOf c s < 48
 unfolding shiftOf
-shift-lt c s = cases (eqb (c .mode) 0) (λ e. rw e (lit< tt)) (λ e. rw e (cases (eqb (c .mode) 1) (λ e₁. rw e₁ (omega arith)) (λ e₁. rw e₁ (cases (eqb (c .mode) 2) (λ e₂. rw e₂ (omega arith)) (λ e₂. rw e₂ (omega arith))))))
+shift-lt c s =
+    cases (eqb (c .mode) 0) (λ e. rw e (lit< tt))
+    (λ e. rw e (cases (eqb (c .mode) 1) (λ e₁. rw e₁ (omega arith))
+    (λ e₁. rw e₁ (cases (eqb (c .mode) 2) (λ e₂. rw e₂ (omega arith))
+    (λ e₂. rw e₂ (cases (eqb (c .mode) 3) (λ e₃. rw e₃ (omega arith)) (λ e₃. rw e₃ (lit< tt))))))))
 
 -- a subchannel's spots are small, so that a row of them becomes a row of carriers
 module _ {c : Setup} (v : Valid c) (slot s : ℕ) (hs : s < subchannels c) (row : List ℕ) (t : Turned (shiftOf c s) (λ m. spotNumber (spotOf c slot s m)) row) where
@@ -153,19 +157,23 @@ module _ {c : Setup} (v : Valid c) (slot s : ℕ) (hs : s < subchannels c) (row 
 module _ (c : Setup) (s : ℕ) where
   pub shift-0 : c .mode ≡ 0 → 0 ≡ shiftOf c s
   unfolding shiftOf
-  shift-0 q = mode-0 _ _ _ _ _ q
+  shift-0 q = mode-0 _ _ _ _ _ _ q
 
   pub shift-1 : c .mode ≡ 1 → 13 * s % 48 ≡ shiftOf c s
   unfolding shiftOf
-  shift-1 q = mode-1 _ _ _ _ _ q
+  shift-1 q = mode-1 _ _ _ _ _ _ q
 
   pub shift-2 : c .mode ≡ 2 → 23 * s % 48 ≡ shiftOf c s
   unfolding shiftOf
-  shift-2 q = mode-2 _ _ _ _ _ q
+  shift-2 q = mode-2 _ _ _ _ _ _ q
 
-  pub shift-3 : (c .mode ≡ 0 → ⊥) → (c .mode ≡ 1 → ⊥) → (c .mode ≡ 2 → ⊥) → c .cell % 48 ≡ shiftOf c s
+  pub shift-3 : c .mode ≡ 3 → c .cell % 48 ≡ shiftOf c s
   unfolding shiftOf
-  shift-3 n₀ n₁ n₂ = mode-3 _ _ _ _ _ n₀ n₁ n₂
+  shift-3 e = mode-3 _ _ _ _ _ _ e
+
+  pub shift-other : (c .mode ≡ 0 → ⊥) → (c .mode ≡ 1 → ⊥) → (c .mode ≡ 2 → ⊥) → (c .mode ≡ 3 → ⊥) → 0 ≡ shiftOf c s
+  unfolding shiftOf
+  shift-other n₀ n₁ n₂ n₃ = let h : 4 ≤ c .mode = omega arith in mode-other _ _ _ _ _ _ h
 
 -- a row starts at the same number in the grid as in the numbers of spots: either the size is 2048 or there is one row
 pub row-start : {c : Setup} → Valid c → (row : ℕ) → row < symbols c → row * c .size ≡ row * 2048

@@ -15,37 +15,43 @@ use Rattle.ofusc.specs.Model as ofusc
 use Rattle.amc.specs.Model as amc
 
 -- what the cell alone fixes, in the table of its mode: how many entries, and entry i
-unfoldable pub tableLength : Setup → ℕ
-tableLength setup = byMode (setup .mode) 188 76 48 48
+unfoldable pub tableLength : (setup : Setup) → ℕ
+tableLength setup = byMode (setup .mode) 188 76 48 48 0
 
-unfoldable pub tableEntry : Setup → ℕ → ℕ
+unfoldable pub tableEntry : (setup : Setup) (i : ℕ) → ℕ
 tableEntry setup i =
     byMode (setup .mode)
     (pusc-dl.tableEntry (setup .cell) i)
     (pusc-ul.tableEntry (setup .cell) i)
     (ofusc.cellNumber (width setup) (setup .cell) i)
     (amc.sequencePlace (setup .cell) i)
+    0
 
-abbrev pub TableOf : Setup → List ℕ → Type 0
+abbrev pub TableOf : (setup : Setup) (table : List ℕ) → Type 0
 TableOf setup table = Starts (tableLength setup) (tableEntry setup) table
 
 -- how far a subchannel's row is shifted round: by data place in PUSC uplink, by group in optional FUSC, by the places of P in AMC
-unfoldable pub shiftOf : Setup → ℕ → ℕ
-shiftOf setup s = byMode (setup .mode) 0 (13 * s % 48) (23 * s % 48) (setup .cell % 48)
+unfoldable pub shiftOf : (setup : Setup) (s : ℕ) → ℕ
+shiftOf setup s = byMode (setup .mode) 0 (13 * s % 48) (23 * s % 48) (setup .cell % 48) 0
 
 -- the corners of the tiles; the middle symbol of a slot has none
-abbrev pub tileComb : ℕ → Comb
+abbrev pub tileComb : (y : ℕ) → Comb
 tileComb y = record { first = 0; second = 3; step = 4; count = pick (eqb (y % 3) 1) 0 420 }
 
+-- one pilot a bin
+abbrev pub binComb : (setup : Setup) (y : ℕ) → Comb
+binComb setup y = record { first = binPilotPlace y; second = binPilotPlace y; step = 9; count = 6 * width setup }
+
 -- the pilots of symbol y of the zone: in each of `count` runs of `step` used numbers the places `first` and `second`
-unfoldable pub combOf : Setup → ℕ → Comb
+unfoldable pub combOf : (setup : Setup) (y : ℕ) → Comb
 combOf setup y =
     byMode (setup .mode)
     (record { first = firstPilot y; second = secondPilot y; step = 14; count = 120 })
     (tileComb y)
-    (record { first = binPilotPlace y; second = binPilotPlace y; step = 9; count = 6 * width setup })
-    (record { first = binPilotPlace y; second = binPilotPlace y; step = 9; count = 6 * width setup })
+    (binComb setup y)
+    (binComb setup y)
+    (record { first = 0; second = 0; step = 0; count = 0 })
 
 -- the used number of a comb's pilot j, two a run
-abbrev pub pilotNumber : Comb → ℕ → ℕ
+abbrev pub pilotNumber : (b : Comb) (j : ℕ) → ℕ
 pilotNumber b j = j / 2 * b .step + pick (eqb (j % 2) 0) (b .first) (b .second)

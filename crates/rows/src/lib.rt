@@ -48,7 +48,10 @@ pub fn shift(setup: Setup, subchannel: usize) -> usize
     if setup.mode == 2 {
         return 23 * subchannel % 48;
     }
-    setup.cell % 48
+    if setup.mode == 3 {
+        return setup.cell % 48;
+    }
+    0
 }
 
 // Where the points of a subchannel lie in its slot, as numbers, index 0 at place `shift`; not in PUSC uplink.

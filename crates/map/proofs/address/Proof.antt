@@ -1,6 +1,6 @@
 -- `map::address` meets its contract.
 use native.Mathlib.Omega.{arith}
-use Rattle.map.proofs.ByMode.{pusc-dl-asks, pusc-ul-asks, ofusc-back-asks, in-amc, used-few, mode-0, mode-1, mode-2, mode-3}
+use Rattle.map.proofs.ByMode.{pusc-dl-asks, pusc-ul-asks, ofusc-back-asks, in-amc, used-few, mode-0, mode-1, mode-2, mode-3, amc-mode}
 use Rattle.map.specs.Mode.{addressOf}
 use borrow.Author.Needs.{needs}
 use Rattle.map.proofs.address.Statement.{statement}
@@ -34,11 +34,11 @@ unfolding addressOf
 returns-3 c = rw (c .address3 .ensures, c .before .width .ensures, c .before .before .before .before .data-of-used .ensures) (search (mode-2, needs))
 
 address-requires-4 : tie.Need-address-requires-4
-address-requires-4 c κs = in-amc (c .before .before .before .before .before .before .before .pre .0) (c .before .before .before .before .before .if1 .left) (c .before .before .before .if2 .left) (c .if3 .left) .cell-lt
+address-requires-4 c κs = in-amc (c .before .before .before .before .before .before .before .pre .0) (amc-mode (c .before .before .before .before .before .before .before .pre .0) (c .before .before .before .before .before .if1 .left) (c .before .before .before .if2 .left) (c .if3 .left)) .cell-lt
 
 returns-4 : tie.Need-returns-4
 unfolding addressOf
-returns-4 c = rw (c .address4 .ensures, c .before .before .before .data-of-used .ensures) (search (mode-3, needs))
+returns-4 c = rw (c .address4 .ensures, c .before .before .before .data-of-used .ensures) (search (mode-3, amc-mode, needs))
 
 pub address-spec : {M : Type 1} → statement M
 address-spec =

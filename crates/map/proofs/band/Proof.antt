@@ -1,6 +1,6 @@
 -- `map::band` meets its contract.
 use native.Mathlib.Omega.{arith}
-use Rattle.map.proofs.ByMode.{bin-width, mode-0, mode-1, mode-bins}
+use Rattle.map.proofs.ByMode.{bin-width, mode-0, mode-1, mode-bins, listed-mode}
 use Rattle.ofusc.proofs.Sequence.{size}
 use Rattle.map.specs.Mode.{band}
 use borrow.Author.Needs.{needs}
@@ -20,7 +20,7 @@ bin-band-requires c κs = omega (arith, size (bin-width (c .before .before .befo
 
 returns-3 : tie.Need-returns-3
 unfolding band
-returns-3 c = rw (c .bin-band .ensures, c .before .width .ensures) (search (mode-bins, needs))
+returns-3 c = rw (c .bin-band .ensures, c .before .width .ensures) (search (mode-bins, listed-mode, needs))
 
 pub band-spec : {M : Type 1} → statement M
 band-spec =

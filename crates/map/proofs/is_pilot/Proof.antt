@@ -1,5 +1,5 @@
 -- `map::is_pilot` meets its contract.
-use Rattle.map.proofs.ByMode.{mode-0, mode-1, mode-bins}
+use Rattle.map.proofs.ByMode.{mode-0, mode-1, mode-bins, listed-mode}
 use Rattle.map.specs.Mode.{isPilot}
 use borrow.Author.Needs.{needs}
 use Rattle.map.proofs.is_pilot.Statement.{statement}
@@ -16,7 +16,7 @@ returns-2 c = rw (c .is-pilot2 .ensures) (search (mode-1, needs))
 
 returns-3 : tie.Need-returns-3
 unfolding isPilot
-returns-3 c = rw (c .is-bin-pilot .ensures) (search (mode-bins, needs))
+returns-3 c = rw (c .is-bin-pilot .ensures) (search (mode-bins, listed-mode, needs))
 
 pub is-pilot-spec : {M : Type 1} → statement M
 is-pilot-spec =

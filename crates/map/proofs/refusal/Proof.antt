@@ -13,7 +13,7 @@ returns-2 : tie.Need-returns-2
 returns-2 c = number-2 _ (c .before .before .if1 .left) (sym (c .before .is-size .ensures) ∙ not-true _ (c .if2 .taken))
 
 cells-requires : tie.Need-cells-requires
-cells-requires c κs = size-most _ (sym (c .before .is-size .ensures) ∙ not-false _ (c .if2 .left))
+cells-requires c κs = (c .before .before .if1 .left, size-most _ (sym (c .before .is-size .ensures) ∙ not-false _ (c .if2 .left)))
 
 returns-3 : tie.Need-returns-3
 returns-3 c = number-3 _ (c .before .before .before .before .before .if1 .left) (sym (c .before .before .before .before .is-size .ensures) ∙ not-false _ (c .before .before .before .if2 .left)) (rw (c .before .before .cells .ensures) at (c .if3 .taken))

@@ -1,5 +1,5 @@
 -- `map::spot` meets its contract.
-use Rattle.map.proofs.ByMode.{in-pusc-dl, in-pusc-ul, ofusc-asks, ofusc-few, amc-asks, amc-few, mode-0, mode-1, mode-2, mode-3}
+use Rattle.map.proofs.ByMode.{in-pusc-dl, in-pusc-ul, ofusc-asks, ofusc-few, amc-asks, amc-few, mode-0, mode-1, mode-2, mode-3, amc-mode}
 use native.Mathlib.Omega.{arith}
 use Rattle.map.specs.Mode.{spotOf}
 use borrow.Author.Needs.{needs}
@@ -33,14 +33,14 @@ unfolding spotOf
 returns-3 c = rw (c .bin-spot .ensures, c .before .data-number .ensures, c .before .before .width .ensures) (search (mode-2, needs))
 
 data-number-requires-2 : tie.Need-data-number-requires-2
-data-number-requires-2 c κs = amc-asks (c .before .before .before .before .before .before .pre .0) (c .before .before .before .before .if1 .left) (c .before .before .if2 .left) (c .if3 .left) _ _ (c .before .before .before .before .before .before .pre .1 .0) (c .before .before .before .before .before .before .pre .1 .1)
+data-number-requires-2 c κs = amc-asks (c .before .before .before .before .before .before .pre .0) (amc-mode (c .before .before .before .before .before .before .pre .0) (c .before .before .before .before .if1 .left) (c .before .before .if2 .left) (c .if3 .left)) _ _ (c .before .before .before .before .before .before .pre .1 .0) (c .before .before .before .before .before .before .pre .1 .1)
 
 bin-spot-requires-2 : tie.Need-bin-spot-requires-2
-bin-spot-requires-2 c κs = rw (c .data-number2 .ensures) (search (amc-few, needs))
+bin-spot-requires-2 c κs = rw (c .data-number2 .ensures) (search (amc-few, amc-mode, needs))
 
 returns-4 : tie.Need-returns-4
 unfolding spotOf
-returns-4 c = rw (c .bin-spot2 .ensures, c .before .data-number2 .ensures) (search (mode-3, needs))
+returns-4 c = rw (c .bin-spot2 .ensures, c .before .data-number2 .ensures) (search (mode-3, amc-mode, needs))
 
 pub spot-spec : {M : Type 1} → statement M
 spot-spec =

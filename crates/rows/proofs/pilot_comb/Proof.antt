@@ -1,6 +1,6 @@
 -- `rows::pilot_comb` meets its contract.
 use Rattle.ofusc.proofs.Sequence.{size}
-use Rattle.map.proofs.ByMode.{mode-0, mode-1, mode-bins, bin-width}
+use Rattle.map.proofs.ByMode.{mode-0, mode-1, mode-bins, listed-mode, bin-width}
 use Rattle.rows.specs.Model.{combOf}
 use native.Mathlib.Omega.{arith}
 use borrow.Author.Needs.{needs}
@@ -20,7 +20,7 @@ mul-t7 c = omega (arith, size (bin-width (c .before .before .before .before .bef
 
 returns-3 : tie.Need-returns-3
 unfolding combOf
-returns-3 c = rw (c .before .bin-pilot-place .ensures, c .width .ensures) (search (mode-bins, needs))
+returns-3 c = rw (c .before .bin-pilot-place .ensures, c .width .ensures) (search (mode-bins, listed-mode, needs))
 
 pub pilot-comb-spec : {M : Type 1} → statement M
 pilot-comb-spec =

@@ -1,7 +1,7 @@
 -- `rows::table` meets its contract.
 use native.Mathlib.Omega.{arith}
 use borrow.Author.Needs.{needs}
-use Rattle.map.proofs.ByMode.{in-pusc-dl, in-pusc-ul, in-ofusc, in-amc, bin-width}
+use Rattle.map.proofs.ByMode.{in-pusc-dl, in-pusc-ul, in-ofusc, in-amc, bin-width, amc-mode}
 use Rattle.rows.proofs.Row.{as-0, as-1, as-2, as-3, to-table}
 use Rattle.rows.proofs.table.Statement.{statement}
 use Rattle.rows.proofs.table.Tie as tie
@@ -28,10 +28,10 @@ returns-3 : tie.Need-returns-3
 returns-3 c = to-table (c .table3 .result) (as-2 (c .before .before .if3 .taken)) (rw (c .before .width .ensures) at (c .table3 .ensures))
 
 table-requires-4 : tie.Need-table-requires-4
-table-requires-4 c κs = in-amc (c .before .before .before .before .before .before .pre) (c .before .before .before .before .if1 .left) (c .before .before .if2 .left) (c .if3 .left) .cell-lt
+table-requires-4 c κs = in-amc (c .before .before .before .before .before .before .pre) (search (amc-mode, needs)) .cell-lt
 
 returns-4 : tie.Need-returns-4
-returns-4 c = to-table (c .table4 .result) (as-3 (c .before .before .before .before .before .if1 .left) (c .before .before .before .if2 .left) (c .before .if3 .left)) (c .table4 .ensures)
+returns-4 c = to-table (c .table4 .result) (as-3 (search (amc-mode, needs))) (c .table4 .ensures)
 
 pub table-spec : {M : Type 1} → statement M
 table-spec =
