@@ -24,7 +24,7 @@ use Rattle.map.proofs.ByMode.{symbols-range, size-few, subchannels-few}
 use Rattle.map.proofs.Slot.{LawOf, slot-law, band-law}
 
 -- what an accepted setup is
-setup-asked : {A : Type 0} (c : Setup) (rest : Answer A) {a : A} → askSetup c rest ≡ accepted a → Valid c × (rest ≡ accepted a)
+pub setup-asked : {A : Type 0} (c : Setup) (rest : Answer A) {a : A} → askSetup c rest ≡ accepted a → Valid c × (rest ≡ accepted a)
 setup-asked c rest e =
     let q₁ = ask-yes (isMode c) 1 _ e in
     let q₂ = ask-yes (isSize c) 2 _ (q₁ .1) in

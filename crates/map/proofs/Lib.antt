@@ -4,3 +4,4 @@ pub mod ByMode
 pub mod Slot
 pub mod Law
 pub mod Outcome
+pub mod Claims

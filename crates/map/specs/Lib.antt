@@ -3,3 +3,4 @@ pub mod Question
 pub mod Place
 pub mod Valid
 pub mod Model
+pub mod Law

@@ -1,0 +1,73 @@
+-- What specs/Law.antt claims of the map holds.
+use mathlib.Core.Path.{_≡_, sym, ap, _∙_, subst}
+use mathlib.Core.Bool.{true, false}
+use Prim.Native.Nat.{ℕ, _+_, _*_, _/_, _<_}
+use native.Mathlib.Omega.{arith}
+use lib.Arith.{digits-div, digits-lt}
+use Rattle.base.specs.Answer.{accepted}
+use Rattle.carriers.specs.Band.{carrierOf, usedOf, isGuard, isDc}
+use Rattle.carriers.proofs.Guards.{carrier-lt, carrier-no-guard, carrier-no-dc, used-carrier}
+use Rattle.map.specs.declared.Setup.{Setup}
+use Rattle.map.specs.Mode.{symbols, band, isPilot, spotOf, addressOf}
+use Rattle.map.specs.Place.{Place, pilot, placeAt, placeOf, contentOf, locateOf}
+use Rattle.map.specs.Valid.{Valid}
+use Rattle.map.specs.Law.{Passes, PlacedAt, HoldsData, JustOnePoint, MapLaw}
+use Rattle.map.proofs.Slot.{slot-law, band-law}
+use Rattle.map.proofs.Law.{setup-asked, placing, place-accepts, locate-accepts, located-where-placed, placed-where-located, one-address, in-own-slot, data-placed, pilot-content}
+
+passed : (setup : Setup) → Passes setup → Valid setup
+passed setup e = setup-asked setup _ e .0
+
+-- a data carrier of a symbol of the slot has its point, and no other
+module _ (setup : Setup) (v : Valid setup) (slot offset carrier : ℕ) (hs : slot < 512) (ho : offset < symbols setup) where
+  abbrev y : ℕ
+  y = slot * symbols setup + offset
+
+  point-there : HoldsData setup y carrier → JustOnePoint setup slot y carrier
+  point-there d =
+      let b = band-law v in
+      let u = d .used in
+      let used-is : usedOf (band setup) carrier ≡ u = ap (usedOf (band setup)) (sym (d .carrier-is)) ∙ used-carrier (band setup) (setup .size) b u (d .used-below) in
+      let g : isGuard (band setup) (setup .size) carrier ≡ false = ap (isGuard (band setup) (setup .size)) (sym (d .carrier-is)) ∙ carrier-no-guard (band setup) (setup .size) b u (d .used-below) in
+      let c : isDc (band setup) carrier ≡ false = ap (isDc (band setup)) (sym (d .carrier-is)) ∙ carrier-no-dc (band setup) (setup .size) b u (d .used-below) in
+      let np : isPilot setup y (usedOf (band setup) carrier) ≡ false = ap (isPilot setup y) used-is ∙ d .no-pilot in
+      let a = addressOf setup y (usedOf (band setup) carrier) in
+      let placed : PlacedAt setup slot (a .subchannel) (a .index) y carrier =
+      ap (λ (n : ℕ). placeOf setup n (a .subchannel) (a .index)) (sym (digits-div slot ho)) ∙ data-placed setup v y carrier g c np (digits-lt hs ho) in
+      record {
+        subchannel = a .subchannel;
+        index = a .index;
+        is-placed = placed;
+        no-other = λ s m e. let q = one-address setup slot s m slot (a .subchannel) (a .index) e placed in (q .1, q .2);
+        is-found = located-where-placed setup slot (a .subchannel) (a .index) placed;
+      }
+
+  data-there : JustOnePoint setup slot y carrier → HoldsData setup y carrier
+  unfolding placeAt
+  data-there j =
+      let q = placing setup slot (j .subchannel) (j .index) (j .is-placed) in
+      let x = spotOf setup slot (j .subchannel) (j .index) in
+      let l = slot-law v slot .lies (j .subchannel) (j .index) (q .subchannel-lt) (q .index-lt) in
+      record {
+        used = x .used;
+        used-below = l .used-lt;
+        carrier-is = ap (λ (p : Place). p .carrier) (q .place-is);
+        no-pilot = subst (λ (t : ℕ). isPilot setup t (x .used) ≡ false) (ap (λ (p : Place). p .symbol) (q .place-is)) (l .no-pilot);
+      }
+
+pub map-law : MapLaw
+map-law =
+    record {
+      just-one-point = λ setup slot offset carrier e hs ho.
+          let v = passed setup e in
+          (point-there setup v slot offset carrier hs ho, data-there setup v slot offset carrier hs ho);
+      located-where-placed = λ setup slot s m y k e. located-where-placed setup slot s m e;
+      placed-where-located = placed-where-located;
+      one-address = λ setup slot s m slot′ s′ m′ y k e e′. one-address setup slot s m slot′ s′ m′ e e′;
+      in-own-slot = λ setup slot s m y k e. in-own-slot setup slot s m e;
+      pilot-found = λ setup y u e hy hu p.
+          let v = passed setup e in
+          locate-accepts setup y _ v hy (carrier-lt (band setup) (setup .size) (band-law v) u hu) ∙ ap accepted (pilot-content setup v y u hu p);
+      place-accepts = λ setup slot s m e h₄ h₅ h₆. (placeAt setup slot (spotOf setup slot s m), place-accepts setup slot s m (passed setup e) h₄ h₅ h₆);
+      locate-accepts = λ setup y k e h₄ h₇. (contentOf setup y k, locate-accepts setup y k (passed setup e) h₄ h₇);
+    }
