@@ -13,7 +13,7 @@ use Rattle.map.specs.declared.Setup.{Setup}
 use Rattle.map.specs.Mode.{subchannels, symbols, band, isPilot, spotOf, addressOf}
 use Rattle.map.specs.Question.{askSetup, isSlot, isSymbol, isSubchannel, isIndex, isCarrier}
 use Rattle.map.specs.Model.{setupRefusal}
-use Rattle.map.specs.Place.{guard, dc, pilot, point, placeAt, placeOf, pointAt, contentOf, locateOf}
+use Rattle.map.specs.Place.{Place, Content, guard, dc, pilot, point, placeAt, placeOf, pointAt, contentOf, locateOf}
 use Rattle.map.specs.Valid.{Valid}
 use Rattle.map.proofs.Accept.{refused-number, number-valid, passes}
 use Rattle.map.proofs.Slot.{slot-law, band-law}
@@ -42,8 +42,13 @@ module _ (c : Setup) (slot s m : ℕ) where
   unfolding placeOf isSlot isSubchannel isIndex
   place-6 v h n e l g = rw (lt-ltb slot 512 h, lt-ltb s (subchannels c) (subst (λ (x : ℕ). s < x) e l), le-ltb m 48 g) (sym (passes v))
 
-  pub place-done : Valid c → slot < 512 → (n : ℕ) → n ≡ subchannels c → s < n → m < 48 → placeOf c slot s m ≡ accepted (placeAt c slot (spotOf c slot s m))
-  place-done v h n e l g = place-accepts c slot s m v h (subst (λ (x : ℕ). s < x) e l) g
+  -- what the inner functions ask there, and what they give
+  module _ (k : ℕ) (e : k ≡ setupRefusal c) (z : k ≡ 0) (n : ℕ) (q : n ≡ subchannels c) (hs : s < n) (hm : m < 48) where
+    pub subchannel-in : s < subchannels c
+    subchannel-in = rw (← q) hs
+
+    pub place-done : slot < 512 → (x : Spot) → x ≡ spotOf c slot s m → (a : Answer Place) → a ≡ accepted (placeAt c slot x) → a ≡ placeOf c slot s m
+    place-done h x f a g = g ∙ ap (λ t. accepted (placeAt c slot t)) f ∙ sym (place-accepts c slot s m (now-valid c k e z) h subchannel-in hm)
 
 module _ (c : Setup) (y k : ℕ) where
   pub locate-setup : (r : ℕ) → r ≡ setupRefusal c → (r ≡ 0 → ⊥) → refused r ≡ locateOf c y k
@@ -58,8 +63,8 @@ module _ (c : Setup) (y k : ℕ) where
   unfolding locateOf isSymbol isCarrier
   locate-7 v n e l g = rw (lt-ltb y (512 * symbols c) (subst (λ (x : ℕ). y < 512 * x) e l), le-ltb k (c .size) g) (sym (passes v))
 
-  pub locate-done : Valid c → (n : ℕ) → n ≡ symbols c → y < 512 * n → k < c .size → locateOf c y k ≡ accepted (contentOf c y k)
-  locate-done v n e l g = locate-accepts c y k v (subst (λ (x : ℕ). y < 512 * x) e l) g
+  pub locate-done : Valid c → (n : ℕ) → n ≡ symbols c → y < 512 * n → k < c .size → (a : Answer Content) → a ≡ accepted (contentOf c y k) → a ≡ locateOf c y k
+  locate-done v n e l g a f = f ∙ sym (locate-accepts c y k v (subst (λ (x : ℕ). y < 512 * x) e l) g)
 
 -- the answers of a carrier of an accepted symbol, test by test
 module _ (c : Setup) (y k : ℕ) (b : Band) (e : b ≡ band c) where
