@@ -110,14 +110,6 @@ bin-width (pusc-ul h) n₀ n₁ = absurd (n₁ refl)
 bin-width (ofusc {n = n} w h) n₀ n₁ = rw (width-is n) w
 bin-width (amc {n = n} w h) n₀ n₁ = rw (width-is n) w
 
--- the used numbers of every mode are few
-pub used-few : {c : Setup} → Valid c → band c .used ≤ 1728
-unfolding band width
-used-few (pusc-dl h) = omega arith
-used-few (pusc-ul h) = omega arith
-used-few (ofusc {n = n} w h) = omega (arith, size w .most)
-used-few (amc {n = n} w h) = omega (arith, size w .most)
-
 -- what the numberings of modes 2 and 3 ask of a valid setup with N = n, and that their numbers are few
 module _ {c : Setup} (v : Valid c) (n : ℕ) (e : n ≡ width c) (s m : ℕ) (hs : s < subchannels c) (hm : m < 48) where
   pub ofusc-asks : c .mode ≡ 2 → Width n × ((c .cell < n * n) × (s < n) × (m < 48))
@@ -142,52 +134,69 @@ module _ {c : Setup} (v : Valid c) (e : c .mode ≡ 3) (s m : ℕ) (hs : s < sub
       let r = in-amc v e in
       omega (arith, size bins, adjacent-law.law (c .cell) (r .cell-lt) (width c) .number-lt s m (rw (r .subchannels-are) at hs) hm)
 
--- the symbols of a slot are one to three
-pub symbols-range : {c : Setup} → Valid c → (0 < symbols c) × (symbols c ≤ 3)
-unfolding symbols
-symbols-range (pusc-dl h) = omega arith
-symbols-range (pusc-ul h) = omega arith
-symbols-range (ofusc w h) = omega arith
-symbols-range (amc w h) = omega arith
+-- what a valid setup has is few
+pub record Few (c : Setup) : Type 0 where
+  pub symbols-pos : 0 < symbols c
+  pub symbols-few : symbols c ≤ 3
+  pub size-few : c .size ≤ 2048
+  pub subchannels-few : subchannels c ≤ 70
+  pub left-few : band c .left ≤ 184
+  pub half-few : band c .half ≤ 864
+  pub used-few : band c .used ≤ 1728
 
--- a zone's symbols and a band's guards are few
+pub few : {c : Setup} → Valid c → Few c
+unfolding symbols subchannels band width
+few (pusc-dl h) =
+    record {
+      symbols-pos = omega arith;
+      symbols-few = omega arith;
+      size-few = omega arith;
+      subchannels-few = omega arith;
+      left-few = omega arith;
+      half-few = omega arith;
+      used-few = omega arith;
+    }
+few (pusc-ul h) =
+    record {
+      symbols-pos = omega arith;
+      symbols-few = omega arith;
+      size-few = omega arith;
+      subchannels-few = omega arith;
+      left-few = omega arith;
+      half-few = omega arith;
+      used-few = omega arith;
+    }
+few (ofusc w h) = let b = size w .most in
+    record {
+      symbols-pos = omega arith;
+      symbols-few = omega arith;
+      size-few = omega arith;
+      subchannels-few = omega arith;
+      left-few = omega arith;
+      half-few = omega arith;
+      used-few = omega arith;
+    }
+few (amc w h) = let b = size w .most in
+    record {
+      symbols-pos = omega arith;
+      symbols-few = omega arith;
+      size-few = omega arith;
+      subchannels-few = omega arith;
+      left-few = omega arith;
+      half-few = omega arith;
+      used-few = omega arith;
+    }
+
+-- a zone's symbols and a grid's rows are few
 pub slot-few : {c : Setup} → Valid c → (slot n : ℕ) → slot < 512 → n ≡ symbols c → slot * n ≤ 1536
 slot-few v slot n h e =
-    let r = symbols-range v in
+    let r = few v in
     mul-le-mul {n₁ = slot} {m₁ = n} {n₂ = 512} {m₂ = 3} (omega arith) (omega arith)
-
-pub size-few : {c : Setup} → Valid c → c .size ≤ 2048
-size-few (pusc-dl h) = omega arith
-size-few (pusc-ul h) = omega arith
-size-few (ofusc w h) = omega (arith, size w .most)
-size-few (amc w h) = omega (arith, size w .most)
-
-pub subchannels-few : {c : Setup} → Valid c → subchannels c ≤ 70
-unfolding subchannels width
-subchannels-few (pusc-dl h) = omega arith
-subchannels-few (pusc-ul h) = omega arith
-subchannels-few (ofusc w h) = omega (arith, size w .most)
-subchannels-few (amc w h) = omega (arith, size w .most)
 
 pub row-few : {c : Setup} → Valid c → (row : ℕ) → row < symbols c → row * c .size ≤ 6144
 row-few {c} v row h =
-    let r = symbols-range v in
-    let z = size-few v in
-    mul-le-mul {n₁ = row} {m₁ = c .size} {n₂ = 3} {m₂ = 2048} (omega arith) z
-
-pub left-few : {c : Setup} → Valid c → band c .left ≤ 184
-unfolding band width
-left-few (pusc-dl h) = omega arith
-left-few (pusc-ul h) = omega arith
-left-few (ofusc {n = n} w h) = omega (arith, size w .most)
-left-few (amc {n = n} w h) = omega (arith, size w .most)
-
-pub half-few : {c : Setup} → Valid c → band c .half ≤ 864
-unfolding band width
-half-few (pusc-dl h) = omega arith
-half-few (pusc-ul h) = omega arith
-half-few (ofusc {n = n} w h) = omega (arith, size w .most)
-half-few (amc {n = n} w h) = omega (arith, size w .most)
+    let r = few v in
+    mul-le-mul {n₁ = row} {m₁ = c .size} {n₂ = 3} {m₂ = 2048} (omega arith) (r .size-few)
 
 -- what the modes ask of a used number that is no pilot
 module _ {c : Setup} (v : Valid c) (y u : ℕ) (hu : u < band c .used) (np : isPilot c y u ≡ false) where
@@ -214,3 +223,18 @@ module _ {c : Setup} (v : Valid c) (y u : ℕ) (hu : u < band c .used) (np : isP
         rw e (bin-width v (λ z. omega arith) (λ z. omega arith)),
         (rw e (r .cell-lt), rw (e, h) (data-lt y u (mode-2 _ _ _ _ _ _ q ∙ np) (width c) (rw (r .used-are) at hu))),
       )
+
+pub symbols-range : {c : Setup} → Valid c → (0 < symbols c) × (symbols c ≤ 3)
+symbols-range v = (few v .symbols-pos, few v .symbols-few)
+
+pub size-few : {c : Setup} → Valid c → c .size ≤ 2048
+size-few v = few v .size-few
+
+pub subchannels-few : {c : Setup} → Valid c → subchannels c ≤ 70
+subchannels-few v = few v .subchannels-few
+
+pub left-few : {c : Setup} → Valid c → band c .left ≤ 184
+left-few v = few v .left-few
+
+pub used-few : {c : Setup} → Valid c → band c .used ≤ 1728
+used-few v = few v .used-few

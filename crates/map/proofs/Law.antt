@@ -20,7 +20,7 @@ use Rattle.map.specs.Question.{askSetup, isMode, isSize, isCell, isSlot,
 use Rattle.map.specs.Place.{Place, Content, pilot, point, placeAt, placeOf, pointAt, contentOf, locateOf}
 use Rattle.map.specs.Valid.{Valid}
 use Rattle.map.proofs.Accept.{valid, passes}
-use Rattle.map.proofs.ByMode.{symbols-range, size-few, subchannels-few}
+use Rattle.map.proofs.ByMode.{few}
 use Rattle.map.proofs.Slot.{LawOf, slot-law, band-law}
 
 -- what an accepted setup is
@@ -84,7 +84,7 @@ unfolding locateOf isSymbol isCarrier
 locate-accepts c y k v h₄ h₇ = passes v ∙ rw (lt-ltb _ _ h₄, lt-ltb _ _ h₇)
 
 symbols-pos : {c : Setup} → Valid c → 0 < symbols c
-symbols-pos v = symbols-range v .0
+symbols-pos v = few v .symbols-pos
 
 -- the place of a point holds that point
 module _ (c : Setup) (v : Valid c) (slot s m : ℕ) (hs : s < subchannels c) (hm : m < 48) where
@@ -201,12 +201,12 @@ every-data-carrier-is-placed c y k e g d np =
 pub place-small : (c : Setup) (slot s m : ℕ) {p : Place} → placeOf c slot s m ≡ accepted p → (p .symbol < 1536) × (p .carrier < 2048)
 place-small c slot s m e =
     let q = locating c _ _ (located-where-placed c slot s m e) in
-    omega (arith, q .symbol-lt, q .carrier-below, symbols-range (q .is-valid), size-few (q .is-valid))
+    omega (arith, q .symbol-lt, q .carrier-below, few (q .is-valid))
 
 pub point-small : (c : Setup) (y k slot s m : ℕ) → locateOf c y k ≡ accepted (point slot s m) → (slot < 512) × (s < 70) × (m < 48)
 point-small c y k slot s m e =
     let q = placing c slot s m (placed-where-located c y k slot s m e) in
-    omega (arith, q .slot-lt, q .subchannel-lt, q .index-lt, subchannels-few (q .is-valid))
+    omega (arith, q .slot-lt, q .subchannel-lt, q .index-lt, few (q .is-valid))
 
 -- a pilot's carrier holds the pilot, and a carrier that holds a pilot is a pilot's
 pub pilot-content : (c : Setup) → Valid c → (y u : ℕ) → u < band c .used → isPilot c y u ≡ true → contentOf c y (carrierOf (band c) u) ≡ pilot

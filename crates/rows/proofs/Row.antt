@@ -24,7 +24,7 @@ use Rattle.map.specs.declared.Setup.{Setup}
 use Rattle.map.specs.Mode.{width, subchannels, symbols, band, isPilot, spotOf}
 use Rattle.map.specs.Valid.{Valid, pusc-dl, pusc-ul, ofusc, amc}
 use Rattle.rows.specs.Model.{tableLength, tableEntry, TableOf, shiftOf}
-use Rattle.map.proofs.ByMode.{mode-0, mode-1, mode-2, mode-3, mode-other, in-pusc-dl, in-pusc-ul, in-ofusc, in-amc, bin-width, symbols-range, used-few}
+use Rattle.map.proofs.ByMode.{mode-0, mode-1, mode-2, mode-3, mode-other, in-pusc-dl, in-pusc-ul, in-ofusc, in-amc, bin-width, few}
 use Rattle.map.proofs.Slot.{slot-law}
 use Rattle.pusc_dl.specs.Model as pusc-dl
 use Rattle.pusc_ul.specs.Model as pusc-ul
@@ -146,12 +146,12 @@ module _ {c : Setup} (v : Valid c) (slot s : ℕ) (hs : s < subchannels c) (row 
   pub spots-below : Below 48 8192 row
   spots-below =
       turned-below (shiftOf c s) 8192 _ row (shift-lt c s) t
-      (λ m h. omega (arith, symbols-range v, used-few v, lies m h .offset-lt, lies m h .used-lt))
+      (λ m h. omega (arith, few v, lies m h .offset-lt, lies m h .used-lt))
 
   pub carriers-of : (row′ : List ℕ) → row′ ≡ tabulate 48 (λ k. carrierStep (band c) (entry row k)) → Turned (shiftOf c s) (λ m. carrierNumber (band c) (spotOf c slot s m)) row′
   carriers-of row′ e m h =
       turned-by (shiftOf c s) (λ m. spotNumber (spotOf c slot s m)) (carrierStep (band c)) row row′ t e m h
-      ∙ step-carrier (band c) (spotOf c slot s m) (omega (arith, used-few v, lies m h .used-lt))
+      ∙ step-carrier (band c) (spotOf c slot s m) (omega (arith, few v, lies m h .used-lt))
 
 -- the shift by the mode
 module _ (c : Setup) (s : ℕ) where

@@ -1,6 +1,6 @@
 -- `map::address` meets its contract.
 use native.Mathlib.Omega.{arith}
-use Rattle.map.proofs.ByMode.{pusc-dl-asks, pusc-ul-asks, ofusc-back-asks, in-amc, used-few, mode-0, mode-1, mode-2, mode-3, amc-mode}
+use Rattle.map.proofs.ByMode.{pusc-dl-asks, pusc-ul-asks, ofusc-back-asks, in-amc, mode-0, mode-1, mode-2, mode-3, amc-mode, few}
 use Rattle.map.specs.Mode.{addressOf}
 use borrow.Author.Needs.{needs}
 use Rattle.map.proofs.address.Statement.{statement}
@@ -24,7 +24,7 @@ unfolding addressOf
 returns-2 c = rw (c .address2 .ensures) (search (mode-1, needs))
 
 data-of-used-requires : tie.Need-data-of-used-requires
-data-of-used-requires c κs = omega (arith, used-few (c .before .before .before .before .pre .0))
+data-of-used-requires c κs = omega (arith, few (c .before .before .before .before .pre .0))
 
 address-requires-3 : tie.Need-address-requires-3
 address-requires-3 c κs = ofusc-back-asks (c .before .before .before .before .before .before .before .before .pre .0) _ _ (c .before .before .before .before .before .before .before .before .pre .1 .0) (c .before .before .before .before .before .before .before .before .pre .1 .1) _ (c .width .ensures) _ (c .before .before .before .data-of-used .ensures) (c .before .if3 .taken)

@@ -1,5 +1,5 @@
 -- `map::at` meets its contract.
-use Rattle.map.proofs.ByMode.{left-few, slot-few, symbols-range, used-few}
+use Rattle.map.proofs.ByMode.{slot-few, few}
 use native.Mathlib.Omega.{arith}
 use Rattle.map.specs.Place.{placeAt}
 use Rattle.map.specs.Mode.{band}
@@ -11,10 +11,10 @@ mul-t5 : tie.Need-mul-t5
 mul-t5 c = omega (arith, slot-few (c .before .pre .0) (c .before .args .slot) (c .symbols .result) (c .before .pre .1 .0) (c .symbols .ensures))
 
 add-t6 : tie.Need-add-t6
-add-t6 c = omega (arith, symbols-range (c .before .before .pre .0), slot-few (c .before .before .pre .0) (c .before .before .args .slot) (c .before .symbols .result) (c .before .before .pre .1 .0) (c .before .symbols .ensures), c .before .before .pre .1 .1)
+add-t6 c = omega (arith, few (c .before .before .pre .0), slot-few (c .before .before .pre .0) (c .before .before .args .slot) (c .before .symbols .result) (c .before .before .pre .1 .0) (c .before .symbols .ensures), c .before .before .pre .1 .1)
 
 carrier-requires : tie.Need-carrier-requires
-carrier-requires c κs = (rw (c .band .ensures) (omega (arith, left-few (c .before .before .before .pre .0))), omega (arith, used-few (c .before .before .before .pre .0), c .before .before .before .pre .1 .2))
+carrier-requires c κs = (rw (c .band .ensures) (omega (arith, few (c .before .before .before .pre .0))), omega (arith, few (c .before .before .before .pre .0), c .before .before .before .pre .1 .2))
 
 returns : tie.Need-returns
 unfolding placeAt

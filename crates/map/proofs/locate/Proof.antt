@@ -1,5 +1,5 @@
 -- `map::locate` meets its contract.
-use Rattle.map.proofs.ByMode.{symbols-range}
+use Rattle.map.proofs.ByMode.{few}
 use native.Mathlib.Omega.{arith}
 use Rattle.map.proofs.Outcome.{now-valid, locate-setup, locate-4, locate-7, locate-done}
 use borrow.Author.Needs.{needs}
@@ -7,7 +7,7 @@ use Rattle.map.proofs.locate.Statement.{statement}
 use Rattle.map.proofs.locate.Tie as tie
 
 mul-if2 : tie.Need-mul-if2
-mul-if2 c = omega (arith, symbols-range (now-valid _ _ (c .before .before .refusal .ensures) (c .before .if1 .left)))
+mul-if2 c = omega (arith, few (now-valid _ _ (c .before .before .refusal .ensures) (c .before .if1 .left)))
 
 content-requires : tie.Need-content-requires
 content-requires c κs = (search (now-valid, needs), search needs)

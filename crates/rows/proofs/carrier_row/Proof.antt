@@ -1,7 +1,7 @@
 -- `rows::carrier_row` meets its contract.
 use native.Mathlib.Omega.{arith}
 use borrow.Author.Needs.{needs}
-use Rattle.map.proofs.ByMode.{left-few, half-few}
+use Rattle.map.proofs.ByMode.{few}
 use Rattle.rows.proofs.Row.{asks-1, row-1, spots-below, carriers-of}
 use Rattle.rows.proofs.carrier_row.Statement.{statement}
 use Rattle.rows.proofs.carrier_row.Tie as tie
@@ -16,7 +16,7 @@ spots-requires : tie.Need-spots-requires
 spots-requires c κs = (c .before .before .pre .0, (c .if1 .left, c .before .before .pre .1 .0, c .before .before .pre .1 .1))
 
 carrier-row-requires-2 : tie.Need-carrier-row-requires-2
-carrier-row-requires-2 c κs = rw (c .band .ensures) (omega (arith, left-few (c .before .before .before .before .pre .0)), omega (arith, half-few (c .before .before .before .before .pre .0)), spots-below (c .before .before .before .before .pre .0) _ _ (c .before .before .before .before .pre .1 .0) (c .before .spots .result) (c .before .spots .ensures))
+carrier-row-requires-2 c κs = rw (c .band .ensures) (omega (arith, few (c .before .before .before .before .pre .0)), omega (arith, few (c .before .before .before .before .pre .0)), spots-below (c .before .before .before .before .pre .0) _ _ (c .before .before .before .before .pre .1 .0) (c .before .spots .result) (c .before .spots .ensures))
 
 returns-2 : tie.Need-returns-2
 returns-2 c = carriers-of (c .before .before .before .before .before .pre .0) _ _ (c .before .before .before .before .before .pre .1 .0) (c .before .before .spots .result) (c .before .before .spots .ensures) (c .carrier-row2 .result) (rw (c .before .band .ensures) at (c .carrier-row2 .ensures))
