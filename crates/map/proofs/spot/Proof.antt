@@ -23,7 +23,9 @@ unfolding spotOf
 returns-2 c = rw (c .spot2 .ensures) (search (mode-1, needs))
 
 data-number-requires : tie.Need-data-number-requires
-data-number-requires c κs = ofusc-asks (c .before .before .before .before .before .before .before .pre .0) _ (c .width .ensures) _ _ (c .before .before .before .before .before .before .before .pre .1 .0) (c .before .before .before .before .before .before .before .pre .1 .1) (c .before .if3 .taken)
+data-number-requires c κs =
+    let p = c .before .before .before .before .before .before .before .pre in
+    ofusc-asks (p .0) _ (c .width .ensures) _ _ (p .1 .0) (p .1 .1) (c .before .if3 .taken)
 
 bin-spot-requires : tie.Need-bin-spot-requires
 bin-spot-requires c κs = rw (c .data-number .ensures) (search (ofusc-few, needs))
@@ -33,7 +35,9 @@ unfolding spotOf
 returns-3 c = rw (c .bin-spot .ensures, c .before .data-number .ensures, c .before .before .width .ensures) (search (mode-2, needs))
 
 data-number-requires-2 : tie.Need-data-number-requires-2
-data-number-requires-2 c κs = amc-asks (c .before .before .before .before .before .before .pre .0) (amc-mode (c .before .before .before .before .before .before .pre .0) (c .before .before .before .before .if1 .left) (c .before .before .if2 .left) (c .if3 .left)) _ _ (c .before .before .before .before .before .before .pre .1 .0) (c .before .before .before .before .before .before .pre .1 .1)
+data-number-requires-2 c κs =
+    let p = c .before .before .before .before .before .before .pre in
+    amc-asks (p .0) (search (amc-mode, needs)) _ _ (p .1 .0) (p .1 .1)
 
 bin-spot-requires-2 : tie.Need-bin-spot-requires-2
 bin-spot-requires-2 c κs = rw (c .data-number2 .ensures) (search (amc-few, amc-mode, needs))

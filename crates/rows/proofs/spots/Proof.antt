@@ -6,34 +6,45 @@ use Rattle.rows.proofs.spots.Statement.{statement}
 use Rattle.rows.proofs.spots.Tie as tie
 
 spots-requires : tie.Need-spots-requires
-spots-requires c κs = asks-0 (c .before .before .pre .0) _ (c .before .before .pre .1 .1) (c .before .before .args .table .now) (c .before .before .pre .1 .2) (c .if1 .taken)
+spots-requires c κs =
+    let p = c .before .before .pre in
+    asks-0 (p .0) _ (p .1 .1) (c .before .before .args .table .now) (p .1 .2) (c .if1 .taken)
 
 returns : tie.Need-returns
 returns c = row-0 _ _ _ (c .before .if1 .taken) (c .spots .result) (c .spots .ensures)
 
 numbers-requires : tie.Need-numbers-requires
 numbers-requires c κs =
-    let a = asks-2 (c .before .before .before .before .before .pre .0) _ (c .before .before .before .before .before .pre .1 .1) (c .before .before .before .before .before .args .table .now) (c .before .before .before .before .before .pre .1 .2) _ (c .width .ensures) (c .before .if2 .taken) in
+    let s = c .before .before .before .before .before in
+    let a = asks-2 (s .pre .0) _ (s .pre .1 .1) (s .args .table .now) (s .pre .1 .2) _ (c .width .ensures) (c .before .if2 .taken) in
     (a .0, (a .1, a .2))
 
 used-numbers-requires : tie.Need-used-numbers-requires
 used-numbers-requires c κs =
-    let a = asks-2 (c .before .before .before .before .before .before .pre .0) _ (c .before .before .before .before .before .before .pre .1 .1) (c .before .before .before .before .before .before .args .table .now) (c .before .before .before .before .before .before .pre .1 .2) _ (c .before .width .ensures) (c .before .before .if2 .taken) in
+    let s = c .before .before .before .before .before .before in
+    let a = asks-2 (s .pre .0) _ (s .pre .1 .1) (s .args .table .now) (s .pre .1 .2) _ (c .before .width .ensures) (c .before .before .if2 .taken) in
     row-below (c .numbers .result) _ (c .numbers .ensures) (λ m h. group-number-lt (a .0) _ _ m (a .1) h)
 
 returns-2 : tie.Need-returns-2
-returns-2 c = bin-row (c .before .numbers .result) _ (c .before .numbers .ensures) _ (c .used-numbers .result) (c .used-numbers .ensures) _ _ (λ m h. rw (c .before .before .width .ensures) (spot-2 _ _ _ (c .before .before .before .if2 .taken) m h))
+returns-2 c =
+    bin-row (c .before .numbers .result) _ (c .before .numbers .ensures) _ (c .used-numbers .result) (c .used-numbers .ensures) _ _
+    (λ m h. rw (c .before .before .width .ensures) (spot-2 _ _ _ (c .before .before .before .if2 .taken) m h))
 
 numbers-requires-2 : tie.Need-numbers-requires-2
-numbers-requires-2 c κs = asks-3 (c .before .before .before .before .pre .0) _ (c .before .before .before .before .pre .1 .1) (c .before .before .before .before .args .table .now) (c .before .before .before .before .pre .1 .2) (search (amc-mode, needs))
+numbers-requires-2 c κs =
+    let s = c .before .before .before .before in
+    asks-3 (s .pre .0) _ (s .pre .1 .1) (s .args .table .now) (s .pre .1 .2) (search (amc-mode, needs))
 
 used-numbers-requires-2 : tie.Need-used-numbers-requires-2
 used-numbers-requires-2 c κs =
-    let a = asks-3 (c .before .before .before .before .before .pre .0) _ (c .before .before .before .before .before .pre .1 .1) (c .before .before .before .before .before .args .table .now) (c .before .before .before .before .before .pre .1 .2) (search (amc-mode, needs)) in
+    let s = c .before .before .before .before .before in
+    let a = asks-3 (s .pre .0) _ (s .pre .1 .1) (s .args .table .now) (s .pre .1 .2) (search (amc-mode, needs)) in
     row-below (c .numbers2 .result) _ (c .numbers2 .ensures) (λ m h. sequence-number-lt _ _ m (a .0 .0) (a .0 .1) h)
 
 returns-3 : tie.Need-returns-3
-returns-3 c = bin-row (c .before .numbers2 .result) _ (c .before .numbers2 .ensures) _ (c .used-numbers2 .result) (c .used-numbers2 .ensures) _ _ (spot-3 _ _ _ (search (amc-mode, needs)))
+returns-3 c =
+    bin-row (c .before .numbers2 .result) _ (c .before .numbers2 .ensures) _ (c .used-numbers2 .result) (c .used-numbers2 .ensures) _ _
+    (spot-3 _ _ _ (search (amc-mode, needs)))
 
 pub spots-spec : {M : Type 1} → statement M
 spots-spec =
