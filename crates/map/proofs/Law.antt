@@ -189,14 +189,6 @@ in-own-slot c slot s m e =
     ap (λ (t : Place). t .symbol / symbols c) (sym (q .place-is))
     ∙ digits-div slot (slot-law (q .is-valid) slot .lies s m (q .subchannel-lt) (q .index-lt) .offset-lt)
 
--- And nothing is left over: a carrier of an accepted symbol that is no guard, not DC and no pilot is the place of a point.
-pub every-data-carrier-is-placed : (c : Setup) (y k : ℕ) {w : Content} → locateOf c y k ≡ accepted w
-    → isGuard (band c) (c .size) k ≡ false → isDc (band c) k ≡ false → isPilot c y (usedOf (band c) k) ≡ false
-    → (slot : ℕ) × (s : ℕ) × (m : ℕ) × (placeOf c slot s m ≡ accepted (record { symbol = y; carrier = k }))
-every-data-carrier-is-placed c y k e g d np =
-    let q = locating c y k e in
-    (y / symbols c, a c (q .is-valid) y k g d np .subchannel, a c (q .is-valid) y k g d np .index, data-placed c (q .is-valid) y k g d np (q .symbol-lt))
-
 -- the numbers of an accepted answer are small
 pub place-small : (c : Setup) (slot s m : ℕ) {p : Place} → placeOf c slot s m ≡ accepted p → (p .symbol < 1536) × (p .carrier < 2048)
 place-small c slot s m e =
