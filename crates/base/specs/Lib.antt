@@ -1,4 +1,4 @@
--- The small vocabulary that every definition of the engine is written in.
+-- What the definitions of several crates share, beside the library's numbers, lists and tests.
 pub mod Choice
 pub mod Answer
 pub mod Steps
