@@ -7,7 +7,6 @@
 import os
 import re
 import shlex
-import shutil
 import subprocess
 import tempfile
 import unittest
@@ -460,28 +459,6 @@ class Failures(Case):
         done = run("place", 2, 1024, 17, 0, 0, 0, env=dict(ENV, BELLPULSAR_LIBRARY="/none"))
         self.assertEqual((done.stdout, done.returncode), (b"", 2))
         self.assertRegex(done.stderr.decode(), r"^bellpulsar: no Bellpulsar library at /none: run ./build.sh.*\n$")
-
-    def run_with_builder(self, script):
-        """In a tree of its own, where build.sh is the script."""
-        with tempfile.TemporaryDirectory() as tree:
-            shutil.copy(COMMAND, tree)
-            shutil.copytree(os.path.join(ROOT, "python"), os.path.join(tree, "python"))
-            builder = os.path.join(tree, "build.sh")
-            with open(builder, "w") as file:
-                file.write("#!/bin/sh\n" + script)
-            os.chmod(builder, 0o755)
-            command = [os.path.join(tree, "bellpulsar"), "place", "2", "1024", "17", "0", "0", "0"]
-            done = subprocess.run(command, capture_output=True, text=True, timeout=60, env=ENV)
-            return done.stdout, done.stderr, done.returncode
-
-    def test_the_library_is_built_on_first_use(self):
-        library = os.path.join(ROOT, "target", "lib", "libbellpulsar.so")
-        script = 'cd "$(dirname "$0")" && mkdir -p target/lib && cp %s target/lib; echo made; echo told >&2\n' % library
-        self.assertEqual(self.run_with_builder(script), ("symbol 0 carrier 87\n", "made\ntold\n", 0))
-
-    def test_a_build_that_fails(self):
-        message = "why\nbellpulsar: the engine could not be built\n"
-        self.assertEqual(self.run_with_builder("echo why >&2; exit 3\n"), ("", message, 2))
 
     def test_help_needs_no_library(self):
         env = dict(ENV, BELLPULSAR_LIBRARY="/none")

@@ -696,7 +696,7 @@ class Loading(unittest.TestCase):
         self.assertEqual(imported_with("").stdout, "Place(symbol=0, carrier=87)\n")
 
     def test_another_library_by_the_environment(self):
-        built = os.path.join(ROOT, "target", "lib", "libbellpulsar.so")
+        built = os.path.join(ROOT, "build", "libbellpulsar.so")
         self.assertEqual(imported_with(built).stdout, "Place(symbol=0, carrier=87)\n")
 
     def test_no_library(self):

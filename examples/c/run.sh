@@ -12,5 +12,6 @@ esac
 example=$1
 shift
 ./build.sh
-"${CC:-cc}" -std=c11 -O2 -Wall -Wextra -I include "examples/c/$example.c" target/lib/libbellpulsar.a -o "target/$example"
-exec "target/$example" "$@"
+${CC:-cc} -std=c11 -O2 -Wall -Wextra ${CFLAGS-} ${LDFLAGS-} -I include "examples/c/$example.c" build/libbellpulsar.a \
+    -o "build/$example"
+exec "build/$example" "$@"

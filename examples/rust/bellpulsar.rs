@@ -2,7 +2,7 @@
 //!
 //! Put this file beside your program, write `mod bellpulsar;`, and link the static library:
 //!
-//!     rustc --edition 2021 -O yours.rs -L native=target/lib -l static=bellpulsar
+//!     rustc --edition 2021 -O yours.rs -L native=build -l static=bellpulsar
 //!
 //! Any number may stand in any field, and a slice may have any length: what is out of range is refused by the engine
 //! itself, with the number of the first question of document 01 that is answered no. On a refusal no lent slice is

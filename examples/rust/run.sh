@@ -3,5 +3,5 @@
 set -eu
 cd "$(dirname "$0")/../.."
 ./build.sh
-rustc --edition 2021 -O examples/rust/example.rs -L native=target/lib -l static=bellpulsar -o target/rust_example
-exec target/rust_example "$@"
+rustc --edition 2021 -O examples/rust/example.rs -L native=build -l static=bellpulsar -o build/rust_example
+exec build/rust_example "$@"

@@ -1,6 +1,6 @@
 """Prints the table of requests and answers that capi_test.c includes, from a fixed seed.
 
-    python3 tests/capi/table.py > target/capi/table.h
+    python3 tests/capi/table.py > build/capi/table.h
 """
 
 import os

@@ -9,7 +9,7 @@ use std::fs::read_to_string;
 
 /// The rows of this name, of which there are at least so many.
 fn rows(name: &str, least: usize) -> Vec<Vec<u32>> {
-    let text = read_to_string("target/rust/rows.txt").expect("rows.txt, which run.sh writes");
+    let text = read_to_string("build/rust/rows.txt").expect("rows.txt, which run.sh writes");
     let rows: Vec<Vec<u32>> = text
         .lines()
         .filter_map(|line| line.strip_prefix(name)?.strip_prefix(' '))

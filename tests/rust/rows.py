@@ -1,6 +1,6 @@
 """Prints the requests and answers that callers.rs reads, from fixed seeds: one a line, its name and then numbers.
 
-    python3 tests/rust/rows.py > target/rust/rows.txt
+    python3 tests/rust/rows.py > build/rust/rows.txt
 
     place     mode size cell slot subchannel index; refusal symbol carrier
     locate    mode size cell symbol carrier; refusal kind slot subchannel index

@@ -3,8 +3,7 @@
 import sys
 
 import bellpulsar
-import picture
-from bellpulsar import Kind
+from bellpulsar import Kind, picture
 
 PLAN_LIMIT = 128  # bytes: no plan is that long, so what follows does not matter
 

@@ -49,15 +49,12 @@ that is no refusal: TypeError for the wrong kind of element, BufferError where t
 writable, ValueError where it is not aligned or two buffers overlap.
 """
 
-import array
-import contextlib
-import ctypes
 import enum
 import itertools
-import operator
-import os
-import sys
 from typing import NamedTuple, Optional, Tuple
+
+from .buffers import BYTE, FLOAT, apart, lent, pilot_point
+from .library import Hits, Pair, Zones, engine, numbers, uint
 
 PUSC_DL, PUSC_UL, OFUSC, AMC = 0, 1, 2, 3
 
@@ -92,6 +89,11 @@ class Refusal(Exception):
 
     def __str__(self):
         return "refused %d: %s" % (self.number, self.question)
+
+
+def _raise_if_refused(refusal):
+    if refusal:
+        raise Refusal(refusal)
 
 
 # --- answers ----------------------------------------------------------------------------------
@@ -162,178 +164,13 @@ class Plan(NamedTuple):
     zones: Tuple[Zone, ...]
 
 
-# --- the library ------------------------------------------------------------------------------
-
-_uint = ctypes.c_uint32
-_out = ctypes.POINTER(_uint)
-_address = ctypes.c_void_p
-_length = ctypes.c_size_t
-_Pair = ctypes.c_float * 2
-_Hits = ctypes.c_uint8 * 48
-_Zones = _uint * 24
-PLACES = 8  # the zones of a plan
-
-_PROTOTYPES = {
-    "bp_place": [_uint] * 6 + [_out] * 2,
-    "bp_locate": [_uint] * 5 + [_out] * 4,
-    "bp_fill": [_uint] * 4 + [_Pair, _address, _length, _address, _length],
-    "bp_empty": [_uint] * 4 + [_address, _length, _address, _length],
-    "bp_look": [_uint] * 4 + [_address, _length, _uint, _out, _Pair] + [_out] * 3,
-    "bp_ofusc_collisions": [_uint] * 5 + [_Hits, _out],
-    "bp_amc_collisions": [_uint] * 2 + [_Hits, _out],
-    "bp_plan_read": [_address, _length, _out, _out, _Zones],
-    "bp_plan_write": [_uint, _uint, _Zones, _address, _length, _out],
-}
-
-
-def _library_path():
-    root = os.path.dirname(os.path.dirname(os.path.abspath(__file__)))
-    return os.environ.get("BELLPULSAR_LIBRARY") or os.path.join(root, "target", "lib", "libbellpulsar.so")
-
-
-def _load(path):
-    if not os.path.exists(path):
-        raise ImportError(
-            "no Bellpulsar library at %s: run ./build.sh, or name the library in BELLPULSAR_LIBRARY" % path
-        )
-    try:
-        library = ctypes.CDLL(os.path.abspath(path))
-        for name, arguments in _PROTOTYPES.items():
-            function = getattr(library, name)
-            function.argtypes = arguments
-            function.restype = _uint
-    except (OSError, AttributeError) as error:
-        raise ImportError("%s is not a Bellpulsar library that can be loaded: %s" % (path, error)) from None
-    return library
-
-
-_engine = _load(_library_path())
-
-
-# --- numbers and buffers ----------------------------------------------------------------------
-
-_MOST = 2**32 - 1
-
-
-def _number(value):
-    """As the engine takes it: what 32 bits do not hold becomes their largest, which every question refuses."""
-    value = operator.index(value)
-    return value if 0 <= value <= _MOST else _MOST
-
-
-def _numbers(*values):
-    return [_number(value) for value in values]
-
-
-def _raise_if_refused(refusal):
-    if refusal:
-        raise Refusal(refusal)
-
-
-class _Held(ctypes.Structure):
-    """Py_buffer of Python's C interface; only `buf`, the address, is read here."""
-
-    _fields_ = [
-        ("buf", ctypes.c_void_p),
-        ("obj", ctypes.c_void_p),
-        ("len", ctypes.c_ssize_t),
-        ("itemsize", ctypes.c_ssize_t),
-        ("readonly", ctypes.c_int),
-        ("ndim", ctypes.c_int),
-        ("format", ctypes.c_char_p),
-        ("shape", ctypes.c_void_p),
-        ("strides", ctypes.c_void_p),
-        ("suboffsets", ctypes.c_void_p),
-        ("internal", ctypes.c_void_p),
-    ]
-
-
-_hold = ctypes.pythonapi.PyObject_GetBuffer
-_hold.argtypes = [ctypes.py_object, ctypes.POINTER(_Held), ctypes.c_int]
-_hold.restype = ctypes.c_int
-_let_go = ctypes.pythonapi.PyBuffer_Release
-_let_go.argtypes = [ctypes.POINTER(_Held)]
-_let_go.restype = None
-
-
-class _Element(NamedTuple):
-    """The unit in which a buffer's length is counted, and the formats that are read as it."""
-
-    name: str
-    bytes: int
-    formats: Tuple[str, ...]
-
-
-_FLOAT = _Element("32-bit floats", 4, ("f", "Zf"))
-_BYTE = _Element("bytes", 1, ("B", "b", "c"))
-_NATIVE = "@=<" if sys.byteorder == "little" else "@=>"
-
-
-def _check(view, name, element, writable):
-    """Of a buffer, all that the engine cannot see but its address."""
-    if view.format.lstrip(_NATIVE) not in element.formats:
-        raise TypeError("%s: a buffer of %s is needed, not of format %r" % (name, element.name, view.format))
-    if not view.c_contiguous:
-        raise BufferError("%s: the buffer is not contiguous" % name)
-    if writable and view.readonly:
-        raise BufferError("%s: the buffer is read-only" % name)
-
-
-def _view(buffer, name, element):
-    try:
-        return memoryview(buffer)
-    except TypeError:
-        raise TypeError("%s: a buffer of %s is needed, not %s" % (name, element.name, type(buffer).__name__)) from None
-
-
-class _Lent(NamedTuple):
-    """A buffer's memory while it is lent; the length counts elements, `end` is the address past it."""
-
-    address: int
-    length: int
-    end: int
-
-
-@contextlib.contextmanager
-def _lent(buffer, name, element, writable=False):
-    """Lends a buffer's own memory for one call, so that it neither moves nor goes away meanwhile."""
-    with _view(buffer, name, element) as view:
-        _check(view, name, element, writable)
-        held = _Held()
-        _hold(view, held, 0)  # 0: plain bytes; the view has told the rest
-        try:
-            address = held.buf or 0
-            if view.nbytes and address % element.bytes:
-                raise ValueError("%s: the buffer is not aligned to its elements" % name)
-            yield _Lent(address, view.nbytes // element.bytes, address + view.nbytes)
-        finally:
-            _let_go(held)
-
-
-def _apart(points, grid):
-    if max(points.address, grid.address) < min(points.end, grid.end):
-        raise ValueError("points and grid overlap")
-
-
-def _pilot_point(pilot):
-    """The pilot point's own two floats, bit for bit where it is a buffer."""
-    if isinstance(pilot, (int, float, complex)):
-        raise TypeError("pilot: two numbers are needed, in-phase and quadrature, not one")
-    if isinstance(pilot, (tuple, list)):
-        pilot = array.array("f", pilot)
-    with _lent(pilot, "pilot", _FLOAT) as lent:
-        if lent.length != 2:
-            raise ValueError("pilot: two floats are needed, not %d" % lent.length)
-        return _Pair.from_buffer_copy(ctypes.string_at(lent.address, 8))
-
-
 # --- the map ----------------------------------------------------------------------------------
 
 
 def place(mode, size, cell, slot, subchannel, index):
     """Where point `index` of a subchannel lies, as Place(symbol, carrier). Refusals 1, 2, 3, 4, 5, 6."""
-    symbol, carrier = _uint(), _uint()
-    _raise_if_refused(_engine.bp_place(*_numbers(mode, size, cell, slot, subchannel, index), symbol, carrier))
+    symbol, carrier = uint(), uint()
+    _raise_if_refused(engine.bp_place(*numbers(mode, size, cell, slot, subchannel, index), symbol, carrier))
     return Place(symbol.value, carrier.value)
 
 
@@ -345,8 +182,8 @@ def locate(mode, size, cell, symbol, carrier):
 
     kind is Kind.GUARD, Kind.DC, Kind.PILOT or Kind.DATA; the other three are None unless it is Kind.DATA.
     """
-    kind, slot, subchannel, index = _uint(), _uint(), _uint(), _uint()
-    _raise_if_refused(_engine.bp_locate(*_numbers(mode, size, cell, symbol, carrier), kind, slot, subchannel, index))
+    kind, slot, subchannel, index = uint(), uint(), uint(), uint()
+    _raise_if_refused(engine.bp_locate(*numbers(mode, size, cell, symbol, carrier), kind, slot, subchannel, index))
     what = _KINDS[kind.value]
     if what is Kind.DATA:
         return Located(what, slot.value, subchannel.value, index.value)
@@ -366,11 +203,11 @@ def fill(mode, size, cell, slot, pilot, points, grid):
     points: 96 floats for each subchannel, by subchannel and index, in-phase first.
     grid: 2 * size floats for each symbol of a slot, symbol after symbol, each by rising carrier.
     """
-    fields = _numbers(mode, size, cell, slot)
-    pilot = _pilot_point(pilot)
-    with _lent(points, "points", _FLOAT) as source, _lent(grid, "grid", _FLOAT, writable=True) as target:
-        _apart(source, target)
-        _raise_if_refused(_engine.bp_fill(*fields, pilot, source.address, source.length, target.address, target.length))
+    fields = numbers(mode, size, cell, slot)
+    pilot = pilot_point(pilot)
+    with lent(points, "points", FLOAT) as source, lent(grid, "grid", FLOAT, writable=True) as target:
+        apart(source, target)
+        _raise_if_refused(engine.bp_fill(*fields, pilot, source.address, source.length, target.address, target.length))
 
 
 def empty(mode, size, cell, slot, grid, points):
@@ -378,10 +215,10 @@ def empty(mode, size, cell, slot, grid, points):
 
     All points are written; only data carriers are read. The lengths are those of `fill`.
     """
-    fields = _numbers(mode, size, cell, slot)
-    with _lent(grid, "grid", _FLOAT) as source, _lent(points, "points", _FLOAT, writable=True) as target:
-        _apart(target, source)
-        _raise_if_refused(_engine.bp_empty(*fields, source.address, source.length, target.address, target.length))
+    fields = numbers(mode, size, cell, slot)
+    with lent(grid, "grid", FLOAT) as source, lent(points, "points", FLOAT, writable=True) as target:
+        apart(target, source)
+        _raise_if_refused(engine.bp_empty(*fields, source.address, source.length, target.address, target.length))
 
 
 _SEEN = {0: Kind.NOTHING, 2: Kind.PILOT, 3: Kind.DATA}
@@ -394,12 +231,12 @@ def look(mode, size, cell, symbol, grid, carrier):
     all of it. The point is a pair of Python floats, which hold every 32-bit float; only a signalling NaN comes out as
     a quiet one. Refusals 1, 2, 3, 4, 7, 9.
     """
-    mode, size, cell, symbol, carrier = _numbers(mode, size, cell, symbol, carrier)
-    kind, point, slot, subchannel, index = _uint(), _Pair(), _uint(), _uint(), _uint()
-    with _lent(grid, "grid", _FLOAT) as lent:
+    mode, size, cell, symbol, carrier = numbers(mode, size, cell, symbol, carrier)
+    kind, point, slot, subchannel, index = uint(), Pair(), uint(), uint(), uint()
+    with lent(grid, "grid", FLOAT) as memory:
         _raise_if_refused(
-            _engine.bp_look(
-                mode, size, cell, symbol, lent.address, lent.length, carrier, kind, point, slot, subchannel, index
+            engine.bp_look(
+                mode, size, cell, symbol, memory.address, memory.length, carrier, kind, point, slot, subchannel, index
             )
         )
     what = _SEEN[kind.value]
@@ -414,8 +251,8 @@ def look(mode, size, cell, symbol, grid, carrier):
 
 
 def _collisions(call, *fields):
-    hits, count = _Hits(), _uint()
-    _raise_if_refused(call(*_numbers(*fields), hits, count))
+    hits, count = Hits(), uint()
+    _raise_if_refused(call(*numbers(*fields), hits, count))
     return Collisions(tuple(hit != 0 for hit in hits), count.value)
 
 
@@ -425,7 +262,7 @@ def ofusc_collisions(size, cell_a, subchannel_a, cell_b, subchannel_b):
     hits[k] is group k, the data numbers N*k to N*k+N-1 of a symbol; every symbol has the same answer.
     Refusals 2, 3 (cell_a), 3 (cell_b), 5 (subchannel_a), 5 (subchannel_b), in this order.
     """
-    return _collisions(_engine.bp_ofusc_collisions, size, cell_a, subchannel_a, cell_b, subchannel_b)
+    return _collisions(engine.bp_ofusc_collisions, size, cell_a, subchannel_a, cell_b, subchannel_b)
 
 
 def amc_collisions(cell_a, cell_b):
@@ -433,10 +270,12 @@ def amc_collisions(cell_a, cell_b):
 
     The answer is the same in every subchannel, slot and size. Refusals 3 (cell_a), 3 (cell_b).
     """
-    return _collisions(_engine.bp_amc_collisions, cell_a, cell_b)
+    return _collisions(engine.bp_amc_collisions, cell_a, cell_b)
 
 
 # --- zone plans -------------------------------------------------------------------------------
+
+PLACES = 8  # the zones of a plan
 
 
 def plan_read(data):
@@ -444,9 +283,9 @@ def plan_read(data):
 
     data: any contiguous buffer of bytes. zones has as many Zone(mode, cell, slots) as the plan counts.
     """
-    count, size, places = _uint(), _uint(), _Zones()
-    with _lent(data, "data", _BYTE) as lent:
-        _raise_if_refused(_engine.bp_plan_read(lent.address, lent.length, count, size, places))
+    count, size, places = uint(), uint(), Zones()
+    with lent(data, "data", BYTE) as memory:
+        _raise_if_refused(engine.bp_plan_read(memory.address, memory.length, count, size, places))
     zones = [Zone(*places[at : at + 3]) for at in range(0, 3 * count.value, 3)]
     return Plan(size.value, tuple(zones))
 
@@ -457,7 +296,7 @@ def _zone(zone):
         mode, cell, slots = zone
     except (TypeError, ValueError) as error:
         raise type(error)("zones: three numbers are needed for each, mode, cell and slots, not %r" % (zone,)) from None
-    return _numbers(mode, cell, slots)
+    return numbers(mode, cell, slots)
 
 
 def plan_write(count, size, zones, dest):
@@ -467,13 +306,13 @@ def plan_write(count, size, zones, dest):
     dest: any writable, contiguous buffer of bytes. Refusals 12, 2, for each zone 1, 2, 3, 13, 14, then 16.
     `plan_bytes` is the same without count, unused places and destination.
     """
-    count, size = _numbers(count, size)
+    count, size = numbers(count, size)
     zones = [_zone(zone) for zone in zones]
     if len(zones) != PLACES:
         raise ValueError("zones: eight places are needed, not %d" % len(zones))
-    places, written = _Zones(*itertools.chain(*zones)), _uint()
-    with _lent(dest, "dest", _BYTE, writable=True) as lent:
-        _raise_if_refused(_engine.bp_plan_write(count, size, places, lent.address, lent.length, written))
+    places, written = Zones(*itertools.chain(*zones)), uint()
+    with lent(dest, "dest", BYTE, writable=True) as memory:
+        _raise_if_refused(engine.bp_plan_write(count, size, places, memory.address, memory.length, written))
     return written.value
 
 

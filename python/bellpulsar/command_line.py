@@ -6,10 +6,12 @@
 import argparse
 import os
 import re
+import signal
 import subprocess
 import sys
 
-ROOT = os.path.dirname(os.path.dirname(os.path.realpath(__file__)))
+from bellpulsar import Refusal, answers, library
+
 ANSWERED, REFUSED, FAILED = 0, 1, 2
 
 RANGES = """\
@@ -209,17 +211,8 @@ def read_arguments(arguments):
 # --- running ----------------------------------------------------------------------------------
 
 
-def build():
-    """Builds the library where it is missing or old; the builder tells so itself, on standard error."""
-    if not os.environ.get("BELLPULSAR_LIBRARY"):
-        subprocess.run([os.path.join(ROOT, "build.sh")], stdout=sys.stderr, check=True)
-
-
 def answer_to(options):
     """(exit status, text)."""
-    import answers  # loads the library, which may not have been there before
-    from bellpulsar import Refusal
-
     try:
         return ANSWERED, getattr(answers, options.answer)(options)
     except Refusal as refused:
@@ -246,7 +239,7 @@ def put(text, path):
 def main(arguments):
     options = read_arguments(arguments)
     try:
-        build()
+        library.build()
         status, text = answer_to(options)
         put(text, options.output if status == ANSWERED else None)
         return status
@@ -259,3 +252,11 @@ def main(arguments):
         message = str(error)
     print("bellpulsar: " + message, file=sys.stderr)
     return FAILED
+
+
+def run():
+    """The command itself."""
+    # A closed pipe and an interrupt end it without a word.
+    signal.signal(signal.SIGPIPE, signal.SIG_DFL)
+    signal.signal(signal.SIGINT, signal.SIG_DFL)
+    sys.exit(main(sys.argv[1:]))
