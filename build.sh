@@ -2,19 +2,25 @@
 # Proves the engine and builds its C library, build/libbellpulsar.a and build/libbellpulsar.so. Nothing is done where both
 # are made from what the tree has now: that goes by content, whose hash is in build/stamp.
 #
-#     ./build.sh            builds what is missing or old
+#     ./build.sh            builds what is missing or old; status 0, or 2 where that fails
 #     ./build.sh --check    builds nothing; status 0 where both are current, 1 where they are not
 #
 # CC (which may be several words), CFLAGS and LDFLAGS are used where the shared library is linked; they are no part of
 # the hash.
 set -euf
+
+# A stream that is closed would become the next pipe or file that is opened.
+(: >&2) || exec 2>/dev/null
+(: >&1) 2>/dev/null || exec >/dev/null
+(: <&0) 2>/dev/null || exec </dev/null
+
 cd "$(dirname "$0")"
 case $# in
 0) ;;
 *) [ "$*" = --check ] || { echo "usage: build.sh [--check]" >&2; exit 2; } ;;
 esac
 
-# Standard error may be closed.
+# Standard error may be full.
 say() { echo "bellpulsar: $*" >&2 || :; }
 
 # The crates that the library is made from, each after those that it needs.
@@ -42,6 +48,7 @@ is_current() {
 
 if is_current; then exit 0; fi
 if [ $# -eq 1 ]; then exit 1; fi
+trap '[ $? -eq 0 ] || exit 2' EXIT
 
 # One build at a time. The prover's processes hold the lock too: it is free when the last of them has ended.
 mkdir -p build
@@ -78,8 +85,8 @@ while IFS= read -r line; do
     esac
 done <"$new/said"
 if ! wait "$prover"; then
-    cat build/log >&2
-    exit 1
+    cat build/log >&2 || :
+    exit 2
 fi
 say "capi proved ($total of $total)"
 

@@ -238,10 +238,25 @@ class Building(Case):
         self.edit("crates", "map", "src", "lib.rt")
         for _ in range(2):
             done = self.build()
-            self.assertEqual((done.stdout, done.returncode), ("", 1))
+            self.assertEqual((done.stdout, done.returncode), ("", 2))
             self.assertIn("rt: map NOT PROVED\n", done.stderr)
             self.assertEqual(self.build("--check").returncode, 1)
         self.assertEqual(self.calls(), ["called"] * 2)
+        self.assertEqual(self.run_in_tree("sh", "examples/c/run.sh", "point", *ASKED[1:]).returncode, 2)
+
+    def test_a_compiler_that_fails(self):
+        self.assertEqual(self.run_in_tree("sh", "examples/c/run.sh", "point", *ASKED[1:], CC="false").returncode, 2)
+        self.stub("rt", PROVES)
+        self.edit("crates", "map", "src", "lib.rt")
+        self.assertEqual(self.build(CC="false").returncode, 2)
+        self.assertEqual(self.build("--check").returncode, 1)
+
+    def test_streams_that_are_closed_or_full(self):
+        self.stub("rt", PROVES)
+        for streams in ("2>&-", "2>/dev/full", "<&- >&- 2>&-"):
+            self.edit("crates", "map", "src", "lib.rt")
+            self.assertEqual(self.run_in_tree("sh", "-c", "./build.sh " + streams).returncode, 0, streams)
+            self.assertEqual(self.run_in_tree("sh", "-c", "./build.sh --check " + streams).returncode, 0, streams)
 
     def test_two_at_once(self):
         self.stub("rt", PROVES)

@@ -59,10 +59,11 @@ class Case(unittest.TestCase):
         text = "refused %d: %s\n" % (number, QUESTION[number])
         self.assertEqual((done.stdout.decode(), done.stderr, done.returncode), (text, b"", 1), line)
 
-    def not_understood(self, line):
-        done = run(*shlex.split(line))
-        self.assertEqual((done.stdout, done.returncode), (b"", 2), line)
-        self.assertRegex(done.stderr.decode(), r"^usage: bellpulsar[\s\S]*: error: ", line)
+    def not_understood(self, *arguments):
+        done = run(*arguments)
+        self.assertEqual((done.stdout, done.returncode), (b"", 2), arguments)
+        self.assertRegex(done.stderr.decode(), r"^usage: bellpulsar[\s\S]*: error: [^\0]*\n$", arguments)
+        self.assertNotIn(b"x00", done.stderr)
 
     def fails(self, message, *arguments, **options):
         done = run(*arguments, **options)
@@ -174,6 +175,8 @@ class Plans(Case):
             with open(path, "wb") as file:
                 file.write(data)
             self.prints("plan read --file '%s'" % path, EXAMPLE_TEXT)
+            os.rename(path, os.path.join(directory, "-1"))
+            self.prints("plan read --file -1", EXAMPLE_TEXT, cwd=directory)
 
     def test_write(self):
         self.prints("plan write 1024 2,17,3 3,176,1", EXAMPLE + "\n")
@@ -342,7 +345,34 @@ class Pictures(Case):
             self.assertGreater(os.path.getsize(path), 1000)
             os.remove(path)
             self.refused(3, "picture slot 2 256 16 0 --output %s" % path)
-            self.assertFalse(os.path.exists(path))
+            self.assertEqual(os.listdir(directory), [])
+
+    def test_output_of_any_name(self):
+        picture = run("picture", "slot", 2, 256, 0, 0).stdout
+        self.prints("picture slot 2 256 0 0 --output -", picture.decode())
+        for name in ("-1.svg", "-x", "--help", " a b", "-1", "=", "\udcff"):
+            with tempfile.TemporaryDirectory() as directory:
+                for words in (["--output", name], ["--output=" + name]):
+                    done = run("picture", "slot", 2, 256, 0, 0, *words, cwd=directory)
+                    self.assertEqual((done.stdout, done.stderr, done.returncode), (b"", b"", 0))
+                    self.assertEqual(os.listdir(directory), [name])
+                    with open(os.path.join(directory, name), "rb") as file:
+                        self.assertEqual(file.read(), picture)
+
+    def test_output_over_what_is_there(self):
+        with tempfile.TemporaryDirectory() as directory:
+            real, link = os.path.join(directory, "real"), os.path.join(directory, "link")
+            with open(real, "w"):
+                os.chmod(real, 0o640)
+            os.symlink("real", link)
+            self.prints("picture slot 2 256 0 0 --output %s" % link, "")
+            self.assertTrue(os.path.islink(link))
+            self.assertGreater(os.path.getsize(real), 1000)
+            self.assertEqual(os.stat(real).st_mode & 0o777, 0o640)
+            pipe = os.path.join(directory, "pipe")
+            os.mkfifo(pipe)
+            done = run_shell("'%s' picture slot 2 256 0 0 --output '%s' & cat '%s'; wait $!" % (COMMAND, pipe, pipe))
+            self.assertEqual((done.stdout, done.returncode), (run("picture", "slot", 2, 256, 0, 0).stdout, 0))
 
     def test_refusals(self):
         self.refused(1, "picture slot 4 2048 0 0")
@@ -410,25 +440,22 @@ class Usage(Case):
             self.assertEqual(run(*shlex.split(line)).stdout.decode(), text, line)
 
     def test_not_understood(self):
-        self.not_understood("")
-        self.not_understood("plan")
-        self.not_understood("nothing")
-        self.not_understood("place 2 1024 17 0 0")
-        self.not_understood("place 2 1024 17 0 0 0 0")
-        self.not_understood("locate 2 1024 17 0 0 --index 3")
-        self.not_understood("collisions 48 176")
-        self.not_understood("plan read")
-        self.not_understood("plan read 01 --file x")
-        self.not_understood("plan write")
-        self.not_understood("picture subchannel 0 2048 0 1")
+        lines = ["", "plan", "nothing", "-1", "place 2 1024 17 0 0", "place 2 1024 17 0 0 0 0", "place 2 1024 17 0 0 0 -1"]
+        lines += ["locate 2 1024 17 0 0 --index 3", "collisions 48 176", "plan read", "plan read 01 --file x", "plan write"]
+        lines += ["picture subchannel 0 2048 0 1", "picture slot 0 2048 0 1 --output", "show 2 256 0 0 --sub 1"]
+        for line in lines:
+            self.not_understood(*line.split())
 
     def test_what_is_no_number(self):
-        for word in ("x", "1.0", "0x10", "1_000", "''", "'1 2'", "+1", "--1", "-", "1e3", "\u0663", "12\\\n3x"):
-            self.not_understood("place 2 1024 17 0 0 %s" % word)
-        for word in ("1,2", "1,2,3,4", "1,2,x", "2;3;4", "1,,2"):
-            self.not_understood("plan write 1024 %s" % word)
-        for word in ("8", "0g", "0x01", "-1", "1 2"):
-            self.not_understood("plan read 01 '%s'" % word)
+        words = ["x", "1.0", "0x10", "1_000", "", "1 2", "+1", "--1", "-", "1e3", "\u0663", "12\n3x", "-1.svg"]
+        for word in words + [" 1", "1 ", "\t1", "1\n", " -1", "- 1", "-1 ", "-\u0663"]:
+            self.not_understood("place", 2, 1024, 17, 0, 0, word)
+            self.not_understood("show", 2, 1024, 17, 0, "--subchannel", word)
+            self.not_understood("plan", "write", 1024, "2,%s,1" % word)
+        for word in ("1,2", "1,2,3,4", "1,2,x", "2;3;4", "1,,2", " 1,2,3", "1,2,3 ", "-1, 2,3"):
+            self.not_understood("plan", "write", 1024, word)
+        for word in ("8", "0g", "0x01", "-1", "1 2", " 01", "01 "):
+            self.not_understood("plan", "read", "01", word)
 
 
 class Failures(Case):
@@ -439,7 +466,45 @@ class Failures(Case):
     def test_output_that_cannot_be_written(self):
         arguments = ("picture", "slot", 2, 256, 0, 0, "--output")
         self.fails("bellpulsar: /none/slot.svg: No such file or directory\n", *arguments, "/none/slot.svg")
-        self.fails("bellpulsar: No space left on device\n", *arguments, "/dev/full")
+        self.fails("bellpulsar: /dev/full: No space left on device\n", *arguments, "/dev/full")
+
+    def test_a_picture_that_is_not_whole_is_not_there(self):
+        with tempfile.TemporaryDirectory() as directory:
+            path = os.path.join(directory, "slot.svg")
+            line = "ulimit -f 8; exec '%s' picture slot 2 256 0 0 --output '%s'" % (COMMAND, path)
+            for kept in (None, b"kept"):
+                if kept:
+                    with open(path, "wb") as file:
+                        file.write(kept)
+                done = run_shell(line)
+                self.assertEqual((done.stdout, done.returncode), (b"", 2))
+                self.assertEqual(done.stderr.decode(), "bellpulsar: %s: File too large\n" % path)
+                self.assertEqual(os.listdir(directory), ["slot.svg"] if kept else [])
+            with open(path, "rb") as file:
+                self.assertEqual(file.read(), kept)
+
+    def test_what_cannot_be_told_still_fails(self):
+        """Where standard error is closed, full or read by nobody."""
+        answer = "place 2 1024 17 0 0 0"
+        for words in ("nothing", "place 2", answer + " >/dev/full", answer + " >&-", "plan read --file /none", "--help >&-"):
+            for errors in ("2>&-", "2>/dev/full"):
+                done = run_shell("'%s' %s %s" % (COMMAND, words, errors))
+                self.assertEqual(done.returncode, 2, words + errors)
+            with tempfile.NamedTemporaryFile() as file:
+                run_shell("{ sleep 0.1; '%s' %s; echo $? >'%s'; } 2>&1 >/dev/null | true" % (COMMAND, words, file.name))
+                self.assertEqual(file.read(), b"2\n", words)
+        done = run_shell("BELLPULSAR_LIBRARY=/none '%s' %s 2>&-" % (COMMAND, answer))
+        self.assertEqual((done.stdout, done.returncode), (b"", 2))
+        done = run_shell("'%s' place 9 0 0 0 0 0 2>&-" % COMMAND)
+        self.assertEqual((done.stdout[:10], done.returncode), (b"refused 1:", 1))
+
+    def test_help_that_cannot_be_written(self):
+        for words in ("--help", "place --help", "plan --help"):
+            for target in ("/dev/full", "&-"):
+                for buffered in ("", "PYTHONUNBUFFERED=1 "):
+                    done = run_shell("%s'%s' %s >%s" % (buffered, COMMAND, words, target))
+                    self.assertEqual(done.returncode, 2, words)
+                    self.assertRegex(done.stderr, b"^bellpulsar: .*\n$")
 
     def test_standard_output_that_is_full_or_closed(self):
         for target, message in (("/dev/full", "No space left on device"), ("&-", "standard output is closed")):
