@@ -4,10 +4,13 @@
     python3 tests/test_command_line.py
 """
 
+import contextlib
+import io
 import os
 import re
 import shlex
 import subprocess
+import sys
 import tempfile
 import unittest
 import xml.etree.ElementTree as ElementTree
@@ -15,6 +18,10 @@ import xml.etree.ElementTree as ElementTree
 import reference as ref
 
 ROOT = os.path.dirname(os.path.dirname(os.path.abspath(__file__)))
+sys.path.insert(0, os.path.join(ROOT, "python"))
+
+from bellpulsar import command_line  # noqa: E402
+
 COMMAND = os.path.join(ROOT, "bellpulsar")
 SVG = "{http://www.w3.org/2000/svg}"
 
@@ -60,10 +67,13 @@ class Case(unittest.TestCase):
         self.assertEqual((done.stdout.decode(), done.stderr, done.returncode), (text, b"", 1), line)
 
     def not_understood(self, *arguments):
-        done = run(*arguments)
-        self.assertEqual((done.stdout, done.returncode), (b"", 2), arguments)
-        self.assertRegex(done.stderr.decode(), r"^usage: bellpulsar[\s\S]*: error: [^\0]*\n$", arguments)
-        self.assertNotIn(b"x00", done.stderr)
+        """In this process, since there are many such."""
+        told = io.StringIO()
+        with self.assertRaises(SystemExit) as ended, contextlib.redirect_stderr(told):
+            command_line.read_arguments([str(word) for word in arguments])
+        self.assertEqual(ended.exception.code, 2, arguments)
+        self.assertRegex(told.getvalue(), r"^usage: bellpulsar[\s\S]*: error: [^\0]*\n$", arguments)
+        self.assertNotIn("x00", told.getvalue())
 
     def fails(self, message, *arguments, **options):
         done = run(*arguments, **options)
@@ -259,17 +269,17 @@ def of_class(root, tag, name):
 
 
 def drawn_slot(root):
-    """The class of each (symbol in the slot, carrier), from the outlines of the paths."""
-    found = {}
+    """The class of each (symbol in the slot, carrier), and what one is told who points at it, from the outlines."""
+    found, told = {}, {}
     for number, band in enumerate(of_class(root, "g", "band")):
-        for path in band.iter(SVG + "path"):
-            outline = re.findall(r"M(\d+) (\d+)h(\d+)v20h-\3z", path.get("d"))
-            for x, y, width in (map(int, part) for part in outline if path.get("class")):
+        for part in band.iter(SVG + "g"):
+            for path in part.iter(SVG + "path") if part is not band else ():
+                x, y, width = map(int, re.fullmatch(r"M(\d+) (\d+)h(\d+)v20h-\3z", path.get("d")).groups())
                 for carrier in range(x // CARRIER, (x + width) // CARRIER):
                     place = (y // SYMBOL, BAND * number + carrier)
                     assert place not in found
-                    found[place] = path.get("class")
-    return found
+                    found[place], told[place] = part.get("class"), path.find(SVG + "title").text
+    return found, told
 
 
 def slot_as_drawn(mode, size, cell, slot, picked):
@@ -283,6 +293,15 @@ def slot_as_drawn(mode, size, cell, slot, picked):
     return found
 
 
+def is_told(title, symbol, carrier, what):
+    """Whether a title says of this symbol and carrier what the reference has there."""
+    where, content = title.split(": ")
+    carriers = re.fullmatch(r"symbol (\d+), carriers? (\d+)(?: to (\d+))?", where).groups()
+    first, last = int(carriers[1]), int(carriers[2] or carriers[1])
+    wanted = "subchannel %d, index %d" % what[2:] if what[0] == ref.DATA else {ref.DC: "DC"}.get(what[0], what[0])
+    return int(carriers[0]) == symbol and first <= carrier <= last and content == wanted
+
+
 def texts(node):
     return [part.text for part in node.iter(SVG + "text")]
 
@@ -291,9 +310,14 @@ class Pictures(Case):
     def test_every_carrier_of_a_slot(self):
         for mode, size, cell, slot in ((0, 2048, 5, 3), (1, 2048, 69, 511), (2, 256, 15, 2), (3, 1024, 2351, 1)):
             root = drawing("slot", mode, size, cell, slot)
-            self.assertEqual(drawn_slot(root), slot_as_drawn(mode, size, cell, slot, None))
+            found, told = drawn_slot(root)
+            self.assertEqual(found, slot_as_drawn(mode, size, cell, slot, None))
+            for (offset, carrier), title in told.items():
+                symbol = slot * ref.SLOT_LENGTH[mode] + offset
+                what = ref.locate(mode, size, cell, symbol, carrier)[1]
+                self.assertTrue(is_told(title, symbol, carrier, what), title)
             self.assertEqual(len(of_class(root, "g", "band")), size // BAND)
-            fills = {path.get("class"): path.get("fill") for path in root.iter(SVG + "path") if path.get("class")}
+            fills = {part.get("class"): part.get("fill") for part in root.iter(SVG + "g") if part.get("fill")}
             self.assertEqual(len(set(fills.values())), 3 + ref.subchannels(mode, size))
             words = texts(root)
             for word in ("guard", "DC", "pilot", "carrier", "symbol", str(size - 1)):
@@ -304,26 +328,26 @@ class Pictures(Case):
 
     def test_the_legend_has_the_colours_of_the_paths(self):
         root = drawing("slot", 0, 2048, 5, 3)
-        fills = {path.get("class"): path.get("fill") for path in root.iter(SVG + "path")}
+        fills = {part.get("class"): part.get("fill") for part in root.iter(SVG + "g")}
         swatches = [box.get("fill") for box in of_class(root, "g", "legend")[1].iter(SVG + "rect")]
         self.assertEqual(swatches, [fills["subchannel-%d" % number] for number in range(60)])
 
     def test_a_subchannel_picked_out(self):
         root = drawing("slot", 2, 1024, 17, 0, "--subchannel", 3)
-        found = drawn_slot(root)
+        found, told = drawn_slot(root)
         self.assertEqual(found, slot_as_drawn(2, 1024, 17, 0, 3))
+        self.assertEqual(told[0, 87], "symbol 0, carrier 87: subchannel 0, index 0")
         self.assertEqual(list(found.values()).count("subchannel-3"), 48)
         self.assertIn("data of subchannel 3", texts(root))
 
     def test_subchannels(self):
-        cases = [(0, 2048, 3, 1, [0, 1, 31]), (1, 2048, 0, 69, [7]), (2, 512, 4, 7, [9, 9])]
-        for mode, size, slot, subchannel, cells in cases:
-            root = drawing("subchannel", mode, size, slot, subchannel, *cells)
+        cases = [(0, 2048, [0, 1, 31], 3, 1), (1, 2048, [7], 0, 69), (2, 512, [9, 9], 4, 7), (3, 1024, [48, 176], 5, 2)]
+        for mode, size, cells, slot, subchannel in cases:
+            root = drawing("subchannel", mode, size, ",".join(map(str, cells)), slot, subchannel)
             panels = of_class(root, "g", "panel")
             self.assertEqual(len(panels), len(cells))
-            all_places = []
-            for cell, panel in zip(cells, panels):
-                places = [ref.place(mode, size, cell, slot, subchannel, index)[1:] for index in range(48)]
+            points = [[ref.place(mode, size, cell, slot, subchannel, index)[1:] for index in range(48)] for cell in cells]
+            for at, (cell, panel, places) in enumerate(zip(cells, panels, points)):
                 marks = of_class(panel, "circle", "point")
                 drawn = [round(float(mark.get("cx")) * size / 1280 - 0.5, 2) for mark in marks]
                 self.assertEqual([round(carrier) for carrier in drawn], [carrier for _, carrier in places])
@@ -331,9 +355,33 @@ class Pictures(Case):
                 self.assertEqual(heights, sorted(heights, reverse=True))
                 self.assertEqual(len({mark.get("fill") for mark in marks}), ref.SLOT_LENGTH[mode])
                 self.assertIn("cell %d" % cell, texts(panel))
-                all_places += places
-            shared = [mark for mark in root.iter(SVG + "circle") if mark.get("class") == "point shared"]
-            self.assertEqual(len(shared), sum(all_places.count(place) > 1 for place in all_places))
+                for index, (mark, place) in enumerate(zip(marks, places)):
+                    others = [
+                        (other, its.index(place))
+                        for other, its in zip(cells[:at] + cells[at + 1 :], points[:at] + points[at + 1 :])
+                        if place in its and (mode != ref.AMC or its.index(place) == index)
+                    ]
+                    self.assertEqual(mark.get("class") == "point shared", others != [], (cell, index))
+                    title = "cell %d, symbol %d, carrier %d: subchannel %d, index %d" % (cell, *place, subchannel, index)
+                    title += "".join("; also index %d of cell %d" % (its, other) for other, its in others)
+                    self.assertEqual(mark.find(SVG + "title").text, title)
+
+    def rings(self, *arguments):
+        """The indices that are ringed in each panel."""
+        panels = of_class(drawing("subchannel", *arguments), "g", "panel")
+        return [
+            [index for index, mark in enumerate(of_class(panel, "circle", "point")) if mark.get("class") == "point shared"]
+            for panel in panels
+        ]
+
+    def test_rings_agree_with_the_collisions(self):
+        hits = [j for j, hit in enumerate(ref.amc_collisions(48, 176)[1]) if hit]
+        self.assertEqual(hits, [8, 24, 32])
+        self.assertEqual(self.rings(3, 256, "48,176", 0, 3), [hits, hits])
+        self.assertEqual(self.rings(3, 2048, "7,7", 511, 31), [list(range(48))] * 2)
+        for cells in ((0, 244), (0, 17)):
+            count = ref.ofusc_collisions(1024, cells[0], 2, cells[1], 2)[2]
+            self.assertEqual([len(ringed) for ringed in self.rings(2, 1024, "%d,%d" % cells, 3, 2)], [count] * 2)
 
     def test_output(self):
         with tempfile.TemporaryDirectory() as directory:
@@ -378,8 +426,10 @@ class Pictures(Case):
         self.refused(1, "picture slot 4 2048 0 0")
         self.refused(4, "picture slot 0 2048 0 -1 --subchannel -1")
         self.refused(5, "picture slot 0 2048 0 0 --subchannel 60")
-        self.refused(3, "picture subchannel 0 2048 0 1 0 32")
-        self.refused(5, "picture subchannel 0 2048 511 60 0")
+        self.refused(3, "picture subchannel 0 2048 0,32 0 1")
+        self.refused(3, "picture subchannel 0 2048 -1,0 0 1")
+        self.refused(4, "picture subchannel 0 2048 0 512 60")
+        self.refused(5, "picture subchannel 0 2048 0 511 60")
 
     def test_the_pictures_of_the_documentation(self):
         with open(os.path.join(ROOT, "docs", "pictures", "README.md")) as file:
@@ -389,7 +439,7 @@ class Pictures(Case):
             with open(os.path.join(ROOT, path)) as file:
                 text = file.read()
             self.prints(line, text)
-            self.assertLess(len(text), 300000)
+            self.assertLess(len(text), 400000)
 
 
 def numbered(count):
@@ -442,9 +492,12 @@ class Usage(Case):
     def test_not_understood(self):
         lines = ["", "plan", "nothing", "-1", "place 2 1024 17 0 0", "place 2 1024 17 0 0 0 0", "place 2 1024 17 0 0 0 -1"]
         lines += ["locate 2 1024 17 0 0 --index 3", "collisions 48 176", "plan read", "plan read 01 --file x", "plan write"]
-        lines += ["picture subchannel 0 2048 0 1", "picture slot 0 2048 0 1 --output", "show 2 256 0 0 --sub 1"]
+        lines += ["picture subchannel 0 2048 0 1", "picture subchannel 0 2048 0, 1 1", "picture slot 0 2048 0 1 --output", "show 2 256 0 0 --sub 1"]
         for line in lines:
             self.not_understood(*line.split())
+        done = run("place", 2, 1024, 17, 0, 0, " 1")
+        self.assertEqual((done.stdout, done.returncode), (b"", 2))
+        self.assertRegex(done.stderr, rb"^usage: bellpulsar place[\s\S]*: error: argument INDEX: ' 1' is not a number\n$")
 
     def test_what_is_no_number(self):
         words = ["x", "1.0", "0x10", "1_000", "", "1 2", "+1", "--1", "-", "1e3", "\u0663", "12\n3x", "-1.svg"]

@@ -108,4 +108,4 @@ def slot_picture(options):
 
 
 def subchannel_picture(options):
-    return picture.subchannel(options.mode, options.size, options.slot, options.subchannel, options.cells)
+    return picture.subchannel(options.mode, options.size, options.cells, options.slot, options.subchannel)

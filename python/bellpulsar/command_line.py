@@ -64,6 +64,7 @@ FIELDS = {
     "mode": "0 PUSC downlink, 1 PUSC uplink, 2 optional FUSC, 3 AMC",
     "size": "the FFT size",
     "cell": "the permutation base",
+    "cells": "one or more cells",
     "slot": "the slot's number in the zone",
     "subchannel": "the subchannel's number",
     "index": "the point's number in its subchannel and slot",
@@ -96,6 +97,10 @@ def zone(text):
     if len(parts) != 3:
         raise argparse.ArgumentTypeError("%r is not a zone: MODE,CELL,SLOTS is needed" % text)
     return tuple(number(part) for part in parts)
+
+
+def cells(text):
+    return [number(part) for part in text.removeprefix(SHIELD).split(",")]
 
 
 def hex_word(text):
@@ -144,7 +149,7 @@ def sentence(summary):
 
 
 def command(commands, name, answer, summary, example, fields, notes=RANGES):
-    """A command whose fields are numbers; `answer` names its function in answers.py."""
+    """A command whose fields are numbers, or cells; `answer` names its function in answers.py."""
     parser = commands.add_parser(
         name,
         help=summary,
@@ -153,7 +158,8 @@ def command(commands, name, answer, summary, example, fields, notes=RANGES):
     )
     parser.set_defaults(answer=answer, output=None)
     for field in fields:
-        parser.add_argument(field, type=number, metavar=field.upper(), help=FIELDS[field])
+        kind, name = (cells, "CELL[,CELL..]") if field == "cells" else (number, field.upper())
+        parser.add_argument(field, type=kind, metavar=name, help=FIELDS[field])
     return parser
 
 
@@ -213,19 +219,21 @@ A row has 64 carriers, each a character; the number at the left is that of the r
     showing.add_argument("--subchannel", type=number, help="pick out the data of this subchannel")
 
 
+def add_output(drawing):
+    drawing.add_argument("--output", metavar="FILE", help="the file to write; without it, or as -, standard output")
+
+
 def add_pictures(commands):
     kinds = branch(commands, "picture", "SVG pictures")
     example = "  ./bellpulsar picture slot 0 2048 5 3 --output slot.svg"
     summary = "a slot: carriers along x, symbols along y, a colour for each subchannel"
     drawing = command(kinds, "slot", "slot_picture", summary, example, ["mode", "size", "cell", "slot"])
     drawing.add_argument("--subchannel", type=number, help="pick out the data of this subchannel")
-    drawing.add_argument("--output", metavar="FILE", help="the file to write; otherwise standard output")
-    example = "  ./bellpulsar picture subchannel 0 2048 0 1 0 1 31 --output subchannel.svg"
+    add_output(drawing)
+    example = "  ./bellpulsar picture subchannel 0 2048 0,1,31 0 1 --output subchannel.svg"
     summary = "a subchannel's points: carriers along x, indices along y, a panel for each cell"
-    fields = ["mode", "size", "slot", "subchannel"]
-    drawing = command(kinds, "subchannel", "subchannel_picture", summary, example, fields)
-    drawing.add_argument("cells", nargs="+", type=number, metavar="CELL", help="one or more cells")
-    drawing.add_argument("--output", metavar="FILE", help="the file to write; otherwise standard output")
+    fields = ["mode", "size", "cells", "slot", "subchannel"]
+    add_output(command(kinds, "subchannel", "subchannel_picture", summary, example, fields))
 
 
 def argument_parser():
