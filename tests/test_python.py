@@ -362,6 +362,7 @@ class Grids(unittest.TestCase):
         points = points_for(2, 256)
         pilots = [(0.5, -2), [0.5, -2.0], array("f", [0.5, -2]), (ctypes.c_float * 2)(0.5, -2)]
         pilots += [memoryview(array("f", [0.5, -2])), memoryview(array("f", [9, 0.5, -2]))[1:]]
+        pilots += [0.5 - 2j, complex(0.5, -2.0)]
         for pilot in pilots:
             grid = grid_for(2, 256)
             bp.fill(2, 256, 0, 0, pilot, points, grid)
@@ -528,10 +529,18 @@ class NoRefusal(unittest.TestCase):
     def test_pilot(self):
         for pilot in ((), (1,), (1, 2, 3), [1.0] * 3, floats(0), floats(1), floats(3), (ctypes.c_float * 4)()):
             self.fails(ValueError, bp.fill, 2, 256, 0, 0, pilot, self.points, self.grid)
-        for pilot in (1.0, 1 + 2j, None, "12", array("d", [1, 2]), bytes(8), iter((1, 2))):
+        for pilot in (1, 1.0, None, "12", array("d", [1, 2]), bytes(8), iter((1, 2)), ("1", "2"), (1j, 0), (None, 0)):
             self.fails(TypeError, bp.fill, 2, 256, 0, 0, pilot, self.points, self.grid)
-        self.assertRaises(TypeError, bp.fill, 2, 256, 0, 0, ("1", "2"), self.points, self.grid)
         self.fails(BufferError, bp.fill, 2, 256, 0, 0, memoryview(floats(4))[::2], self.points, self.grid)
+
+    def test_a_pilot_that_no_float_holds(self):
+        for number in (3.5e38, -3.5e38, 1e308, 2**128, -(10**400)):
+            for pilot in ((number, 0), [0, number]):
+                self.fails(OverflowError, bp.fill, 2, 256, 0, 0, pilot, self.points, self.grid)
+        for pilot in (3.5e38 + 0j, 3.5e38j):
+            self.fails(OverflowError, bp.fill, 2, 256, 0, 0, pilot, self.points, self.grid)
+        for number in (3.4028234663852886e38, -3.4028234663852886e38, float("inf"), 1e-60):
+            bp.fill(2, 256, 0, 0, (number, 0), points_for(2, 256), grid_for(2, 256))
 
     def test_points_and_grid_overlap(self):
         for at in (0, 1, 128, 383, 511):
@@ -711,6 +720,29 @@ class Loading(unittest.TestCase):
             last = imported_with(other).stderr.splitlines()[-1]
             self.assertTrue(last.startswith("ImportError: %s is not a Bellpulsar library" % other), last)
 
+    def test_the_command_line(self):
+        for words, status, text in (("2 1024 17 0 0 0", 0, "symbol 0 carrier 87\n"), ("2 1024 17 0 0 x", 2, "")):
+            command = [sys.executable, "-m", "bellpulsar", "place", *words.split()]
+            env = dict(os.environ, PYTHONPATH=os.path.join(ROOT, "python"))
+            done = subprocess.run(command, env=env, cwd="/", capture_output=True, text=True, timeout=60)
+            self.assertEqual((done.stdout, done.returncode), (text, status), done.stderr)
+
+    def test_names(self):
+        """What `from bellpulsar import *` gives is all that the module has for its users."""
+        found = {}
+        exec("from bellpulsar import *", found)
+        calls = [name for name, thing in vars(bp).items() if getattr(thing, "__module__", "") == "bellpulsar"]
+        public = {name for name in calls if not name.startswith("_")}
+        modes = {"PUSC_DL", "PUSC_UL", "OFUSC", "AMC"}
+        self.assertEqual(set(found) - {"__builtins__"}, public | modes | {"QUESTIONS"})
+        self.assertEqual(len(bp.__all__), len(set(bp.__all__)))
+
+    def test_what_is_said_of_numpy(self):
+        command = [sys.executable, os.path.abspath(__file__), "Numpy"]
+        done = subprocess.run(command, capture_output=True, text=True, timeout=60)
+        last = "python: 2 tests, with numpy" if numpy else "python: 2 tests, numpy not here: 2 skipped"
+        self.assertEqual((done.stdout.splitlines()[-1:], done.returncode), ([last], 0))
+
     def test_the_examples_of_the_module_and_the_readme(self):
         readme = os.path.join(ROOT, "README.md")
         for failed, tried in (doctest.testmod(bp), doctest.testfile(readme, module_relative=False)):
@@ -744,4 +776,7 @@ class Numpy(unittest.TestCase):
 
 
 if __name__ == "__main__":
-    unittest.main()
+    tests = unittest.main(exit=False).result
+    skipped = "with numpy" if numpy else "numpy not here: %d skipped" % len(tests.skipped)
+    print("python: %d tests, %s" % (tests.testsRun, skipped))
+    sys.exit(not tests.wasSuccessful())

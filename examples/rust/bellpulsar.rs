@@ -2,7 +2,9 @@
 //!
 //! Put this file beside your program, write `mod bellpulsar;`, and link the static library:
 //!
-//!     rustc --edition 2021 -O yours.rs -L native=build -l static=bellpulsar
+//!     rustc --edition 2024 -O yours.rs -L native=build -l static=bellpulsar
+//!
+//! Edition 2021 or 2024, rustc 1.82 or later.
 //!
 //! Any number may stand in any field, and a slice may have any length: what is out of range is refused by the engine
 //! itself, with the number of the first question of document 01 that is answered no. On a refusal no lent slice is
@@ -15,7 +17,7 @@ use std::fmt;
 
 #[rustfmt::skip] // As the header has them.
 mod c {
-    extern "C" {
+    unsafe extern "C" {
         pub fn bp_place(
             mode: u32, size: u32, cell: u32, slot: u32, subchannel: u32, index: u32,
             symbol: *mut u32, carrier: *mut u32,

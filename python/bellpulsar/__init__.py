@@ -56,6 +56,33 @@ from typing import NamedTuple, Optional, Tuple
 from .buffers import BYTE, FLOAT, apart, lent, pilot_point
 from .library import Hits, Pair, Zones, engine, numbers, uint
 
+__all__ = [
+    "PUSC_DL",
+    "PUSC_UL",
+    "OFUSC",
+    "AMC",
+    "QUESTIONS",
+    "Refusal",
+    "Kind",
+    "Place",
+    "Located",
+    "Point",
+    "Seen",
+    "Collisions",
+    "Zone",
+    "Plan",
+    "place",
+    "locate",
+    "fill",
+    "empty",
+    "look",
+    "ofusc_collisions",
+    "amc_collisions",
+    "plan_read",
+    "plan_write",
+    "plan_bytes",
+]
+
 PUSC_DL, PUSC_UL, OFUSC, AMC = 0, 1, 2, 3
 
 # The questions of document 01, by number.
@@ -199,7 +226,7 @@ def fill(mode, size, cell, slot, pilot, points, grid):
     The whole grid is written: the points on data carriers, the pilot point on pilots, 0.0 on guards and DC. Bits are
     copied as they are, those of a NaN too.
 
-    pilot: two numbers (rounded to 32-bit floats), or a buffer of two floats.
+    pilot: a complex number or two numbers (rounded to 32-bit floats), or a buffer of two floats.
     points: 96 floats for each subchannel, by subchannel and index, in-phase first.
     grid: 2 * size floats for each symbol of a slot, symbol after symbol, each by rising carrier.
     """
@@ -275,7 +302,7 @@ def amc_collisions(cell_a, cell_b):
 
 # --- zone plans -------------------------------------------------------------------------------
 
-PLACES = 8  # the zones of a plan
+_PLACES = 8  # the zones of a plan
 
 
 def plan_read(data):
@@ -308,7 +335,7 @@ def plan_write(count, size, zones, dest):
     """
     count, size = numbers(count, size)
     zones = [_zone(zone) for zone in zones]
-    if len(zones) != PLACES:
+    if len(zones) != _PLACES:
         raise ValueError("zones: eight places are needed, not %d" % len(zones))
     places, written = Zones(*itertools.chain(*zones)), uint()
     with lent(dest, "dest", BYTE, writable=True) as memory:
@@ -317,7 +344,7 @@ def plan_write(count, size, zones, dest):
 
 
 _UNUSED = Zone(0, 0, 0)
-_LONGEST = 3 * (2 + 3 * PLACES)  # bytes: a value takes three at most
+_LONGEST = 3 * (2 + 3 * _PLACES)  # bytes: a value takes three at most
 
 
 def plan_bytes(size, zones):
@@ -328,5 +355,5 @@ def plan_bytes(size, zones):
     """
     zones = list(zones)
     dest = bytearray(_LONGEST)
-    written = plan_write(len(zones), size, (zones + [_UNUSED] * PLACES)[:PLACES], dest)
+    written = plan_write(len(zones), size, (zones + [_UNUSED] * _PLACES)[:_PLACES], dest)
     return bytes(dest[:written])

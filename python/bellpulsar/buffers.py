@@ -3,6 +3,7 @@
 import array
 import contextlib
 import ctypes
+import struct
 import sys
 from typing import NamedTuple, Tuple
 
@@ -94,12 +95,26 @@ def apart(points, grid):
         raise ValueError("points and grid overlap")
 
 
+def _rounded(pair):
+    """Two numbers as 32-bit floats."""
+    if len(pair) != 2:
+        raise ValueError("pilot: two numbers are needed, not %d" % len(pair))
+    try:
+        return Pair.from_buffer_copy(struct.pack("=2f", *array.array("d", pair)))
+    except OverflowError:
+        raise OverflowError("pilot: a number is beyond 32-bit floats") from None
+    except TypeError:
+        raise TypeError("pilot: two numbers are needed, not %r" % (pair,)) from None
+
+
 def pilot_point(pilot):
     """The pilot point's own two floats, bit for bit where it is a buffer."""
-    if isinstance(pilot, (int, float, complex)):
-        raise TypeError("pilot: two numbers are needed, in-phase and quadrature, not one")
+    if isinstance(pilot, complex):
+        return _rounded((pilot.real, pilot.imag))
     if isinstance(pilot, (tuple, list)):
-        pilot = array.array("f", pilot)
+        return _rounded(pilot)
+    if isinstance(pilot, (int, float)):
+        raise TypeError("pilot: a complex number or two numbers are needed, in-phase and quadrature, not one")
     with lent(pilot, "pilot", FLOAT) as memory:
         if memory.length != 2:
             raise ValueError("pilot: two floats are needed, not %d" % memory.length)
