@@ -1,4 +1,4 @@
--- Elements with digits below 7: their numbers in base seven, and addition, which is a rotation of each digit. Assumes nothing.
+-- Elements with digits below 7: their numbers in base seven, and addition, which is a rotation of each digit.
 use mathlib.Core.Path.{_≡_, sym, ap, _∙_}
 use Prim.Native.Nat.{ℕ, _+_, _/_, _%_, _<_}
 use native.Mathlib.Omega.{arith}

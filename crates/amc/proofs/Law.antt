@@ -1,4 +1,4 @@
--- AMC numbers the data carriers of a symbol one for one: index j and v are a rotation, the sequence P, a sum and the zero rule apart. Assumes nothing.
+-- AMC numbers the data carriers of a symbol one for one: index j and v are a rotation, the sequence P, a sum and the zero rule apart.
 use mathlib.Core.Path.{_≡_, ap, _∙_}
 use Prim.Native.Nat.{ℕ, _+_, _-_, _*_, _/_, _%_, _<_}
 use native.Mathlib.Omega.{arith}

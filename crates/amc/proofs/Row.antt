@@ -1,4 +1,4 @@
--- A row of data numbers by the places of P. Assumes nothing.
+-- A row of data numbers by the places of P.
 use mathlib.Core.Path.{_≡_, refl, ap, _∙_, subst}
 use Prim.Native.Nat.{ℕ, _+_, _-_, _*_, _/_, _%_, _<_}
 use native.Mathlib.Omega.{arith}

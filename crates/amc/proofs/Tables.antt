@@ -1,4 +1,4 @@
--- The sequence P against its rule: document 004's list holds the powers of 22, they are the 48 elements other than zero, and `positions` says where each stands. Each a test computed over the whole table. Assumes nothing.
+-- The sequence P against its rule: document 004's list holds the powers of 22, they are the 48 elements other than zero, and `positions` says where each stands. Each a test computed over the whole table.
 use mathlib.Core.Path.{_≡_, refl, subst}
 use Prim.Native.Nat.{ℕ, _*_, _+_, _-_, _/_, _%_, _<_}
 use native.Mathlib.Omega.{arith}

@@ -1,4 +1,4 @@
--- The zero rule is a bijection: it takes the sums other than off to the elements other than zero, and `sumOf` takes them back. Assumes nothing.
+-- The zero rule is a bijection: it takes the sums other than off to the elements other than zero, and `sumOf` takes them back.
 use mathlib.Core.Path.{_≡_, refl, sym, ap, _∙_}
 use lib.Dec.{lit<, eqb}
 use borrow.Author.Tests.{eqb-true, eqb-false, eq-eqb, ne-eqb}

@@ -1,9 +1,13 @@
--- A chain of questions, link by link. Assumes nothing.
+-- A chain of questions: what it does to the answer that comes after it.
 use mathlib.Core.Path.{_≡_, refl}
 use mathlib.Core.Bool.{Bool, true, false}
-use Prim.Native.Nat.{ℕ}
+use Prim.Native.Nat.{ℕ, suc}
 use native.Mathlib.Omega.{arith}
-use Rattle.base.specs.Answer.{Answer, accepted, ask}
+use lib.Dec.{eqb}
+use borrow.Author.Tests.{eq-eqb, ne-eqb}
+use Rattle.base.specs.Choice.{pick}
+use Rattle.base.specs.Answer.{Answer, accepted, refused, ask, refusalOf}
+use Rattle.base.proofs.Test.{cases}
 
 -- where a request is accepted, each question was answered yes
 pub ask-yes : {A : Type 0} (b : Bool) (k : ℕ) (rest : Answer A) {a : A} → ask b k rest ≡ accepted a → (b ≡ true) × (rest ≡ accepted a)
@@ -12,3 +16,35 @@ ask-yes false k rest e = absurd (let z : _≡_ {A = ℕ} 0 1 = cc in omega arith
 
 pub same-accepted : {A : Type 0} {a b : A} → accepted a ≡ accepted b → a ≡ b
 same-accepted e = cc
+
+-- the refusal of a number, or what comes after the chain where the number is 0
+abbrev pub numbered : {A : Type 0} → ℕ → Answer A → Answer A
+numbered n rest = pick (eqb n 0) rest (refused n)
+
+module _ {A : Type 0} (n : ℕ) (rest : Answer A) where
+  pub yes-all : n ≡ 0 → numbered n rest ≡ rest
+  yes-all e = rw (eq-eqb n 0 e)
+
+  pub no-first : (n ≡ 0 → ⊥) → numbered n rest ≡ refused n
+  no-first h = rw (ne-eqb n 0 h)
+
+-- one chain after another
+pub twice : {A : Type 0} (n m : ℕ) (rest : Answer A) → numbered n (numbered m rest) ≡ numbered (pick (eqb n 0) m n) rest
+twice n m rest = cases (eqb n 0) (λ e. rw e) (λ e. rw (e, e))
+
+-- THE LAW OF A CHAIN, link by link from its end: before any answer it is the refusal of the number that it comes to by itself, or that answer.
+pub record Numbered {A : Type 0} (chain rest : Answer A) (alone : Answer (Unit {0})) : Type 0 where
+  pub is : chain ≡ numbered (refusalOf alone) rest
+
+pub no-question : {A : Type 0} {rest : Answer A} → Numbered rest rest (accepted tt)
+no-question = record { is = refl }
+
+pub question : {A : Type 0} (b : Bool) (k : ℕ) {chain rest : Answer A} {alone : Answer (Unit {0})} → Numbered chain rest alone
+    → Numbered (ask b (suc k) chain) rest (ask b (suc k) alone)
+question true k e = e
+question false k e = record { is = rw (ne-eqb (suc k) 0 (λ z. omega arith)) }
+
+-- its number is 0 only where each question is answered yes
+pub number-yes : {A : Type 0} (b : Bool) (k : ℕ) (rest : Answer A) → refusalOf (ask b (suc k) rest) ≡ 0 → (b ≡ true) × (refusalOf rest ≡ 0)
+number-yes true k rest e = (refl, e)
+number-yes false k rest e = absurd (omega arith)

@@ -1,4 +1,4 @@
--- Leaving one place out loses nothing: `skip p` goes onto the places other than p, and `unskip p` comes back. Assumes nothing.
+-- Leaving one place out loses nothing: `skip p` goes onto the places other than p, and `unskip p` comes back.
 use mathlib.Core.Path.{_≡_, refl, ap, _∙_}
 use mathlib.Core.Bool.{Bool, true, false}
 use Prim.Native.Nat.{ℕ, _+_, _-_, _<_, _≤_}

@@ -1,4 +1,4 @@
--- A permutation of 0..n-1 with its inverse; the rotation, and the composition of two. Assumes nothing.
+-- A permutation of 0..n-1 with its inverse; the rotation, and the composition of two.
 use mathlib.Core.Path.{_≡_, ap, _∙_}
 use Prim.Native.Nat.{ℕ, _+_, _-_, _*_, _/_, _%_, _<_}
 use native.Mathlib.Nat.{mod-lt, mod-eq-of-lt, mod-add-mod, add-mul-mod-self-right, div-add-mod', add-assoc, add-mul, one-mul}

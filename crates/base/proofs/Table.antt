@@ -1,4 +1,4 @@
--- The rule of a table, proved at all of its entries by one test that is computed, one entry after the other. Assumes nothing.
+-- The rule of a table, proved at all of its entries by one test that is computed, one entry after the other.
 use mathlib.Core.Path.{_≡_, _∙_, subst, sym}
 use mathlib.Core.Bool.{Bool, true}
 use mathlib.Core.List.{List, [], _∷_}

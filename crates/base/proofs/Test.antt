@@ -1,4 +1,4 @@
--- Tests that are computed, and facts from them. Assumes nothing.
+-- Tests that are computed, and facts from them.
 use mathlib.Core.Path.{_≡_, refl}
 use mathlib.Core.Bool.{Bool, true, false, not}
 use lib.Dec.{T}

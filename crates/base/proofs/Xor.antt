@@ -1,4 +1,4 @@
--- The exclusive or is associative, so that adding the same element twice changes nothing. Assumes nothing.
+-- The exclusive or is associative, so that adding the same element twice changes nothing.
 use mathlib.Core.Path.{_≡_, refl, sym, ap, ap₂, _∙_}
 use Prim.Native.Nat.{ℕ, zero, suc, _+_, _*_, _/_, _%_, _<_}
 use native.Mathlib.Nat.{mod-lt}

@@ -12,6 +12,6 @@ ask true number rest = rest
 ask false number rest = refused number
 
 -- Document 01's number of an answer, 0 where the request is accepted.
-abbrev pub number : {A : Type 0} → Answer A → ℕ
-number (accepted a) = 0
-number (refused k) = k
+abbrev pub refusalOf : {A : Type 0} → Answer A → ℕ
+refusalOf (accepted a) = 0
+refusalOf (refused k) = k

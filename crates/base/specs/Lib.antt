@@ -3,3 +3,4 @@ pub mod Choice
 pub mod Answer
 pub mod Steps
 pub mod Tabulate
+pub mod Model

@@ -1,4 +1,4 @@
--- Marks written as bytes, and the outcome of an answer. Assumes nothing.
+-- Marks written as bytes, and the outcome of an answer.
 use mathlib.Core.Path.{_≡_, refl, sym, _∙_}
 use mathlib.Core.Bool.{Bool, true, false}
 use mathlib.Core.List.{List, map}

@@ -1,4 +1,4 @@
--- What the answers of `look` come to at the C boundary, and that their numbers fit there. Assumes nothing.
+-- What the answers of `look` come to at the C boundary, and that their numbers fit there.
 use mathlib.Core.Path.{_≡_, refl, sym, ap, _∙_, subst}
 use mathlib.Core.Bool.{Bool, true, false}
 use mathlib.Core.List.{List}

@@ -1,4 +1,4 @@
--- What the answers of `place` and `locate` come to at the C boundary, and that their numbers fit there. Assumes nothing.
+-- What the answers of `place` and `locate` come to at the C boundary, and that their numbers fit there.
 use mathlib.Core.Path.{_≡_, sym, ap, _∙_}
 use Prim.Native.Nat.{ℕ, _<_}
 use Rattle.base.specs.Answer.{Answer}

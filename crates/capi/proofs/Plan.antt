@@ -1,4 +1,4 @@
--- What plans come to at the C boundary, and that their numbers fit there. Assumes nothing.
+-- What plans come to at the C boundary, and that their numbers fit there.
 use mathlib.Core.Path.{_≡_, refl, sym, ap, _∙_}
 use mathlib.Core.Bool.{true}
 use mathlib.Core.Logic.{⊎-elim}

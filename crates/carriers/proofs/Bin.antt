@@ -1,4 +1,4 @@
--- The data places of bins: a mode that numbers the data carriers of a symbol meets the law of a slot. Assumes nothing.
+-- The data places of bins: a mode that numbers the data carriers of a symbol meets the law of a slot.
 use mathlib.Core.Path.{_≡_, sym, ap, ap₂, _∙_}
 use mathlib.Core.Bool.{false}
 use Prim.Native.Nat.{ℕ, _+_, _*_, _/_, _%_, _<_, _≤_}

@@ -1,4 +1,4 @@
--- Used numbers and the carriers that are neither guard nor DC are the same, one for one. Assumes nothing.
+-- Used numbers and the carriers that are neither guard nor DC are the same, one for one.
 use mathlib.Core.Path.{_≡_, refl, sym, ap, _∙_}
 use mathlib.Core.Bool.{true, false}
 use Prim.Native.Nat.{ℕ, _+_, _-_, _*_, _<_, _≤_}
@@ -12,17 +12,17 @@ use Rattle.base.proofs.LeaveOut.{unskip-skip, skip-unskip, skip-ne, skip-lt, un
 use Rattle.carriers.specs.declared.Band.{Band}
 use Rattle.carriers.specs.Band.{binBand, puscBand, carrierOf, usedOf, isGuard, isDc}
 
--- left guards, the used carriers with DC before the used number `turn`, right guards: together the symbol
+-- left guards, the used carriers with DC before the used number `half`, right guards: together the symbol
 pub record BandLaw (b : Band) (size : ℕ) : Type 0 where
-  pub dc-is : b .dc ≡ b .left + b .turn
-  pub turn-le : b .turn ≤ b .used
+  pub dc-is : b .dc ≡ b .left + b .half
+  pub half-le : b .half ≤ b .used
   pub size-is : size ≡ b .left + (b .used + 1) + b .right
 
 pub pusc-band : BandLaw puscBand 2048
-pusc-band = record { dc-is = refl; turn-le = omega arith; size-is = refl }
+pusc-band = record { dc-is = refl; half-le = omega arith; size-is = refl }
 
 pub bin-band : (n : ℕ) → 0 < n → BandLaw (binBand n) (64 * n)
-bin-band n h = record { dc-is = omega arith; turn-le = omega arith; size-is = omega arith }
+bin-band n h = record { dc-is = omega arith; half-le = omega arith; size-is = omega arith }
 
 cancel : (a x : ℕ) → a + x - a ≡ x
 cancel a x = omega arith
@@ -43,37 +43,37 @@ module _ (b : Band) (size : ℕ) (law : BandLaw b size) where
   module _ (u : ℕ) (h : u < b .used) where
     pub carrier-lt : carrierOf b u < size
     unfolding carrierOf
-    carrier-lt = let l = skip-lt (b .turn) u h in let e = law .size-is in omega arith
+    carrier-lt = let l = skip-lt (b .half) u h in let e = law .size-is in omega arith
 
     pub carrier-no-guard : isGuard b size (carrierOf b u) ≡ false
     unfolding isGuard carrierOf
     carrier-no-guard =
-        let l = skip-lt (b .turn) u h in
+        let l = skip-lt (b .half) u h in
         let e = law .size-is in
         rw (le-ltb (carrierOf b u) (b .left) (omega arith), lt-leb (size - b .right) (carrierOf b u) (omega arith))
 
     pub carrier-no-dc : isDc b (carrierOf b u) ≡ false
     unfolding isDc carrierOf
-    carrier-no-dc = ne-eqb (carrierOf b u) (b .dc) (λ e. skip-ne (b .turn) u (let d = law .dc-is in omega arith))
+    carrier-no-dc = ne-eqb (carrierOf b u) (b .dc) (λ e. skip-ne (b .half) u (let d = law .dc-is in omega arith))
 
     pub used-carrier : usedOf b (carrierOf b u) ≡ u
     unfolding usedOf carrierOf
-    used-carrier = ap (unskip (b .turn)) (cancel (b .left) (skip (b .turn) u)) ∙ unskip-skip (b .turn) u
+    used-carrier = ap (unskip (b .half)) (cancel (b .left) (skip (b .half) u)) ∙ unskip-skip (b .half) u
 
   -- the used number of a carrier that is no guard and not DC
   module _ (carrier : ℕ) (g : isGuard b size carrier ≡ false) (d : isDc b carrier ≡ false) where
     pub used-left : b .left ≤ carrier
     used-left = guard-cases b size carrier g .0
 
-    not-turn : carrier - b .left ≡ b .turn → ⊥
+    not-half : carrier - b .left ≡ b .half → ⊥
     unfolding isDc
-    not-turn e = eqb-false carrier (b .dc) d (let l = used-left in let k = law .dc-is in omega arith)
+    not-half e = eqb-false carrier (b .dc) d (let l = used-left in let k = law .dc-is in omega arith)
 
     pub used-lt : usedOf b carrier < b .used
     unfolding usedOf
-    used-lt = unskip-lt (b .turn) (carrier - b .left) (law .turn-le) not-turn
+    used-lt = unskip-lt (b .half) (carrier - b .left) (law .half-le) not-half
         (let p = guard-cases b size carrier g in let e = law .size-is in omega arith)
 
     pub carrier-used : carrierOf b (usedOf b carrier) ≡ carrier
     unfolding usedOf carrierOf
-    carrier-used = ap (λ w. b .left + w) (skip-unskip (b .turn) (carrier - b .left) not-turn) ∙ (let l = used-left in omega arith)
+    carrier-used = ap (λ w. b .left + w) (skip-unskip (b .half) (carrier - b .left) not-half) ∙ (let l = used-left in omega arith)

@@ -1,4 +1,4 @@
--- The law of a slot speaks only of its own symbols: pilots and addresses may be given otherwise elsewhere. Assumes nothing.
+-- The law of a slot speaks only of its own symbols: pilots and addresses may be given otherwise elsewhere.
 use mathlib.Core.Path.{_≡_, sym, _∙_, subst⁻¹}
 use mathlib.Core.Bool.{Bool}
 use Prim.Native.Nat.{ℕ, _<_}

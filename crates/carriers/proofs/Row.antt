@@ -1,4 +1,4 @@
--- A spot's carrier by sums of steps. Assumes nothing.
+-- A spot's carrier by sums of steps.
 use mathlib.Core.Path.{_≡_}
 use Prim.Native.Nat.{_%_, _<_}
 use native.Mathlib.Omega.{arith}

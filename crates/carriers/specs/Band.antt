@@ -8,19 +8,19 @@ use Rattle.carriers.specs.declared.Band.{Band}
 
 -- Document 01, "Carriers of modes 2 and 3": 5N left guards, 5N-1 right guards, DC at 32N. Used number u is 0..54N-1, without DC; one more where u is 27N or above.
 abbrev pub binBand : ℕ → Band
-binBand n = record { left = 5 * n; right = 5 * n - 1; dc = 32 * n; used = 54 * n; turn = 27 * n }
+binBand n = record { left = 5 * n; right = 5 * n - 1; dc = 32 * n; used = 54 * n; half = 27 * n }
 
 -- Document 01, "Partial usage": 184 left guards, DC 1024, 183 right; u is 0..1679; one more from u = 840.
 abbrev pub puscBand : Band
-puscBand = record { left = 184; right = 183; dc = 1024; used = 1680; turn = 840 }
+puscBand = record { left = 184; right = 183; dc = 1024; used = 1680; half = 840 }
 
 -- The same sentences: carrier = 5N+u (184+u), and one more where u is 27N (840) or above.
 unfoldable pub carrierOf : Band → ℕ → ℕ
-carrierOf b u = b .left + skip (b .turn) u
+carrierOf b u = b .left + skip (b .half) u
 
 -- The used number of a carrier that is no guard and not DC.
 unfoldable pub usedOf : Band → ℕ → ℕ
-usedOf b carrier = unskip (b .turn) (carrier - b .left)
+usedOf b carrier = unskip (b .half) (carrier - b .left)
 
 -- The guards are the first `left` and the last `right` carriers of the symbol.
 unfoldable pub isGuard : Band → ℕ → ℕ → Bool

@@ -14,4 +14,4 @@ carrierNumber b x = x .offset * 2048 + carrierOf b (x .used)
 
 -- from the one to the other by sums of steps
 unfoldable pub carrierStep : Band → ℕ → ℕ
-carrierStep b x = x + b .left + pick (leb (b .turn) (x % 2048)) 1 0
+carrierStep b x = x + b .left + pick (leb (b .half) (x % 2048)) 1 0

@@ -5,7 +5,8 @@ ghost use mathlib.Core.Path.{_≡_};
 ghost use mathlib.Core.Bool.{false};
 ghost use Prim.Native.Nat.{_+_, _≤_, _<_};
 ghost use Rattle.base.specs.Steps.{entry};
-ghost use Rattle.base.specs.Tabulate.{tabulate, Below};
+ghost use Rattle.base.specs.Tabulate.{tabulate};
+ghost use Rattle.base.specs.Model.{Below};
 ghost use Rattle.carriers.specs.Band.{binBand, puscBand, carrierOf, usedOf, isGuard, isDc};
 ghost use Rattle.carriers.specs.Model.{carrierStep};
 ghost use Rattle.carriers.specs.Bin.{binPilotPlace, isBinPilot, usedOfData, dataOfUsed};
@@ -18,7 +19,7 @@ pub struct Band {
     // How many used numbers there are, DC not counted.
     pub used: usize,
     // The used number from which on a carrier is one more, since DC lies below it.
-    pub turn: usize,
+    pub half: usize,
 }
 
 // Where a point of a slot lies: the symbol, counted in the slot, and the used number.
@@ -42,7 +43,7 @@ pub fn bin_band(n: usize) -> Band
         right: 5 * n - 1,
         dc: 32 * n,
         used: 54 * n,
-        turn: 27 * n,
+        half: 27 * n,
     }
 }
 
@@ -54,7 +55,7 @@ pub fn pusc_band() -> Band
         right: 183,
         dc: 1024,
         used: 1680,
-        turn: 840,
+        half: 840,
     }
 }
 
@@ -62,14 +63,14 @@ pub fn carrier(b: Band, u: usize) -> usize
     requires { ⌜ (b .left < 65536) × (u < 65536) ⌝ }
     ensures { λ r. ⌜ r ≡ carrierOf b u ⌝ }
 {
-    b.left + skip(b.turn, u)
+    b.left + skip(b.half, u)
 }
 
 pub fn used(b: Band, carrier: usize) -> usize
     requires { ⌜ b .left ≤ carrier ⌝ }
     ensures { λ r. ⌜ r ≡ usedOf b carrier ⌝ }
 {
-    unskip(b.turn, carrier - b.left)
+    unskip(b.half, carrier - b.left)
 }
 
 pub fn is_guard(b: Band, size: usize, carrier: usize) -> bool
@@ -133,16 +134,16 @@ pub fn used_numbers(y: usize, numbers: [u16; 48]) -> [u16; 48]
 
 // The carriers of a row of spots, both as numbers.
 pub fn carrier_row(b: Band, spots: [u16; 48]) -> [u16; 48]
-    requires { ⌜ (b .left < 8192) × (b .turn < 8192) × Below 48 8192 spots ⌝ }
+    requires { ⌜ (b .left < 8192) × (b .half < 8192) × Below 48 8192 spots ⌝ }
     ensures { λ r. ⌜ r ≡ tabulate 48 (λ k. carrierStep b (entry spots k)) ⌝ }
 {
     let left = b.left as u16;
-    let turn = b.turn as u16;
+    let half = b.half as u16;
     let mut row = [0; 48];
     let mut k = 0;
     while k < 48 {
         let x = spots[k];
-        row[k] = x + left + (turn <= x % 2048) as u16;
+        row[k] = x + left + (half <= x % 2048) as u16;
         k += 1;
     }
     row

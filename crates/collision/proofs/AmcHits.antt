@@ -1,4 +1,4 @@
--- The hits of AMC as places: in a slot of one symbol, two cells put index j of a subchannel on one carrier just where they give the same v. Assumes nothing.
+-- The hits of AMC as places: in a slot of one symbol, two cells put index j of a subchannel on one carrier just where they give the same v.
 use mathlib.Core.Path.{_≡_, sym, ap, _∙_}
 use mathlib.Core.Bool.{true}
 use Prim.Native.Nat.{ℕ, _+_, _*_, _/_, _%_, _<_}
@@ -11,7 +11,7 @@ use Rattle.ofusc.proofs.Sequence.{pos}
 use Rattle.amc.specs.Map.{traffic, dataNumber}
 use Rattle.amc.proofs.Law.{law}
 use Rattle.map.specs.Place.{Place, placeOf}
-use Rattle.map.specs.Valid.{setup}
+use Rattle.map.specs.Valid.{setupWith}
 use Rattle.collision.specs.Collision.{amcHit}
 use Rattle.collision.specs.Figure.{SamePlace}
 use Rattle.collision.proofs.Group.{same-number}
@@ -22,7 +22,7 @@ same-v : (s v u : ℕ) → (6 * s + v / 8) * 8 + v % 8 ≡ (6 * s + u / 8) * 8 +
 same-v s v u e = omega arith
 
 module _ {n : ℕ} (w : Width n) (a b : ℕ) (ha : a < 2352) (hb : b < 2352) (slot s j : ℕ) (hy : slot < 512) (hs : s < n) (hj : j < 48) where
-  pub amc-met : amcHit a b j ≡ true → SamePlace (placeOf (setup 3 (64 * n) a) slot s j) (placeOf (setup 3 (64 * n) b) slot s j)
+  pub amc-met : amcHit a b j ≡ true → SamePlace (placeOf (setupWith 3 (64 * n) a) slot s j) (placeOf (setupWith 3 (64 * n) b) slot s j)
   unfolding amcHit dataNumber
   amc-met e =
       record {
@@ -31,7 +31,7 @@ module _ {n : ℕ} (w : Width n) (a b : ℕ) (ha : a < 2352) (hb : b < 2352) (sl
         second = amc-placed w b slot s j hy hs hj hb ∙ ap (λ (v : ℕ). accepted (at n slot ((6 * s + v / 8) * 8 + v % 8))) (sym (eqb-true (traffic a j) (traffic b j) e));
       }
 
-  pub amc-meets : SamePlace (placeOf (setup 3 (64 * n) a) slot s j) (placeOf (setup 3 (64 * n) b) slot s j) → amcHit a b j ≡ true
+  pub amc-meets : SamePlace (placeOf (setupWith 3 (64 * n) a) slot s j) (placeOf (setupWith 3 (64 * n) b) slot s j) → amcHit a b j ≡ true
   unfolding amcHit dataNumber
   amc-meets c =
       let q : at n slot (dataNumber a s j) ≡ at n slot (dataNumber b s j) = same-accepted (sym (amc-placed w a slot s j hy hs hj ha) ∙ c .first ∙ sym (c .second) ∙ amc-placed w b slot s j hy hs hj hb) in

@@ -1,4 +1,4 @@
--- What two cells add in group k, as a polynomial of 2^k: the first sequence goes by 2^k, the second by its square, and different cells have different coefficients. Assumes nothing.
+-- What two cells add in group k, as a polynomial of 2^k: the first sequence goes by 2^k, the second by its square, and different cells have different coefficients.
 use mathlib.Core.Path.{_≡_, refl, sym, ap, ap₂, _∙_}
 use Prim.Native.Nat.{ℕ, zero, suc, _+_, _-_, _*_, _/_, _%_, _<_}
 use native.Mathlib.Nat.{mod-lt, div-add-mod', div-lt-iff-lt-mul}

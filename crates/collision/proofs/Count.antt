@@ -1,4 +1,4 @@
--- Counting marks. Assumes nothing.
+-- Counting marks.
 use mathlib.Core.Path.{_≡_, refl, sym, ap, _∙_}
 use mathlib.Core.Bool.{Bool, true, false}
 use mathlib.Core.List.{List, [], _∷_, _++_}

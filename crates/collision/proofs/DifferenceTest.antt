@@ -1,4 +1,4 @@
--- Differences of entries of P, by a test that is computed. Assumes nothing.
+-- Differences of entries of P, by a test that is computed.
 use mathlib.Core.Path.{_≡_}
 use mathlib.Core.Bool.{Bool}
 use Prim.Native.Nat.{ℕ, suc, _+_, _%_, _<_}

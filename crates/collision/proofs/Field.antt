@@ -1,4 +1,4 @@
--- The algebra behind the figures of optional FUSC, once over N. With x = 2^k, a hit in group k means d + A·x + B·x² = 0; A and B are not both 0 where the cells differ, and then at most two x solve it. Doubling is all the multiplication that this takes. Assumes nothing.
+-- The algebra behind the figures of optional FUSC, once over N. With x = 2^k, a hit in group k means d + A·x + B·x² = 0; A and B are not both 0 where the cells differ, and then at most two x solve it. Doubling is all the multiplication that this takes.
 use mathlib.Core.Path.{_≡_, refl, sym, ap, _∙_}
 use Prim.Native.Nat.{ℕ, zero, suc, _+_, _-_, _*_, _/_, _%_, _<_}
 use native.Mathlib.Nat.{zero-add, suc-add, zero-mul, suc-mul, div-add-mod'}

@@ -1,4 +1,4 @@
--- The fields of the four N, each fact a test that is computed. Assumes nothing.
+-- The fields of the four N, each fact a test that is computed.
 use mathlib.Core.Bool.{Bool, true}
 use Prim.Native.Nat.{ℕ, suc, _-_}
 use lib.Dec.{eqb, ltb, eqb→eq, ltb→lt}

@@ -1,4 +1,4 @@
--- THE PLANNERS' FIGURES: theorems about placing (`placeOf`) and about what the two calls return (`ofuscOf` and `amcOf`), lettered as in docs/FIGURES.md. `Width n` says that N is 4, 8, 16 or 32; the size is 64·N, and a cell allowed there is below N·N. Assumes nothing.
+-- THE PLANNERS' FIGURES: theorems about placing (`placeOf`) and about what the two calls return (`ofuscOf` and `amcOf`), lettered as in docs/FIGURES.md. `Width n` says that N is 4, 8, 16 or 32; the size is 64·N, and a cell allowed there is below N·N.
 use mathlib.Core.Path.{_≡_, refl, sym, _∙_, subst, subst⁻¹}
 use mathlib.Core.Logic.{_↔_}
 use Prim.Native.Nat.{ℕ, _+_, _-_, _*_, _/_, _<_, _≤_}
@@ -19,7 +19,7 @@ use Rattle.amc.specs.Map.{off, zeroRule, elementOf, traffic}
 use Rattle.map.specs.Mode.{width, cells, subchannels, band, spotOf}
 use Rattle.map.specs.Question.{isFourSizes, isCell, isSubchannel}
 use Rattle.map.specs.Place.{Place, placeAt, placeOf}
-use Rattle.map.specs.Valid.{setup}
+use Rattle.map.specs.Valid.{setupWith}
 use Rattle.map.proofs.Accept.{width-is}
 use Rattle.map.proofs.Law.{placing}
 use Rattle.map.proofs.ByMode.{in-ofusc}
@@ -33,11 +33,11 @@ use Rattle.collision.proofs.AmcHits.{amc-met, amc-meets}
 use Rattle.collision.proofs.ThreeKinds.{at-most-three}
 
 -- a. Each subchannel has one point in group k: that of index (k - 23s) mod 48, and of no other.
-pub a-index : {n : ℕ} → Width n → (cell slot s m k : ℕ) (p : Place) → k < 48 → placeOf (setup 2 (64 * n) cell) slot s m ≡ accepted p
+pub a-index : {n : ℕ} → Width n → (cell slot s m k : ℕ) (p : Place) → k < 48 → placeOf (setupWith 2 (64 * n) cell) slot s m ≡ accepted p
     → InGroup n (p .symbol) k (p .carrier) ↔ (m ≡ indexIn s k)
 unfolding subchannels width
 a-index {n} w cell slot s m k p hk e =
-    let q = placing (setup 2 (64 * n) cell) slot s m e in
+    let q = placing (setupWith 2 (64 * n) cell) slot s m e in
     let hs = rw (width-is n) at (q .subchannel-lt) in
     let hc = rw (width-is n) at (in-ofusc (q .is-valid) refl .cell-lt) in
     let here = same-accepted (sym (ofusc-placed w cell slot s m (q .slot-lt) hs (q .index-lt) hc) ∙ e) in (
@@ -64,7 +64,7 @@ rows-enough n32 = (omega arith, refl)
 module _ {n : ℕ} (w : Width n) (a b : ℕ) (ha : a < n * n) (hb : b < n * n) (s t : ℕ) (hs : s < n) (ht : t < n) where
   -- a. Whatever the symbol, mark k is set exactly when s under a and t under b are placed on the same carrier in group k.
   pub a-mark : (slot k : ℕ) → slot < 512 → k < 48
-      → Marked (ofuscOf (64 * n) a s b t .hits) k ↔ SameInGroup n k (placeOf (setup 2 (64 * n) a) slot s) (placeOf (setup 2 (64 * n) b) slot t)
+      → Marked (ofuscOf (64 * n) a s b t .hits) k ↔ SameInGroup n k (placeOf (setupWith 2 (64 * n) a) slot s) (placeOf (setupWith 2 (64 * n) b) slot t)
   a-mark slot k hy hk =
       let mark = ofusc-mark w a s b t ha hb hs ht k hk in
       (λ e. met w a s b t ha hb hs ht slot k hy hk (sym mark ∙ e), λ c. mark ∙ meets w a s b t ha hb hs ht slot k hy hk c)
@@ -108,7 +108,7 @@ f-one-cell w a s t ha hs ht =
 module _ (a b : ℕ) (ha : a < 2352) (hb : b < 2352) where
   -- For every size, slot and subchannel, mark j is set exactly when both cells place index j on the same carrier of the same symbol.
   pub g-mark : {n : ℕ} → Width n → (slot s j : ℕ) → slot < 512 → s < n → j < 48
-      → Marked (amcOf a b .hits) j ↔ SamePlace (placeOf (setup 3 (64 * n) a) slot s j) (placeOf (setup 3 (64 * n) b) slot s j)
+      → Marked (amcOf a b .hits) j ↔ SamePlace (placeOf (setupWith 3 (64 * n) a) slot s j) (placeOf (setupWith 3 (64 * n) b) slot s j)
   g-mark w slot s j hy hs hj =
       let mark = amc-mark a b ha hb j hj in
       (λ e. amc-met w a b ha hb slot s j hy hs hj (sym mark ∙ e), λ c. mark ∙ amc-meets w a b ha hb slot s j hy hs hj c)

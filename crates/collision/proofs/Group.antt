@@ -1,4 +1,4 @@
--- Groups of optional FUSC: where a subchannel's point lies in group k, and that two are on one carrier where their elements of the field are the same. Assumes nothing.
+-- Groups of optional FUSC: where a subchannel's point lies in group k, and that two are on one carrier where their elements of the field are the same.
 use mathlib.Core.Path.{_≡_, sym, ap, ap₂, _∙_}
 use Prim.Native.Nat.{ℕ, _+_, _*_, _<_}
 use native.Mathlib.Omega.{arith}
@@ -19,7 +19,7 @@ use Rattle.ofusc.proofs.Sequence.{pos, sum-lt, mask-lt}
 use Rattle.ofusc.proofs.Row.{with-subchannel}
 use Rattle.map.specs.Mode.{width, band, spotOf}
 use Rattle.map.specs.Place.{placeAt}
-use Rattle.map.specs.Valid.{setup}
+use Rattle.map.specs.Valid.{setupWith}
 use Rattle.map.proofs.Accept.{width-is}
 use Rattle.collision.specs.Collision.{indexIn, carrierIn, ofuscHit}
 
@@ -63,7 +63,7 @@ module _ {n : ℕ} (w : Width n) (k : ℕ) (h : k < 48) where
   unfolding dataNumber
   number-in cell s = ap (λ (g : ℕ). g * n + bitXor s (mask n cell g)) (group-in s k h)
 
-  carrier-in : (cell slot s : ℕ) → carrierIn (setup 2 (64 * n) cell) slot s k ≡ carrierAt n slot (k * n + element cell s)
+  carrier-in : (cell slot s : ℕ) → carrierIn (setupWith 2 (64 * n) cell) slot s k ≡ carrierAt n slot (k * n + element cell s)
   unfolding carrierIn placeAt spotOf width band
   carrier-in cell slot s = rw (width-is n, number-in cell s)
 

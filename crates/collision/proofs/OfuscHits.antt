@@ -1,4 +1,4 @@
--- The hits of optional FUSC, from the algebra of the field: in a row, in a group, for one cell, and as places. Assumes nothing.
+-- The hits of optional FUSC, from the algebra of the field: in a row, in a group, for one cell, and as places.
 use mathlib.Core.Path.{_≡_, refl, sym, ap, _∙_, subst⁻¹}
 use mathlib.Core.Bool.{Bool, true}
 use Prim.Native.Nat.{ℕ, _+_, _-_, _*_, _<_, _≤_}
@@ -14,7 +14,7 @@ use Rattle.ofusc.specs.Width.{Width}
 use Rattle.ofusc.specs.Map.{mask, dataNumber}
 use Rattle.ofusc.proofs.Sequence.{sum-lt, mask-lt}
 use Rattle.map.specs.Place.{Place, placeOf}
-use Rattle.map.specs.Valid.{setup}
+use Rattle.map.specs.Valid.{setupWith}
 use Rattle.map.proofs.Law.{placing}
 use Rattle.collision.specs.Collision.{countOf, indexIn, ofuscHit}
 use Rattle.collision.specs.Figure.{InGroup, Marked, inRow, SameInGroup, sum}
@@ -93,7 +93,7 @@ module _ {n : ℕ} (w : Width n) (a s t : ℕ) (hs : s < n) (ht : t < n) where
 
 -- a hit in group k is one place, whatever the symbol
 module _ {n : ℕ} (w : Width n) (a s b t : ℕ) (ha : a < n * n) (hb : b < n * n) (hs : s < n) (ht : t < n) (slot k : ℕ) (hy : slot < 512) (hk : k < 48) where
-  pub met : ofuscHit (64 * n) a s b t k ≡ true → SameInGroup n k (placeOf (setup 2 (64 * n) a) slot s) (placeOf (setup 2 (64 * n) b) slot t)
+  pub met : ofuscHit (64 * n) a s b t k ≡ true → SameInGroup n k (placeOf (setupWith 2 (64 * n) a) slot s) (placeOf (setupWith 2 (64 * n) b) slot t)
   met e =
       record {
         index = indexIn s k;
@@ -113,15 +113,15 @@ module _ {n : ℕ} (w : Width n) (a s b t : ℕ) (ha : a < n * n) (hb : b < n * 
           ∙ sym (number-in w k hk b t)
 
   -- the index of a point in group k, and its carrier
-  there : (cell s m : ℕ) (p : Place) → cell < n * n → s < n → placeOf (setup 2 (64 * n) cell) slot s m ≡ accepted p → InGroup n (p .symbol) k (p .carrier)
+  there : (cell s m : ℕ) (p : Place) → cell < n * n → s < n → placeOf (setupWith 2 (64 * n) cell) slot s m ≡ accepted p → InGroup n (p .symbol) k (p .carrier)
       → carrierAt n slot (k * n + element w k hk cell s) ≡ p .carrier
   there cell s m p hc l e g =
-      let hm = placing (setup 2 (64 * n) cell) slot s m e .index-lt in
+      let hm = placing (setupWith 2 (64 * n) cell) slot s m e .index-lt in
       let q : at n slot (dataNumber n cell s m) ≡ p = same-accepted (sym (ofusc-placed w cell slot s m hy l hm hc) ∙ e) in
       let i = index-is w cell slot s k m l hk hm (subst⁻¹ (λ (x : Place). InGroup n (x .symbol) k (x .carrier)) q g) in
       ap (carrierAt n slot) (sym (number-in w k hk cell s) ∙ ap (dataNumber n cell s) (sym i)) ∙ ap (λ (x : Place). x .carrier) q
 
-  pub meets : SameInGroup n k (placeOf (setup 2 (64 * n) a) slot s) (placeOf (setup 2 (64 * n) b) slot t) → ofuscHit (64 * n) a s b t k ≡ true
+  pub meets : SameInGroup n k (placeOf (setupWith 2 (64 * n) a) slot s) (placeOf (setupWith 2 (64 * n) b) slot t) → ofuscHit (64 * n) a s b t k ≡ true
   meets c =
       let p = c .same .at in
       hit-is w k hk a s b t hs ht

@@ -1,4 +1,4 @@
--- What the two calls come to at each of their returns. Assumes nothing.
+-- What the two calls come to at each of their returns.
 use mathlib.Core.Path.{_≡_, refl, sym, ap, _∙_}
 use mathlib.Core.Bool.{Bool, true, false}
 use mathlib.Core.List.{List}

@@ -1,4 +1,4 @@
--- One pass that sets a mark for each of 48 places and counts those that are set. Assumes nothing.
+-- One pass that sets a mark for each of 48 places and counts those that are set.
 use mathlib.Core.Path.{_≡_, refl, sym, ap, _∙_}
 use mathlib.Core.Bool.{Bool, true, false}
 use mathlib.Core.List.{List}

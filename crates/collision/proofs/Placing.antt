@@ -1,4 +1,4 @@
--- What `place` answers in optional FUSC and AMC, by data numbers, and who is in group k. Assumes nothing.
+-- What `place` answers in optional FUSC and AMC, by data numbers, and who is in group k.
 use mathlib.Core.Path.{_≡_, refl, sym, ap, _∙_}
 use Prim.Native.Nat.{ℕ, _+_, _-_, _*_, _/_, _<_}
 use native.Mathlib.Omega.{arith}
@@ -12,7 +12,7 @@ use Rattle.ofusc.proofs.Sequence.{pos}
 use Rattle.ofusc.proofs.Law.{group-digit, law}
 use Rattle.map.specs.Mode.{width, symbols, subchannels, band, spotOf}
 use Rattle.map.specs.Place.{Place, placeAt, placeOf}
-use Rattle.map.specs.Valid.{setup, ofusc, amc}
+use Rattle.map.specs.Valid.{setupWith, ofusc, amc}
 use Rattle.map.proofs.Accept.{width-is}
 use Rattle.map.proofs.Law.{place-accepts}
 use Rattle.collision.specs.Collision.{indexIn}
@@ -28,16 +28,16 @@ one-symbol : (slot : ℕ) → slot * 1 + 0 ≡ slot
 one-symbol slot = omega arith
 
 module _ {n : ℕ} (w : Width n) (cell slot s m : ℕ) (hy : slot < 512) (hs : s < n) (hm : m < 48) where
-  pub ofusc-placed : cell < n * n → placeOf (setup 2 (64 * n) cell) slot s m ≡ accepted (at n slot (dataNumber n cell s m))
+  pub ofusc-placed : cell < n * n → placeOf (setupWith 2 (64 * n) cell) slot s m ≡ accepted (at n slot (dataNumber n cell s m))
   unfolding placeAt spotOf symbols subchannels band width
   ofusc-placed h =
-      place-accepts (setup 2 (64 * n) cell) slot s m (ofusc w h) hy (rw (width-is n) hs) hm
+      place-accepts (setupWith 2 (64 * n) cell) slot s m (ofusc w h) hy (rw (width-is n) hs) hm
       ∙ rw (width-is n, one-symbol slot)
 
-  pub amc-placed : cell < 2352 → placeOf (setup 3 (64 * n) cell) slot s m ≡ accepted (at n slot (adjacent.dataNumber cell s m))
+  pub amc-placed : cell < 2352 → placeOf (setupWith 3 (64 * n) cell) slot s m ≡ accepted (at n slot (adjacent.dataNumber cell s m))
   unfolding placeAt spotOf symbols subchannels band width
   amc-placed h =
-      place-accepts (setup 3 (64 * n) cell) slot s m (amc w h) hy (rw (width-is n) hs) hm
+      place-accepts (setupWith 3 (64 * n) cell) slot s m (amc w h) hy (rw (width-is n) hs) hm
       ∙ rw (width-is n, one-symbol slot)
 
 -- subchannel s has index (k-23s) mod 48 in group k, and no other

@@ -1,4 +1,4 @@
--- At most three indices of AMC collide: a hit is one of three kinds, the first cell's zero rule, the second's, or equal sums, and each kind has one index at most. Assumes nothing.
+-- At most three indices of AMC collide: a hit is one of three kinds, the first cell's zero rule, the second's, or equal sums, and each kind has one index at most.
 use mathlib.Core.Path.{_≡_, sym, ap, _∙_}
 use mathlib.Core.Bool.{Bool, true, false}
 use Prim.Native.Nat.{ℕ, suc, _+_, _-_, _%_, _/_, _<_, _≤_}

@@ -12,7 +12,7 @@ use Rattle.map.specs.declared.Setup.{Setup}
 use Rattle.map.specs.Mode.{spotOf}
 use Rattle.map.specs.Question.{isFourSizes, isCell, isSubchannel}
 use Rattle.map.specs.Place.{placeAt}
-use Rattle.map.specs.Valid.{setup}
+use Rattle.map.specs.Valid.{setupWith}
 use Rattle.collision.specs.declared.Collisions.{Collisions}
 
 -- how many marks are set
@@ -30,7 +30,7 @@ carrierIn c slot s k = placeAt c slot (spotOf c slot s (indexIn s k)) .carrier
 
 -- Spread: the group is marked exactly when both subchannels have the same carrier there. The answer is the same for every symbol, so symbol 0 is looked at.
 unfoldable pub ofuscHit : ℕ → ℕ → ℕ → ℕ → ℕ → ℕ → Bool
-ofuscHit size a s b t k = eqb (carrierIn (setup 2 size a) 0 s k) (carrierIn (setup 2 size b) 0 t k)
+ofuscHit size a s b t k = eqb (carrierIn (setupWith 2 size a) 0 s k) (carrierIn (setupWith 2 size b) 0 t k)
 
 -- Adjacent: 48 marks, one an index, set exactly when both cells give the same v.
 unfoldable pub amcHit : ℕ → ℕ → ℕ → Bool
@@ -46,16 +46,16 @@ unfoldable pub ofuscOf : ℕ → ℕ → ℕ → ℕ → ℕ → Collisions
 ofuscOf size a s b t =
     answerOf
     (ask (isFourSizes size) 2
-    (ask (isCell (setup 2 size a)) 3
-    (ask (isCell (setup 2 size b)) 3
-    (ask (isSubchannel (setup 2 size a) s) 5
-    (ask (isSubchannel (setup 2 size b) t) 5
+    (ask (isCell (setupWith 2 size a)) 3
+    (ask (isCell (setupWith 2 size b)) 3
+    (ask (isSubchannel (setupWith 2 size a) s) 5
+    (ask (isSubchannel (setupWith 2 size b) t) 5
     (accepted (ofuscHit size a s b t)))))))
 
 -- Adjacent: two cells. Only question 3 is put, as for mode 3, whose cells are the same at every size.
 unfoldable pub amcOf : ℕ → ℕ → Collisions
 amcOf a b =
     answerOf
-    (ask (isCell (setup 3 2048 a)) 3
-    (ask (isCell (setup 3 2048 b)) 3
+    (ask (isCell (setupWith 3 2048 a)) 3
+    (ask (isCell (setupWith 3 2048 b)) 3
     (accepted (amcHit a b))))

@@ -1,4 +1,4 @@
--- The runs that copy a subchannel's points, to the grid or from it. Assumes nothing.
+-- The runs that copy a subchannel's points, to the grid or from it.
 use mathlib.Core.Path.{_≡_, ap, _∙_}
 use mathlib.Core.List.{List}
 use Prim.Native.Nat.{ℕ, _+_, _<_, _≤_}

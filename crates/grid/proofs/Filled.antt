@@ -1,4 +1,4 @@
--- The passes of fill and empty make the grid and the points that the definitions say. Assumes nothing.
+-- The passes of fill and empty make the grid and the points that the definitions say.
 use mathlib.Core.Path.{_≡_, refl, sym, ap, _∙_, subst}
 use mathlib.Core.List.{List}
 use Prim.Native.Nat.{ℕ, zero, suc, _+_, _*_, _/_, _%_, _<_}

@@ -1,4 +1,4 @@
--- Look by the reverse: what `locateOf` says of the carrier decides what is seen. Assumes nothing.
+-- Look by the reverse: what `locateOf` says of the carrier decides what is seen.
 use mathlib.Core.Path.{_≡_, refl, sym, ap, _∙_}
 use Prim.Native.Nat.{ℕ, _*_, _%_, _<_}
 use native.Mathlib.Omega.{arith}
@@ -7,7 +7,7 @@ use mathlib.Core.List.{List}
 use mathlib.Core.Bool.{Bool, true, false}
 use lib.ListN.{length}
 use lib.Ieee.{Float}
-use Rattle.base.specs.Answer.{Answer, accepted, refused, ask, number}
+use Rattle.base.specs.Answer.{Answer, accepted, refused, ask, refusalOf}
 use Rattle.map.specs.declared.Setup.{Setup}
 use Rattle.map.specs.Mode.{symbols}
 use Rattle.map.specs.Question.{askSetup, isMode, isSize, isCell, isSymbol, isCarrier}
@@ -22,14 +22,14 @@ use Rattle.grid.specs.Grid.{Sight, sight, sightOf, lookOf}
 
 module _ (c : Setup) (y : ℕ) (grid : List Float) (k : ℕ) where
   -- a number of the reverse other than 0 is its refusal, and look's
-  pub look-refused : (n : ℕ) → n ≡ number (locateOf c y k) → (n ≡ 0 → ⊥) → refused n ≡ lookOf c y grid k
+  pub look-refused : (n : ℕ) → n ≡ refusalOf (locateOf c y k) → (n ≡ 0 → ⊥) → refused n ≡ lookOf c y grid k
   unfolding locateOf lookOf
   look-refused n e ne = link (isMode c) (isSize c) (isCell c) (isSymbol c y) (isCarrier c k) e
     where
       rest : Answer Sight
       rest = ask (isGrid c (length grid)) 9 (accepted (sight (pointAt grid (position c (y % symbols c) k)) (contentOf c y k)))
 
-      link : (a b d s t : Bool) → n ≡ number (ask a 1 (ask b 2 (ask d 3 (ask s 4 (ask t 7 (accepted (contentOf c y k)))))))
+      link : (a b d s t : Bool) → n ≡ refusalOf (ask a 1 (ask b 2 (ask d 3 (ask s 4 (ask t 7 (accepted (contentOf c y k)))))))
           → refused n ≡ ask a 1 (ask b 2 (ask d 3 (ask s 4 (ask t 7 rest))))
       link false b d s t e = ap refused e
       link true false d s t e = ap refused e
@@ -39,11 +39,11 @@ module _ (c : Setup) (y : ℕ) (grid : List Float) (k : ℕ) where
       link true true true true true e = absurd (ne e)
 
   -- 0 is an accepted carrier
-  pub look-accepted : (n : ℕ) → n ≡ number (locateOf c y k) → n ≡ 0 → locateOf c y k ≡ accepted (contentOf c y k)
+  pub look-accepted : (n : ℕ) → n ≡ refusalOf (locateOf c y k) → n ≡ 0 → locateOf c y k ≡ accepted (contentOf c y k)
   unfolding locateOf
   look-accepted n e z = link (isMode c) (isSize c) (isCell c) (isSymbol c y) (isCarrier c k) (sym e ∙ z)
     where
-      link : (a b d s t : Bool) → number (ask a 1 (ask b 2 (ask d 3 (ask s 4 (ask t 7 (accepted (contentOf c y k))))))) ≡ 0
+      link : (a b d s t : Bool) → refusalOf (ask a 1 (ask b 2 (ask d 3 (ask s 4 (ask t 7 (accepted (contentOf c y k))))))) ≡ 0
           → ask a 1 (ask b 2 (ask d 3 (ask s 4 (ask t 7 (accepted (contentOf c y k)))))) ≡ accepted (contentOf c y k)
       link false b d s t e = absurd (omega arith)
       link true false d s t e = absurd (omega arith)

@@ -1,4 +1,4 @@
--- The loops of fill and empty over the subchannels, and what they come to. Assumes nothing.
+-- The loops of fill and empty over the subchannels, and what they come to.
 use mathlib.Core.Path.{_≡_, sym, ap, _∙_}
 use mathlib.Core.List.{List}
 use Prim.Native.Nat.{ℕ, _+_, _*_, _<_, _≤_}
@@ -12,7 +12,7 @@ use Rattle.map.specs.Mode.{subchannels, symbols}
 use Rattle.grid.specs.declared.Point.{Point}
 use Rattle.grid.specs.Points.{zero32, pointAt}
 use Rattle.grid.specs.Row.{gridPoints}
-use Rattle.grid.specs.Question.{slotNumber}
+use Rattle.grid.specs.Question.{slotRefusal}
 use Rattle.grid.specs.Grid.{outcome, filled, fillOf, emptied, emptyOf, standsAt}
 use Rattle.grid.specs.Model.{pilotRows, laidOne, laid, takenOne, taken}
 use Rattle.grid.proofs.Points.{length-puts}
@@ -21,17 +21,17 @@ use Rattle.grid.proofs.Filled.{laid-is, taken-is, filled-is, emptied-is
 use Rattle.grid.proofs.Refusal.{SlotAccepted, slot-accepted, slot-refused, slot-passes}
 
 -- a refusal leaves the buffer
-pub fill-refused : (c : Setup) (slot : ℕ) (p : Point) (points grid : List Float) (k : ℕ) → k ≡ slotNumber c slot (length points) (length grid) → (k ≡ 0 → ⊥)
+pub fill-refused : (c : Setup) (slot : ℕ) (p : Point) (points grid : List Float) (k : ℕ) → k ≡ slotRefusal c slot (length points) (length grid) → (k ≡ 0 → ⊥)
     → record { number = k; buffer = grid } ≡ fillOf c slot p points grid
 unfolding fillOf
 fill-refused c slot p points grid k e ne = rw (slot-refused c slot (length points) (length grid) k (accepted (filled c slot p points)) e ne)
 
-pub empty-refused : (c : Setup) (slot : ℕ) (grid points : List Float) (k : ℕ) → k ≡ slotNumber c slot (length points) (length grid) → (k ≡ 0 → ⊥)
+pub empty-refused : (c : Setup) (slot : ℕ) (grid points : List Float) (k : ℕ) → k ≡ slotRefusal c slot (length points) (length grid) → (k ≡ 0 → ⊥)
     → record { number = k; buffer = points } ≡ emptyOf c slot grid points
 unfolding emptyOf
 empty-refused c slot grid points k e ne = rw (slot-refused c slot (length points) (length grid) k (accepted (emptied c slot grid)) e ne)
 
-pub now-accepted : (c : Setup) (slot points grid k : ℕ) → k ≡ slotNumber c slot points grid → k ≡ 0 → SlotAccepted c slot points grid
+pub now-accepted : (c : Setup) (slot points grid k : ℕ) → k ≡ slotRefusal c slot points grid → k ≡ 0 → SlotAccepted c slot points grid
 now-accepted c slot points grid k e z = slot-accepted c slot points grid (sym e ∙ z)
 
 -- what holds before each turn of fill, over the ground

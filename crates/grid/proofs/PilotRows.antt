@@ -1,4 +1,4 @@
--- The pilot pass: every pilot's place holds the pilot point, and no other place is touched. Assumes nothing.
+-- The pilot pass: every pilot's place holds the pilot point, and no other place is touched.
 use mathlib.Core.Path.{_≡_, refl, ap, _∙_, subst}
 use mathlib.Core.List.{List}
 use Prim.Native.Nat.{ℕ, zero, suc, _+_, _*_, _<_, _≤_}

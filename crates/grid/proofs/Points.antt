@@ -1,4 +1,4 @@
--- Points in buffers: what is put is there, and nothing else changes. Assumes nothing.
+-- Points in buffers: what is put is there, and nothing else changes.
 use mathlib.Core.Path.{_≡_, refl, sym, ap, ap₂, _∙_, subst}
 use mathlib.Core.List.{List}
 use Prim.Native.Nat.{ℕ, zero, suc, _+_, _*_, _/_, _%_, _<_}

@@ -1,46 +1,47 @@
--- What the questions of fill, empty and look come to. Assumes nothing.
+-- What the questions of fill, empty and look come to.
 use mathlib.Core.Path.{_≡_, refl, sym, ap, _∙_}
 use mathlib.Core.Bool.{Bool, true, false}
 use Prim.Native.Nat.{ℕ, _*_, _<_, _≤_}
 use native.Mathlib.Omega.{arith}
 use borrow.Author.Tests.{lt-ltb, le-ltb, eq-eqb, ne-eqb, ltb-true, eqb-true}
-use Rattle.base.specs.Answer.{Answer, accepted, refused, ask, number}
+use Rattle.base.specs.Answer.{Answer, accepted, refused, ask, refusalOf}
 use Rattle.map.specs.declared.Setup.{Setup}
 use Rattle.map.specs.Mode.{subchannels}
-use Rattle.map.specs.Question.{isMode, isSize, isCell, isSlot, setupNumber}
+use Rattle.map.specs.Question.{isMode, isSize, isCell, isSlot}
+use Rattle.map.specs.Model.{setupRefusal}
 use Rattle.map.specs.Valid.{Valid}
 use Rattle.map.proofs.Accept.{valid, passes, refused-number}
 use Rattle.grid.specs.Row.{gridPoints}
-use Rattle.grid.specs.Question.{arePoints, isGrid, askSlot, slotNumber}
+use Rattle.grid.specs.Question.{arePoints, isGrid, askSlot, slotRefusal}
 
 -- the chain after a valid setup
 module _ (c : Setup) (v : Valid c) (slot points grid : ℕ) where
-  pub slot-4 : 512 ≤ slot → 4 ≡ slotNumber c slot points grid
-  unfolding slotNumber isSlot
-  slot-4 h = rw (le-ltb slot 512 h) (sym (ap number (passes v)))
+  pub slot-4 : 512 ≤ slot → 4 ≡ slotRefusal c slot points grid
+  unfolding slotRefusal isSlot
+  slot-4 h = rw (le-ltb slot 512 h) (sym (ap refusalOf (passes v)))
 
-  pub slot-8 : slot < 512 → (n : ℕ) → n ≡ subchannels c → (points ≡ 96 * n → ⊥) → 8 ≡ slotNumber c slot points grid
-  unfolding slotNumber isSlot arePoints
-  slot-8 h n e ne = rw (lt-ltb slot 512 h, ne-eqb points (96 * subchannels c) (rw (← e) ne)) (sym (ap number (passes v)))
+  pub slot-8 : slot < 512 → (n : ℕ) → n ≡ subchannels c → (points ≡ 96 * n → ⊥) → 8 ≡ slotRefusal c slot points grid
+  unfolding slotRefusal isSlot arePoints
+  slot-8 h n e ne = rw (lt-ltb slot 512 h, ne-eqb points (96 * subchannels c) (rw (← e) ne)) (sym (ap refusalOf (passes v)))
 
-  pub slot-9 : slot < 512 → points ≡ 96 * subchannels c → (grid ≡ 2 * gridPoints c → ⊥) → 9 ≡ slotNumber c slot points grid
-  unfolding slotNumber isSlot arePoints isGrid
-  slot-9 h p ne = rw (lt-ltb slot 512 h, eq-eqb points (96 * subchannels c) p, ne-eqb grid (2 * gridPoints c) ne) (sym (ap number (passes v)))
+  pub slot-9 : slot < 512 → points ≡ 96 * subchannels c → (grid ≡ 2 * gridPoints c → ⊥) → 9 ≡ slotRefusal c slot points grid
+  unfolding slotRefusal isSlot arePoints isGrid
+  slot-9 h p ne = rw (lt-ltb slot 512 h, eq-eqb points (96 * subchannels c) p, ne-eqb grid (2 * gridPoints c) ne) (sym (ap refusalOf (passes v)))
 
-  pub slot-0 : slot < 512 → points ≡ 96 * subchannels c → grid ≡ 2 * gridPoints c → 0 ≡ slotNumber c slot points grid
-  unfolding slotNumber isSlot arePoints isGrid
-  slot-0 h p g = rw (lt-ltb slot 512 h, eq-eqb points (96 * subchannels c) p, eq-eqb grid (2 * gridPoints c) g) (sym (ap number (passes v)))
+  pub slot-0 : slot < 512 → points ≡ 96 * subchannels c → grid ≡ 2 * gridPoints c → 0 ≡ slotRefusal c slot points grid
+  unfolding slotRefusal isSlot arePoints isGrid
+  slot-0 h p g = rw (lt-ltb slot 512 h, eq-eqb points (96 * subchannels c) p, eq-eqb grid (2 * gridPoints c) g) (sym (ap refusalOf (passes v)))
 
-pub slot-setup : (c : Setup) (slot points grid k : ℕ) → k ≡ setupNumber c → (k ≡ 0 → ⊥) → k ≡ slotNumber c slot points grid
-unfolding slotNumber
-slot-setup c slot points grid k e ne = e ∙ sym (ap number (refused-number c _ (λ z. ne (e ∙ z))))
+pub slot-setup : (c : Setup) (slot points grid k : ℕ) → k ≡ setupRefusal c → (k ≡ 0 → ⊥) → k ≡ slotRefusal c slot points grid
+unfolding slotRefusal
+slot-setup c slot points grid k e ne = e ∙ sym (ap refusalOf (refused-number c _ (λ z. ne (e ∙ z))))
 
 -- a number other than 0 is the refusal, whatever would have come after
-pub slot-refused : {A : Type 0} (c : Setup) (slot points grid k : ℕ) (rest : Answer A) → k ≡ slotNumber c slot points grid → (k ≡ 0 → ⊥) → askSlot c slot points grid rest ≡ refused k
-unfolding slotNumber
+pub slot-refused : {A : Type 0} (c : Setup) (slot points grid k : ℕ) (rest : Answer A) → k ≡ slotRefusal c slot points grid → (k ≡ 0 → ⊥) → askSlot c slot points grid rest ≡ refused k
+unfolding slotRefusal
 slot-refused c slot points grid k rest e ne = link (isMode c) (isSize c) (isCell c) (isSlot slot) (arePoints c points) (isGrid c grid) e
   where
-    link : (a b d s p g : Bool) → k ≡ number (ask {A = Unit {0}} a 1 (ask b 2 (ask d 3 (ask s 4 (ask p 8 (ask g 9 (accepted tt)))))))
+    link : (a b d s p g : Bool) → k ≡ refusalOf (ask {A = Unit {0}} a 1 (ask b 2 (ask d 3 (ask s 4 (ask p 8 (ask g 9 (accepted tt)))))))
         → ask a 1 (ask b 2 (ask d 3 (ask s 4 (ask p 8 (ask g 9 rest))))) ≡ refused k
     link false b d s p g e = ap refused (sym e)
     link true false d s p g e = ap refused (sym e)
@@ -57,11 +58,11 @@ pub record SlotAccepted (c : Setup) (slot points grid : ℕ) : Type 0 where
   pub points-long : points ≡ 96 * subchannels c
   pub grid-long : grid ≡ 2 * gridPoints c
 
-pub slot-accepted : (c : Setup) (slot points grid : ℕ) → slotNumber c slot points grid ≡ 0 → SlotAccepted c slot points grid
-unfolding slotNumber isSlot arePoints isGrid
+pub slot-accepted : (c : Setup) (slot points grid : ℕ) → slotRefusal c slot points grid ≡ 0 → SlotAccepted c slot points grid
+unfolding slotRefusal isSlot arePoints isGrid
 slot-accepted c slot points grid e = link (isMode c) (isSize c) (isCell c) (isSlot slot) (arePoints c points) (isGrid c grid) e (valid c) (ltb-true slot 512) (eqb-true points (96 * subchannels c)) (eqb-true grid (2 * gridPoints c))
   where
-    link : (a b d s p g : Bool) → number (ask {A = Unit {0}} a 1 (ask b 2 (ask d 3 (ask s 4 (ask p 8 (ask g 9 (accepted tt))))))) ≡ 0
+    link : (a b d s p g : Bool) → refusalOf (ask {A = Unit {0}} a 1 (ask b 2 (ask d 3 (ask s 4 (ask p 8 (ask g 9 (accepted tt))))))) ≡ 0
         → (a ≡ true → b ≡ true → d ≡ true → Valid c) → (s ≡ true → slot < 512) → (p ≡ true → points ≡ 96 * subchannels c) → (g ≡ true → grid ≡ 2 * gridPoints c) → SlotAccepted c slot points grid
     link false b d s p g e f₁ f₂ f₃ f₄ = absurd (omega arith)
     link true false d s p g e f₁ f₂ f₃ f₄ = absurd (omega arith)

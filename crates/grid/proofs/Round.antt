@@ -1,4 +1,4 @@
--- THE LAWS OF THE GRID, for every accepted request, every pilot point and whatever the buffers held before. They rest on the law of the map, and on no mode's text. Assumes nothing.
+-- THE LAWS OF THE GRID, for every accepted request, every pilot point and whatever the buffers held before. They rest on the law of the map, and on no mode's text.
 use mathlib.Core.Path.{_≡_, refl, sym, ap, _∙_}
 use mathlib.Core.Bool.{Bool, true, false}
 use mathlib.Core.List.{List}
@@ -7,7 +7,7 @@ use native.Mathlib.Nat.{mod-lt, div-add-mod'}
 use native.Mathlib.Omega.{arith}
 use lib.ListN.{length}
 use lib.Ieee.{Float}
-use Rattle.base.specs.Answer.{Answer, accepted, refused, ask, number}
+use Rattle.base.specs.Answer.{Answer, accepted, refused, ask, refusalOf}
 use Rattle.map.specs.declared.Setup.{Setup}
 use Rattle.map.specs.Mode.{subchannels, symbols}
 use Rattle.map.specs.Question.{isMode, isSize, isCell, isSlot}
@@ -18,7 +18,7 @@ use Rattle.map.proofs.Law.{locating, located-where-placed, in-own-slot}
 use Rattle.grid.specs.declared.Point.{Point}
 use Rattle.grid.specs.Points.{zeroPoint, pointAt}
 use Rattle.grid.specs.Row.{gridPoints, position}
-use Rattle.grid.specs.Question.{arePoints, isGrid, askSlot, slotNumber}
+use Rattle.grid.specs.Question.{arePoints, isGrid, askSlot, slotRefusal}
 use Rattle.grid.specs.Grid.{outcome, pointNumber, held, filled, fillOf, standsAt, emptied, emptyOf, pilot-with, data-with, sight, sightOf, lookOf}
 use Rattle.grid.proofs.Points.{length-floats, point-floats, by-points}
 use Rattle.grid.proofs.Slot.{contentAt, row-position, column-position, position-lt, stands-lt, stands-holds}
@@ -26,16 +26,16 @@ use Rattle.grid.proofs.Refusal.{SlotAccepted, slot-accepted, slot-passe
 use Rattle.grid.proofs.Looked.{look-done}
 
 -- an answer of 0 is an accepted request
-outcome-number : (a : Answer (List Float)) (old : List Float) → outcome a old .number ≡ number a
+outcome-number : (a : Answer (List Float)) (old : List Float) → outcome a old .number ≡ refusalOf a
 outcome-number (accepted new) old = refl
 outcome-number (refused k) old = refl
 
-same-number : {A : Type 0} (c : Setup) (slot points grid : ℕ) (x : A) → number (askSlot c slot points grid (accepted x)) ≡ slotNumber c slot points grid
-unfolding slotNumber
+same-number : {A : Type 0} (c : Setup) (slot points grid : ℕ) (x : A) → refusalOf (askSlot c slot points grid (accepted x)) ≡ slotRefusal c slot points grid
+unfolding slotRefusal
 same-number c slot points grid x = link (isMode c) (isSize c) (isCell c) (isSlot slot) (arePoints c points) (isGrid c grid)
   where
-    link : (a b d s p g : Bool) → number (ask a 1 (ask b 2 (ask d 3 (ask s 4 (ask p 8 (ask g 9 (accepted x)))))))
-        ≡ number (ask {A = Unit {0}} a 1 (ask b 2 (ask d 3 (ask s 4 (ask p 8 (ask g 9 (accepted tt)))))))
+    link : (a b d s p g : Bool) → refusalOf (ask a 1 (ask b 2 (ask d 3 (ask s 4 (ask p 8 (ask g 9 (accepted x)))))))
+        ≡ refusalOf (ask {A = Unit {0}} a 1 (ask b 2 (ask d 3 (ask s 4 (ask p 8 (ask g 9 (accepted tt)))))))
     link false b d s p g = refl
     link true false d s p g = refl
     link true true false s p g = refl

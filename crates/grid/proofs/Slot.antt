@@ -1,4 +1,4 @@
--- A slot's points and the places of its grid: from the law of the map. Assumes nothing.
+-- A slot's points and the places of its grid: from the law of the map.
 use mathlib.Core.Path.{_≡_, sym, ap, _∙_}
 use mathlib.Core.List.{List}
 use Prim.Native.Nat.{ℕ, _+_, _-_, _*_, _/_, _%_, _<_, _≤_}
@@ -8,7 +8,7 @@ use lib.Arith.{digits-lt, digits-div, digits-mod}
 use Rattle.base.specs.Answer.{accepted}
 use Rattle.carriers.specs.declared.Spot.{Spot}
 use Rattle.base.specs.Steps.{entry}
-use Rattle.base.specs.Tabulate.{Turned}
+use Rattle.base.specs.Model.{Turned}
 use Rattle.base.proofs.Tabulate.{turned-below}
 use Rattle.carriers.specs.Band.{carrierOf}
 use Rattle.carriers.specs.Model.{carrierNumber}

@@ -2,7 +2,7 @@
 use mathlib.Core.Bool.{Bool}
 use Prim.Native.Nat.{ℕ, _*_}
 use lib.Dec.{eqb}
-use Rattle.base.specs.Answer.{Answer, accepted, ask, number}
+use Rattle.base.specs.Answer.{Answer, accepted, ask, refusalOf}
 use Rattle.map.specs.declared.Setup.{Setup}
 use Rattle.map.specs.Mode.{subchannels}
 use Rattle.map.specs.Question.{askSetup, isSlot, isSymbol, isCarrier}
@@ -25,8 +25,8 @@ askSlot c slot points grid rest =
     (ask (isGrid c grid) 9 rest)))
 
 -- the number of the first of them that is answered no, 0 where none is
-unfoldable pub slotNumber : Setup → ℕ → ℕ → ℕ → ℕ
-slotNumber c slot points grid = number (askSlot {A = Unit {0}} c slot points grid (accepted tt))
+unfoldable pub slotRefusal : Setup → ℕ → ℕ → ℕ → ℕ
+slotRefusal c slot points grid = refusalOf (askSlot {A = Unit {0}} c slot points grid (accepted tt))
 
 -- the questions of look: 1, 2, 3, 4, 7, 9
 abbrev pub askLook : {A : Type 0} → Setup → ℕ → ℕ → ℕ → Answer A → Answer A

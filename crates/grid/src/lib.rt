@@ -10,11 +10,12 @@ ghost use Rattle.map.specs.Mode.{symbols, subchannels, band};
 ghost use Rattle.map.specs.Place.{located};
 ghost use Rattle.map.specs.Valid.{Valid};
 ghost use Rattle.map.specs.Model.{TableOf};
-ghost use Rattle.base.specs.Answer.{number};
+ghost use Rattle.base.specs.Answer.{refusalOf};
 ghost use Rattle.base.specs.Steps.{entry};
 ghost use Rattle.grid.specs.Points.{zero32, pointAt};
 ghost use Rattle.grid.specs.Row.{gridPoints, position as Position, usedPosition};
-ghost use Rattle.grid.specs.Question.{slotNumber};
+ghost use Rattle.grid.specs.Question.{slotRefusal};
+ghost use Rattle.grid.specs.Length.{pointsLength, gridLength};
 ghost use Rattle.grid.specs.Grid.{fillOf, emptyOf, seen, sightOf, lookOf};
 ghost use Rattle.grid.specs.Model.{putPoint, puts, Within, pilotRow, pilotRows, laidOne, takenOne};
 
@@ -182,7 +183,7 @@ fn take(
 
 // The number of the first of questions 1, 2, 3, 4, 8 and 9 that is answered no, or 0.
 fn slot_refusal(c: Setup, slot: usize, points: usize, grid: usize) -> u8
-    ensures { λ r. ⌜ r ≡ slotNumber c slot points grid ⌝ }
+    ensures { λ r. ⌜ r ≡ slotRefusal c slot points grid ⌝ }
 {
     let k = map::refusal(c);
     if k != 0 {
@@ -206,6 +207,36 @@ fn grid_points(c: Setup) -> usize
     ensures { λ r. ⌜ (r ≡ gridPoints c) × (r < 65536) ⌝ }
 {
     map::symbols(c) * c.size
+}
+
+// The floats of a slot's points; 0 for a mode and size that the map does not have.
+pub fn points_length(mode: usize, size: usize) -> usize
+    ensures { λ r. ⌜ r ≡ pointsLength mode size ⌝ }
+{
+    let setup = Setup {
+        mode,
+        size,
+        cell: 0,
+    };
+    if map::refusal(setup) != 0 {
+        return 0;
+    }
+    96 * map::subchannels(setup)
+}
+
+// The floats of a slot's grid; 0 likewise.
+pub fn grid_length(mode: usize, size: usize) -> usize
+    ensures { λ r. ⌜ r ≡ gridLength mode size ⌝ }
+{
+    let setup = Setup {
+        mode,
+        size,
+        cell: 0,
+    };
+    if map::refusal(setup) != 0 {
+        return 0;
+    }
+    2 * grid_points(setup)
 }
 
 // Lays a slot's points on its grid, with the pilot point on pilots and 0.0 elsewhere; or the first refusal of 1, 2, 3, 4, 8, 9.
@@ -269,7 +300,7 @@ fn sight(found: Located, p: Point) -> Seen
 
 // The number of a refusal, or 0.
 fn refusal_of(found: Located) -> u8
-    ensures { λ r. ⌜ r ≡ number (located found) ⌝ }
+    ensures { λ r. ⌜ r ≡ refusalOf (located found) ⌝ }
 {
     match found {
         Located::Guard => 0,

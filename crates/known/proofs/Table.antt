@@ -1,4 +1,4 @@
--- The known points hold: each by computing both sides; in line 10 all that is asked of the cell is that it is below 32. Assumes nothing.
+-- The known points hold: each by computing both sides; in line 10 all that is asked of the cell is that it is below 32.
 use mathlib.Core.Path.{_≡_, refl}
 use Prim.Native.Nat.{ℕ, _<_}
 use borrow.Author.Tests.{lt-ltb}

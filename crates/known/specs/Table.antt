@@ -6,7 +6,7 @@ use Prim.Native.Nat.{ℕ, suc, _<_}
 use Rattle.base.specs.Answer.{Answer, accepted, refused}
 use Rattle.base.specs.Tabulate.{tabulate}
 use Rattle.pusc_ul.specs.Tile.{tileOf}
-use Rattle.map.specs.Valid.{setup}
+use Rattle.map.specs.Valid.{setupWith}
 use Rattle.map.specs.Place.{Place, Content, guard, dc, pilot, point, placeOf, locateOf}
 use Rattle.collision.specs.Collision.{ofuscOf, amcOf}
 use Rattle.plan.specs.declared.Zone.{Zone}
@@ -45,16 +45,16 @@ zone m c n = record { mode = m; cell = c; slots = n }
 
 -- what a carrier holds under any PUSC downlink cell
 pub record AnyCell (cell : ℕ) : Type 0 where
-  pub data-in-symbol-0 : isPoint (locateOf (setup 0 2048 cell) 0 184) ≡ true
-  pub pilot-in-symbol-1 : locateOf (setup 0 2048 cell) 1 184 ≡ accepted pilot
-  pub guard-below : (symbol : ℕ) → symbol < 1024 → locateOf (setup 0 2048 cell) symbol 183 ≡ accepted guard
-  pub dc-in-the-middle : (symbol : ℕ) → symbol < 1024 → locateOf (setup 0 2048 cell) symbol 1024 ≡ accepted dc
+  pub data-in-symbol-0 : isPoint (locateOf (setupWith 0 2048 cell) 0 184) ≡ true
+  pub pilot-in-symbol-1 : locateOf (setupWith 0 2048 cell) 1 184 ≡ accepted pilot
+  pub guard-below : (symbol : ℕ) → symbol < 1024 → locateOf (setupWith 0 2048 cell) symbol 183 ≡ accepted guard
+  pub dc-in-the-middle : (symbol : ℕ) → symbol < 1024 → locateOf (setupWith 0 2048 cell) symbol 1024 ≡ accepted dc
 
 pub record Known : Type 0 where
   -- Spread 1024, cell 0, subchannel 3, index 5: carrier 553 in slot 0, 552 in slot 1.
-  pub line-1 : (placeOf (setup 2 1024 0) 0 3 5 ≡ at 0 553) × (placeOf (setup 2 1024 0) 1 3 5 ≡ at 1 552)
+  pub line-1 : (placeOf (setupWith 2 1024 0) 0 3 5 ≡ at 0 553) × (placeOf (setupWith 2 1024 0) 1 3 5 ≡ at 1 552)
   -- Spread 1024, cell 17, subchannel 0, index 0, slot 0: carrier 87.
-  pub line-2 : placeOf (setup 2 1024 17) 0 0 0 ≡ at 0 87
+  pub line-2 : placeOf (setupWith 2 1024 17) 0 0 0 ≡ at 0 87
   -- Meeting at 1024, cell 0 subchannel 6, cell 17 subchannel 0: 7.
   pub line-3 : ofuscOf 1024 0 6 17 0 .count ≡ 7
   -- Meeting at 1024, cell 0 subchannel 2, cell 244 subchannel 0: 8.
@@ -64,9 +64,9 @@ pub record Known : Type 0 where
   -- Adjacent, cells 48 and 176: indices 8, 24, 32.
   pub line-6 : setFrom 0 (amcOf 48 176 .hits) ≡ indices
   -- Down, cell 0, subchannel 1, slot 0: index 11 on symbol 0 carrier 1862, index 35 on symbol 1 carrier 1861.
-  pub line-7 : (placeOf (setup 0 2048 0) 0 1 11 ≡ at 0 1862) × (placeOf (setup 0 2048 0) 0 1 35 ≡ at 1 1861)
+  pub line-7 : (placeOf (setupWith 0 2048 0) 0 1 11 ≡ at 0 1862) × (placeOf (setupWith 0 2048 0) 0 1 35 ≡ at 1 1861)
   -- Up, cell 0, subchannel 1, index 0, slot 0: symbol 1, carrier 377.
-  pub line-8 : placeOf (setup 1 2048 0) 0 1 0 ≡ at 1 377
+  pub line-8 : placeOf (setupWith 1 2048 0) 0 1 0 ≡ at 1 377
   -- Up, cell 0, subchannel 5: tiles 1, 83, 166, 256, 324, 380.
   pub line-9 : tabulate 6 (tileOf 0 5) ≡ tiles
   -- Down, any cell, carrier 184: data in symbol 0, pilot in symbol 1; 183 guard, 1024 DC.

@@ -1,18 +1,20 @@
--- Questions 1, 2 and 3 let pass just the valid setups. Assumes nothing.
-use mathlib.Core.Path.{_≡_, refl, subst⁻¹}
+-- Questions 1, 2 and 3 let pass just the valid setups.
+use mathlib.Core.Path.{_≡_, refl, subst⁻¹, _∙_}
 use mathlib.Core.Bool.{Bool, true, false}
 use Prim.Native.Nat.{ℕ, zero, suc, _*_, _/_, _<_, _≤_}
 use native.Mathlib.Omega.{arith}
 use lib.Dec.{eqb, ltb}
 use borrow.Author.Tests.{ltb-true, eqb-true, ne-eqb, lt-ltb, le-ltb}
-use Rattle.base.specs.Answer.{Answer, accepted, refused, ask, number}
+use Rattle.base.specs.Answer.{Answer, accepted, refused, ask, refusalOf}
 use Rattle.base.proofs.Test.{cases}
+use Rattle.base.proofs.Chain.{numbered, no-first, no-question, question, number-yes}
 use Rattle.ofusc.specs.Width.{Width, n4, n8, n16, n32}
 use Rattle.ofusc.proofs.Sequence.{size}
 use Rattle.map.specs.declared.Setup.{Setup}
 use Rattle.map.specs.Mode.{width, cells}
-use Rattle.map.specs.Question.{isMode, isFourSizes, isSize, isCell, askSetup, setupNumber}
-use Rattle.map.specs.Valid.{Valid, setup, pusc-dl, pusc-ul, ofusc, amc}
+use Rattle.map.specs.Question.{isMode, isFourSizes, isSize, isCell, askSetup}
+use Rattle.map.specs.Model.{setupRefusal}
+use Rattle.map.specs.Valid.{Valid, setupWith, pusc-dl, pusc-ul, ofusc, amc}
 
 -- N of a size
 pub width-is : (n : ℕ) → 64 * n / 64 ≡ n
@@ -45,24 +47,24 @@ four-sizes z h =
     (λ e″. subst⁻¹ Sized (eqb-true z 1024 e″) (sized n16))
     (λ e″. subst⁻¹ Sized (eqb-true z 2048 (rw (e, e′, e″) at h)) (sized n32))))
 
-valid-at : {m : ℕ} (z k : ℕ) → Listed m → isSize (setup m z k) ≡ true → isCell (setup m z k) ≡ true → Valid (setup m z k)
+valid-at : {m : ℕ} (z k : ℕ) → Listed m → isSize (setupWith m z k) ≡ true → isCell (setupWith m z k) ≡ true → Valid (setupWith m z k)
 unfolding isSize isCell cells width
-valid-at z k m0 s e = subst⁻¹ (λ (t : ℕ). Valid (setup 0 t k)) (eqb-true z 2048 s) (pusc-dl (ltb-true k 32 e))
-valid-at z k m1 s e = subst⁻¹ (λ (t : ℕ). Valid (setup 1 t k)) (eqb-true z 2048 s) (pusc-ul (ltb-true k 70 e))
+valid-at z k m0 s e = subst⁻¹ (λ (t : ℕ). Valid (setupWith 0 t k)) (eqb-true z 2048 s) (pusc-dl (ltb-true k 32 e))
+valid-at z k m1 s e = subst⁻¹ (λ (t : ℕ). Valid (setupWith 1 t k)) (eqb-true z 2048 s) (pusc-ul (ltb-true k 70 e))
 valid-at z k m2 s e = spread (four-sizes z s) (ltb-true k (z / 64 * (z / 64)) e)
   where
-    spread : {z : ℕ} → Sized z → k < z / 64 * (z / 64) → Valid (setup 2 z k)
+    spread : {z : ℕ} → Sized z → k < z / 64 * (z / 64) → Valid (setupWith 2 z k)
     spread (sized {n = n} w) h = ofusc w (rw (width-is n) at h)
 valid-at z k m3 s e = adjacent (four-sizes z s)
   where
-    adjacent : {z : ℕ} → Sized z → Valid (setup 3 z k)
+    adjacent : {z : ℕ} → Sized z → Valid (setupWith 3 z k)
     adjacent (sized w) = amc w (ltb-true k 2352 e)
 
 pub valid : (c : Setup) → isMode c ≡ true → isSize c ≡ true → isCell c ≡ true → Valid c
 unfolding isMode
 valid c e₁ e₂ e₃ = valid-at (c .size) (c .cell) (listed (c .mode) (ltb-true (c .mode) 4 e₁)) e₂ e₃
 
--- and a valid setup passes
+-- and a valid setupWith passes
 pub size-passes : {n : ℕ} → Width n → isFourSizes (64 * n) ≡ true
 unfolding isFourSizes
 size-passes n4 = refl
@@ -78,26 +80,19 @@ passes (ofusc {n = n} w h) = rw (size-passes w, width-is n, lt-ltb _ _ h)
 passes (amc w h) = rw (size-passes w, lt-ltb _ _ h)
 
 -- what the first three questions come to: a number, or a valid setup
-pub refused-number : {A : Type 0} (c : Setup) (rest : Answer A) → (setupNumber c ≡ 0 → ⊥) → askSetup c rest ≡ refused (setupNumber c)
-unfolding setupNumber
-refused-number c rest ne = link (isMode c) (isSize c) (isCell c) ne
-  where
-    link : (a b d : Bool) → (number (ask {A = Unit {0}} a 1 (ask b 2 (ask d 3 (accepted tt)))) ≡ 0 → ⊥)
-        → ask a 1 (ask b 2 (ask d 3 rest)) ≡ refused (number (ask {A = Unit {0}} a 1 (ask b 2 (ask d 3 (accepted tt)))))
-    link false b d ne = refl
-    link true false d ne = refl
-    link true true false ne = refl
-    link true true true ne = absurd (ne refl)
+pub setup-numbered : {A : Type 0} (c : Setup) (rest : Answer A) → askSetup c rest ≡ numbered (setupRefusal c) rest
+unfolding setupRefusal
+setup-numbered c rest = question (isMode c) 0 (question (isSize c) 1 (question (isCell c) 2 no-question)) .is
 
-pub number-valid : (c : Setup) → setupNumber c ≡ 0 → Valid c
-unfolding setupNumber
-number-valid c e = link (isMode c) (isSize c) (isCell c) e (valid c)
-  where
-    link : (a b d : Bool) → number (ask {A = Unit {0}} a 1 (ask b 2 (ask d 3 (accepted tt)))) ≡ 0 → (a ≡ true → b ≡ true → d ≡ true → Valid c) → Valid c
-    link false b d e f = absurd (omega arith)
-    link true false d e f = absurd (omega arith)
-    link true true false e f = absurd (omega arith)
-    link true true true e f = f refl refl refl
+pub refused-number : {A : Type 0} (c : Setup) (rest : Answer A) → (setupRefusal c ≡ 0 → ⊥) → askSetup c rest ≡ refused (setupRefusal c)
+refused-number c rest ne = setup-numbered c rest ∙ no-first (setupRefusal c) rest ne
+
+pub number-valid : (c : Setup) → setupRefusal c ≡ 0 → Valid c
+unfolding setupRefusal
+number-valid c e =
+    let q₁ = number-yes (isMode c) 0 _ e in
+    let q₂ = number-yes (isSize c) 1 _ (q₁ .1) in
+    valid c (q₁ .0) (q₂ .0) (number-yes (isCell c) 2 _ (q₂ .1) .0)
 
 pub four-rest : (size : ℕ) → (size ≡ 256 → ⊥) → (size ≡ 512 → ⊥) → (size ≡ 1024 → ⊥) → eqb size 2048 ≡ isFourSizes size
 unfolding isFourSizes
@@ -105,20 +100,20 @@ four-rest size a b d = rw (ne-eqb size 256 a, ne-eqb size 512 b, ne-eqb size 102
 
 -- the number, question by question
 module _ (c : Setup) where
-  pub number-1 : 4 ≤ c .mode → 1 ≡ setupNumber c
-  unfolding setupNumber isMode
+  pub number-1 : 4 ≤ c .mode → 1 ≡ setupRefusal c
+  unfolding setupRefusal isMode
   number-1 h = rw (le-ltb (c .mode) 4 h)
 
-  pub number-2 : c .mode < 4 → isSize c ≡ false → 2 ≡ setupNumber c
-  unfolding setupNumber isMode
+  pub number-2 : c .mode < 4 → isSize c ≡ false → 2 ≡ setupRefusal c
+  unfolding setupRefusal isMode
   number-2 h e = rw (lt-ltb (c .mode) 4 h, e)
 
-  pub number-3 : c .mode < 4 → isSize c ≡ true → cells c ≤ c .cell → 3 ≡ setupNumber c
-  unfolding setupNumber isMode isCell
+  pub number-3 : c .mode < 4 → isSize c ≡ true → cells c ≤ c .cell → 3 ≡ setupRefusal c
+  unfolding setupRefusal isMode isCell
   number-3 h e l = rw (lt-ltb (c .mode) 4 h, e, le-ltb (c .cell) (cells c) l)
 
-  pub number-0 : c .mode < 4 → isSize c ≡ true → c .cell < cells c → 0 ≡ setupNumber c
-  unfolding setupNumber isMode isCell
+  pub number-0 : c .mode < 4 → isSize c ≡ true → c .cell < cells c → 0 ≡ setupRefusal c
+  unfolding setupRefusal isMode isCell
   number-0 h e l = rw (lt-ltb (c .mode) 4 h, e, lt-ltb (c .cell) (cells c) l)
 
   pub size-most : isSize c ≡ true → c .size ≤ 2048

@@ -1,4 +1,4 @@
--- A choice by the mode, and what a valid setup says of its mode. Assumes nothing.
+-- A choice by the mode, and what a valid setup says of its mode.
 use mathlib.Core.Path.{_≡_, refl, sym, ap, _∙_}
 use mathlib.Core.Bool.{Bool, true, false}
 use Prim.Native.Nat.{ℕ, _*_, _/_, _%_, _<_, _≤_}
@@ -169,12 +169,12 @@ left-few (pusc-ul h) = omega arith
 left-few (ofusc {n = n} w h) = omega (arith, size w .most)
 left-few (amc {n = n} w h) = omega (arith, size w .most)
 
-pub turn-few : {c : Setup} → Valid c → band c .turn ≤ 864
+pub half-few : {c : Setup} → Valid c → band c .half ≤ 864
 unfolding band width
-turn-few (pusc-dl h) = omega arith
-turn-few (pusc-ul h) = omega arith
-turn-few (ofusc {n = n} w h) = omega (arith, size w .most)
-turn-few (amc {n = n} w h) = omega (arith, size w .most)
+half-few (pusc-dl h) = omega arith
+half-few (pusc-ul h) = omega arith
+half-few (ofusc {n = n} w h) = omega (arith, size w .most)
+half-few (amc {n = n} w h) = omega (arith, size w .most)
 
 -- what the modes ask of a used number that is no pilot
 module _ {c : Setup} (v : Valid c) (y u : ℕ) (hu : u < band c .used) (np : isPilot c y u ≡ false) where

@@ -1,4 +1,4 @@
--- THE LAW OF THE MAP, for every mode, size and cell that the questions let pass. It rests on the law of a slot, and on no mode's text. Assumes nothing.
+-- THE LAW OF THE MAP, for every mode, size and cell that the questions let pass. It rests on the law of a slot, and on no mode's text.
 use mathlib.Core.Path.{_≡_, sym, ap, _∙_, subst}
 use mathlib.Core.Bool.{true, false}
 use Prim.Native.Nat.{ℕ, _+_, _*_, _/_, _%_, _<_}

@@ -1,4 +1,4 @@
--- What placing and locating come to at each of their returns. Assumes nothing.
+-- What placing and locating come to at each of their returns.
 use mathlib.Core.Path.{_≡_, sym, ap, _∙_, subst}
 use mathlib.Core.Bool.{Bool, true, false}
 use Prim.Native.Nat.{ℕ, _*_, _/_, _<_, _≤_}
@@ -11,21 +11,22 @@ use Rattle.carriers.specs.declared.Spot.{Spot}
 use Rattle.carriers.proofs.Guards.{used-left, used-lt}
 use Rattle.map.specs.declared.Setup.{Setup}
 use Rattle.map.specs.Mode.{subchannels, symbols, band, isPilot, spotOf, addressOf}
-use Rattle.map.specs.Question.{askSetup, setupNumber, isSlot, isSymbol, isSubchannel, isIndex, isCarrier}
+use Rattle.map.specs.Question.{askSetup, isSlot, isSymbol, isSubchannel, isIndex, isCarrier}
+use Rattle.map.specs.Model.{setupRefusal}
 use Rattle.map.specs.Place.{guard, dc, pilot, point, placeAt, placeOf, pointAt, contentOf, locateOf}
 use Rattle.map.specs.Valid.{Valid}
 use Rattle.map.proofs.Accept.{refused-number, number-valid, passes}
 use Rattle.map.proofs.Slot.{slot-law, band-law}
 use Rattle.map.proofs.Law.{place-accepts, locate-accepts}
 
-pub now-valid : (c : Setup) (k : ℕ) → k ≡ setupNumber c → k ≡ 0 → Valid c
+pub now-valid : (c : Setup) (k : ℕ) → k ≡ setupRefusal c → k ≡ 0 → Valid c
 now-valid c k e z = number-valid c (sym e ∙ z)
 
-pub refuses : {A : Type 0} (c : Setup) (k : ℕ) (rest : Answer A) → k ≡ setupNumber c → (k ≡ 0 → ⊥) → refused k ≡ askSetup c rest
+pub refuses : {A : Type 0} (c : Setup) (k : ℕ) (rest : Answer A) → k ≡ setupRefusal c → (k ≡ 0 → ⊥) → refused k ≡ askSetup c rest
 refuses c k rest e ne = ap refused e ∙ sym (refused-number c rest (λ z. ne (e ∙ z)))
 
 module _ (c : Setup) (slot s m : ℕ) where
-  pub place-setup : (k : ℕ) → k ≡ setupNumber c → (k ≡ 0 → ⊥) → refused k ≡ placeOf c slot s m
+  pub place-setup : (k : ℕ) → k ≡ setupRefusal c → (k ≡ 0 → ⊥) → refused k ≡ placeOf c slot s m
   unfolding placeOf
   place-setup k e ne = refuses c k _ e ne
 
@@ -45,7 +46,7 @@ module _ (c : Setup) (slot s m : ℕ) where
   place-done v h n e l g = place-accepts c slot s m v h (subst (λ (x : ℕ). s < x) e l) g
 
 module _ (c : Setup) (y k : ℕ) where
-  pub locate-setup : (r : ℕ) → r ≡ setupNumber c → (r ≡ 0 → ⊥) → refused r ≡ locateOf c y k
+  pub locate-setup : (r : ℕ) → r ≡ setupRefusal c → (r ≡ 0 → ⊥) → refused r ≡ locateOf c y k
   unfolding locateOf
   locate-setup r e ne = refuses c r _ e ne
 

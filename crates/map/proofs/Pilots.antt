@@ -1,4 +1,4 @@
--- The combs are the pilots: mode by mode, from one lemma over the comb. Assumes nothing.
+-- The combs are the pilots: mode by mode, from one lemma over the comb.
 use mathlib.Core.Path.{_≡_, refl, sym, ap, _∙_, subst}
 use mathlib.Core.Bool.{Bool, true, false}
 use Prim.Native.Nat.{ℕ, _+_, _*_, _/_, _%_, _<_, _≤_}
@@ -15,7 +15,7 @@ use Rattle.pusc_ul.specs.Tile.{isTilePilot}
 use Rattle.ofusc.proofs.Sequence.{size}
 use Rattle.map.specs.declared.Setup.{Setup}
 use Rattle.map.specs.Mode.{width, band, isPilot}
-use Rattle.map.specs.Valid.{Valid, setup, pusc-dl, pusc-ul, ofusc, amc}
+use Rattle.map.specs.Valid.{Valid, setupWith, pusc-dl, pusc-ul, ofusc, amc}
 use Rattle.map.specs.declared.Comb.{Comb}
 use Rattle.map.specs.Model.{combOf, pilotNumber}
 
@@ -126,8 +126,8 @@ pilots-law (pusc-dl h) y =
     comb-law (record { first = firstPilot y; second = secondPilot y; step = 14; count = 120 })
     (cluster-lt y .0) (cluster-lt y .1) (isClusterPilot y) (λ u. refl)
 pilots-law (pusc-ul h) y = tiles-law (y % 3)
-pilots-law (ofusc {n = n} {cell = cell} w h) y = bins-law (width (setup 2 (64 * n) cell)) y
-pilots-law (amc {n = n} {cell = cell} w h) y = bins-law (width (setup 3 (64 * n) cell)) y
+pilots-law (ofusc {n = n} {cell = cell} w h) y = bins-law (width (setupWith 2 (64 * n) cell)) y
+pilots-law (amc {n = n} {cell = cell} w h) y = bins-law (width (setupWith 3 (64 * n) cell)) y
 
 -- a comb's numbers are small
 pub record Small (b : Comb) : Type 0 where

@@ -1,4 +1,4 @@
--- A subchannel's row of spots, from the table and the rows of its mode. Assumes nothing.
+-- A subchannel's row of spots, from the table and the rows of its mode.
 use mathlib.Core.Path.{_≡_, sym, ap, ap₂, _∙_}
 use mathlib.Core.List.{List}
 use Prim.Native.Nat.{ℕ, _+_, _*_, _%_, _<_}
@@ -7,7 +7,8 @@ use lib.Dec.{lit<, eqb}
 use Rattle.base.proofs.Test.{cases}
 use native.Mathlib.Omega.{arith}
 use Rattle.base.specs.Steps.{entry}
-use Rattle.base.specs.Tabulate.{tabulate, Starts, Below, Turned}
+use Rattle.base.specs.Tabulate.{tabulate}
+use Rattle.base.specs.Model.{Starts, Below, Turned}
 use Rattle.base.proofs.Tabulate.{starts-as, entry-of, turned-row, turned-by, turned-below}
 use Rattle.carriers.specs.declared.Spot.{Spot}
 use Rattle.ofusc.specs.Width.{Width}

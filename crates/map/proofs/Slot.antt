@@ -1,4 +1,4 @@
--- Every valid setup meets the law of a slot and the law of its band: one clause a mode. All that is said of the map above rests on these two. Assumes nothing.
+-- Every valid setup meets the law of a slot and the law of its band: one clause a mode. All that is said of the map above rests on these two.
 use mathlib.Core.Path.{_≡_, ap, subst⁻¹}
 use Prim.Native.Nat.{ℕ, _+_, _*_, _%_, _<_}
 use native.Mathlib.Omega.{arith}

@@ -22,38 +22,38 @@ byMode mode a₀ a₁ a₂ a₃ = pick (eqb mode 0) a₀ (pick (eqb mode 1) a₁
 
 -- N, the number of subchannels of modes 2 and 3: the size is 64N
 unfoldable pub width : Setup → ℕ
-width c = c .size / 64
+width setup = setup .size / 64
 
 unfoldable pub cells : Setup → ℕ
-cells c = byMode (c .mode) 32 70 (width c * width c) 2352
+cells setup = byMode (setup .mode) 32 70 (width setup * width setup) 2352
 
 unfoldable pub subchannels : Setup → ℕ
-subchannels c = byMode (c .mode) 60 70 (width c) (width c)
+subchannels setup = byMode (setup .mode) 60 70 (width setup) (width setup)
 
 -- symbols a slot
 unfoldable pub symbols : Setup → ℕ
-symbols c = byMode (c .mode) 2 3 1 1
+symbols setup = byMode (setup .mode) 2 3 1 1
 
 unfoldable pub band : Setup → Band
-band c = byMode (c .mode) puscBand puscBand (binBand (width c)) (binBand (width c))
+band setup = byMode (setup .mode) puscBand puscBand (binBand (width setup)) (binBand (width setup))
 
 -- Is used number u a pilot in symbol y of the zone? (Tiles go by the symbol in the slot.)
 unfoldable pub isPilot : Setup → ℕ → ℕ → Bool
-isPilot c y u = byMode (c .mode) (isClusterPilot y u) (isTilePilot (y % 3) u) (isBinPilot y u) (isBinPilot y u)
+isPilot setup y u = byMode (setup .mode) (isClusterPilot y u) (isTilePilot (y % 3) u) (isBinPilot y u) (isBinPilot y u)
 
 -- Where index m of a subchannel lies in a slot (in modes 2 and 3 the slot is the zone's symbol), and whose point a used number that is no pilot holds in symbol y of the zone
 unfoldable pub spotOf : Setup → ℕ → ℕ → ℕ → Spot
-spotOf c slot s m =
-    byMode (c .mode)
-    (pusc-dl.spotOf (c .cell) s m)
-    (pusc-ul.spotOf (c .cell) s m)
-    (binSpot slot (ofusc.dataNumber (width c) (c .cell) s m))
-    (binSpot slot (amc.dataNumber (c .cell) s m))
+spotOf setup slot s m =
+    byMode (setup .mode)
+    (pusc-dl.spotOf (setup .cell) s m)
+    (pusc-ul.spotOf (setup .cell) s m)
+    (binSpot slot (ofusc.dataNumber (width setup) (setup .cell) s m))
+    (binSpot slot (amc.dataNumber (setup .cell) s m))
 
 unfoldable pub addressOf : Setup → ℕ → ℕ → Address
-addressOf c y u =
-    byMode (c .mode)
-    (pusc-dl.addressOf (c .cell) (y % 2) u)
-    (pusc-ul.addressOf (c .cell) (y % 3) u)
-    (ofusc.addressOf (width c) (c .cell) (dataOfUsed y u))
-    (amc.addressOf (c .cell) (dataOfUsed y u))
+addressOf setup y u =
+    byMode (setup .mode)
+    (pusc-dl.addressOf (setup .cell) (y % 2) u)
+    (pusc-ul.addressOf (setup .cell) (y % 3) u)
+    (ofusc.addressOf (width setup) (setup .cell) (dataOfUsed y u))
+    (amc.addressOf (setup .cell) (dataOfUsed y u))

@@ -1,37 +1,43 @@
--- How a subchannel's carriers are found fast. No reader needs this to know what the calls do.
+-- The first questions as a number, and how a subchannel's carriers are found fast. No reader needs this to know what the calls do.
 use mathlib.Core.List.{List}
 use Prim.Native.Nat.{ℕ, _+_, _*_, _/_, _%_}
 use lib.Dec.{eqb}
 use Rattle.base.specs.Choice.{pick}
-use Rattle.base.specs.Tabulate.{Starts}
+use Rattle.base.specs.Answer.{accepted, refusalOf}
+use Rattle.base.specs.Model.{Starts}
 use Rattle.carriers.specs.Bin.{binPilotPlace}
 use Rattle.pusc_dl.specs.Cluster.{firstPilot, secondPilot}
 use Rattle.map.specs.declared.Setup.{Setup}
 use Rattle.map.specs.declared.Comb.{Comb}
 use Rattle.map.specs.Mode.{byMode, width}
+use Rattle.map.specs.Question.{askSetup}
 use Rattle.pusc_dl.specs.Model as pusc-dl
 use Rattle.pusc_ul.specs.Model as pusc-ul
 use Rattle.ofusc.specs.Model as ofusc
 use Rattle.amc.specs.Model as amc
 
+-- the number of the first of questions 1, 2 and 3 that is answered no, 0 where none is
+unfoldable pub setupRefusal : (setup : Setup) → ℕ
+setupRefusal setup = refusalOf (askSetup {A = Unit {0}} setup (accepted tt))
+
 -- what the cell alone fixes, in the table of its mode: how many entries, and entry i
 unfoldable pub tableLength : Setup → ℕ
-tableLength c = byMode (c .mode) 188 76 48 48
+tableLength setup = byMode (setup .mode) 188 76 48 48
 
 unfoldable pub tableEntry : Setup → ℕ → ℕ
-tableEntry c i =
-    byMode (c .mode)
-    (pusc-dl.tableEntry (c .cell) i)
-    (pusc-ul.tableEntry (c .cell) i)
-    (ofusc.cellNumber (width c) (c .cell) i)
-    (amc.sequencePlace (c .cell) i)
+tableEntry setup i =
+    byMode (setup .mode)
+    (pusc-dl.tableEntry (setup .cell) i)
+    (pusc-ul.tableEntry (setup .cell) i)
+    (ofusc.cellNumber (width setup) (setup .cell) i)
+    (amc.sequencePlace (setup .cell) i)
 
 abbrev pub TableOf : Setup → List ℕ → Type 0
-TableOf c table = Starts (tableLength c) (tableEntry c) table
+TableOf setup table = Starts (tableLength setup) (tableEntry setup) table
 
 -- how far a subchannel's row is shifted round: by data place in PUSC uplink, by group in optional FUSC, by the places of P in AMC
 unfoldable pub shiftOf : Setup → ℕ → ℕ
-shiftOf c s = byMode (c .mode) 0 (13 * s % 48) (23 * s % 48) (c .cell % 48)
+shiftOf setup s = byMode (setup .mode) 0 (13 * s % 48) (23 * s % 48) (setup .cell % 48)
 
 -- the corners of the tiles; the middle symbol of a slot has none
 abbrev pub tileComb : ℕ → Comb
@@ -39,12 +45,12 @@ tileComb y = record { first = 0; second = 3; step = 4; count = pick (eqb (y % 3)
 
 -- the pilots of symbol y of the zone: in each of `count` runs of `step` used numbers the places `first` and `second`
 unfoldable pub combOf : Setup → ℕ → Comb
-combOf c y =
-    byMode (c .mode)
+combOf setup y =
+    byMode (setup .mode)
     (record { first = firstPilot y; second = secondPilot y; step = 14; count = 120 })
     (tileComb y)
-    (record { first = binPilotPlace y; second = binPilotPlace y; step = 9; count = 6 * width c })
-    (record { first = binPilotPlace y; second = binPilotPlace y; step = 9; count = 6 * width c })
+    (record { first = binPilotPlace y; second = binPilotPlace y; step = 9; count = 6 * width setup })
+    (record { first = binPilotPlace y; second = binPilotPlace y; step = 9; count = 6 * width setup })
 
 -- the used number of a comb's pilot j, two a run
 abbrev pub pilotNumber : Comb → ℕ → ℕ

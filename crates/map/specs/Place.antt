@@ -20,16 +20,16 @@ pub record Place : Type 0 where
 
 -- Document 01, "Modes and their ranges": a symbol's number in its zone is slot times slot length plus the offset in the slot.
 unfoldable pub placeAt : Setup → ℕ → Spot → Place
-placeAt c slot spot = record { symbol = slot * symbols c + spot .offset; carrier = carrierOf (band c) (spot .used) }
+placeAt setup slot spot = record { symbol = slot * symbols setup + spot .offset; carrier = carrierOf (band setup) (spot .used) }
 
 -- Document 01, "Grids": placing takes mode, size, cell, slot, subchannel and index and gives the zone's symbol and the carrier. Questions 1, 2, 3, 4, 5, 6.
 unfoldable pub placeOf : Setup → ℕ → ℕ → ℕ → Answer Place
-placeOf c slot subchannel index =
-    askSetup c
+placeOf setup slot subchannel index =
+    askSetup setup
     (ask (isSlot slot) 4
-    (ask (isSubchannel c subchannel) 5
+    (ask (isSubchannel setup subchannel) 5
     (ask (isIndex index) 6
-    (accepted (placeAt c slot (spotOf c slot subchannel index))))))
+    (accepted (placeAt setup slot (spotOf setup slot subchannel index))))))
 
 -- What an answer of `place` says: document 01's values, or its number.
 abbrev pub placed : Placed → Answer Place
@@ -43,24 +43,24 @@ pub data Content : Type 0 where
 
 -- the point whose address in its slot is a, in symbol y of the zone
 unfoldable pub pointAt : Setup → ℕ → Address → Content
-pointAt c y a = point (y / symbols c) (a .subchannel) (a .index)
+pointAt setup y a = point (y / symbols setup) (a .subchannel) (a .index)
 
 -- guard and DC by the carrier, pilot by its used number in symbol y of the zone; else the point that lies there
 unfoldable pub contentOf : Setup → ℕ → ℕ → Content
-contentOf c y carrier =
-    let u = usedOf (band c) carrier in
-    pick (isGuard (band c) (c .size) carrier) guard
-    (pick (isDc (band c) carrier) dc
-    (pick (isPilot c y u) pilot
-    (pointAt c y (addressOf c y u))))
+contentOf setup y carrier =
+    let u = usedOf (band setup) carrier in
+    pick (isGuard (band setup) (setup .size) carrier) guard
+    (pick (isDc (band setup) carrier) dc
+    (pick (isPilot setup y u) pilot
+    (pointAt setup y (addressOf setup y u))))
 
 -- Document 01, "Grids": its reverse takes mode, size, cell, the zone's symbol and a carrier and gives guard, DC, pilot or the data address (slot, subchannel, index). Questions 1, 2, 3, 4, 7.
 unfoldable pub locateOf : Setup → ℕ → ℕ → Answer Content
-locateOf c symbol carrier =
-    askSetup c
-    (ask (isSymbol c symbol) 4
-    (ask (isCarrier c carrier) 7
-    (accepted (contentOf c symbol carrier))))
+locateOf setup symbol carrier =
+    askSetup setup
+    (ask (isSymbol setup symbol) 4
+    (ask (isCarrier setup carrier) 7
+    (accepted (contentOf setup symbol carrier))))
 
 -- What an answer of `locate` says.
 abbrev pub located : Located → Answer Content

@@ -3,11 +3,11 @@ use Prim.Native.Nat.{ℕ, _*_, _<_}
 use Rattle.ofusc.specs.Width.{Width}
 use Rattle.map.specs.declared.Setup.{Setup}
 
-abbrev pub setup : ℕ → ℕ → ℕ → Setup
-setup m z k = record { mode = m; size = z; cell = k }
+abbrev pub setupWith : ℕ → ℕ → ℕ → Setup
+setupWith m z k = record { mode = m; size = z; cell = k }
 
 pub data Valid : Setup → Type 0 where
-  pusc-dl : {cell : ℕ} → cell < 32 → Valid (setup 0 2048 cell)
-  pusc-ul : {cell : ℕ} → cell < 70 → Valid (setup 1 2048 cell)
-  ofusc : {n cell : ℕ} → Width n → cell < n * n → Valid (setup 2 (64 * n) cell)
-  amc : {n cell : ℕ} → Width n → cell < 2352 → Valid (setup 3 (64 * n) cell)
+  pusc-dl : {cell : ℕ} → cell < 32 → Valid (setupWith 0 2048 cell)
+  pusc-ul : {cell : ℕ} → cell < 70 → Valid (setupWith 1 2048 cell)
+  ofusc : {n cell : ℕ} → Width n → cell < n * n → Valid (setupWith 2 (64 * n) cell)
+  amc : {n cell : ℕ} → Width n → cell < 2352 → Valid (setupWith 3 (64 * n) cell)

@@ -6,11 +6,12 @@ ghost use mathlib.Core.Path.{_≡_};
 ghost use mathlib.Core.Bool.{false};
 ghost use Prim.Native.Nat.{_*_, _/_, _%_, _<_, _≤_};
 ghost use Rattle.base.specs.Answer.{accepted};
-ghost use Rattle.base.specs.Tabulate.{Turned};
+ghost use Rattle.base.specs.Model.{Turned};
 ghost use Rattle.carriers.specs.Bin.{binSpot};
 ghost use Rattle.carriers.specs.Model.{spotNumber, carrierNumber};
 ghost use Rattle.map.specs.Mode.{width as Width, cells as Cells, subchannels as Subchannels, symbols as Symbols, band as BandOf, isPilot, spotOf, addressOf};
-ghost use Rattle.map.specs.Question.{isFourSizes, isSize, setupNumber};
+ghost use Rattle.map.specs.Question.{isFourSizes, isSize};
+ghost use Rattle.map.specs.Model.{setupRefusal};
 ghost use Rattle.map.specs.Place.{placed, placeAt, placeOf, located, contentOf, locateOf};
 ghost use Rattle.map.specs.Valid.{Valid};
 ghost use Rattle.map.specs.Model.{TableOf, shiftOf, combOf, tileComb, pilotNumber};
@@ -50,90 +51,90 @@ pub struct Comb {
 }
 
 // N of modes 2 and 3.
-fn width(c: Setup) -> usize
-    ensures { λ r. ⌜ r ≡ Width c ⌝ }
+fn width(setup: Setup) -> usize
+    ensures { λ r. ⌜ r ≡ Width setup ⌝ }
 {
-    c.size / 64
+    setup.size / 64
 }
 
-fn cells(c: Setup) -> usize
-    requires { ⌜ c .size ≤ 2048 ⌝ }
-    ensures { λ r. ⌜ r ≡ Cells c ⌝ }
+fn cells(setup: Setup) -> usize
+    requires { ⌜ setup .size ≤ 2048 ⌝ }
+    ensures { λ r. ⌜ r ≡ Cells setup ⌝ }
 {
-    if c.mode == 0 {
+    if setup.mode == 0 {
         return 32;
     }
-    if c.mode == 1 {
+    if setup.mode == 1 {
         return 70;
     }
-    if c.mode == 2 {
-        return width(c) * width(c);
+    if setup.mode == 2 {
+        return width(setup) * width(setup);
     }
     2352
 }
 
-pub fn subchannels(c: Setup) -> usize
-    ensures { λ r. ⌜ r ≡ Subchannels c ⌝ }
+pub fn subchannels(setup: Setup) -> usize
+    ensures { λ r. ⌜ r ≡ Subchannels setup ⌝ }
 {
-    if c.mode == 0 {
+    if setup.mode == 0 {
         return 60;
     }
-    if c.mode == 1 {
+    if setup.mode == 1 {
         return 70;
     }
-    width(c)
+    width(setup)
 }
 
 // Symbols a slot.
-pub fn symbols(c: Setup) -> usize
-    ensures { λ r. ⌜ r ≡ Symbols c ⌝ }
+pub fn symbols(setup: Setup) -> usize
+    ensures { λ r. ⌜ r ≡ Symbols setup ⌝ }
 {
-    if c.mode == 0 {
+    if setup.mode == 0 {
         return 2;
     }
-    if c.mode == 1 {
+    if setup.mode == 1 {
         return 3;
     }
     1
 }
 
 // The slot of a zone's symbol, by a constant in each mode.
-fn slot_of(c: Setup, symbol: usize) -> usize
-    ensures { λ r. ⌜ r ≡ symbol / Symbols c ⌝ }
+fn slot_of(setup: Setup, symbol: usize) -> usize
+    ensures { λ r. ⌜ r ≡ symbol / Symbols setup ⌝ }
 {
-    if c.mode == 0 {
+    if setup.mode == 0 {
         return symbol / 2;
     }
-    if c.mode == 1 {
+    if setup.mode == 1 {
         return symbol / 3;
     }
     symbol
 }
 
 // Its offset in that slot.
-pub fn offset_of(c: Setup, symbol: usize) -> usize
-    ensures { λ r. ⌜ r ≡ symbol % Symbols c ⌝ }
+pub fn offset_of(setup: Setup, symbol: usize) -> usize
+    ensures { λ r. ⌜ r ≡ symbol % Symbols setup ⌝ }
 {
-    if c.mode == 0 {
+    if setup.mode == 0 {
         return symbol % 2;
     }
-    if c.mode == 1 {
+    if setup.mode == 1 {
         return symbol % 3;
     }
     0
 }
 
-pub fn band(c: Setup) -> Band
-    requires { ⌜ Valid c ⌝ }
-    ensures { λ r. ⌜ r ≡ BandOf c ⌝ }
+pub fn band(setup: Setup) -> Band
+    requires { ⌜ Valid setup ⌝ }
+    ensures { λ r. ⌜ r ≡ BandOf setup ⌝ }
 {
-    if c.mode == 0 {
+    if setup.mode == 0 {
         return carriers::pusc_band();
     }
-    if c.mode == 1 {
+    if setup.mode == 1 {
         return carriers::pusc_band();
     }
-    carriers::bin_band(width(c))
+    carriers::bin_band(width(setup))
 }
 
 // Is it one of the four sizes of modes 2 and 3?
@@ -152,47 +153,47 @@ pub fn is_four_sizes(size: usize) -> bool
     size == 2048
 }
 
-fn is_size(c: Setup) -> bool
-    ensures { λ r. ⌜ r ≡ isSize c ⌝ }
+fn is_size(setup: Setup) -> bool
+    ensures { λ r. ⌜ r ≡ isSize setup ⌝ }
 {
-    if c.mode < 2 {
-        c.size == 2048
+    if setup.mode < 2 {
+        setup.size == 2048
     } else {
-        is_four_sizes(c.size)
+        is_four_sizes(setup.size)
     }
 }
 
 // The number of the first of questions 1, 2 and 3 that is answered no, or 0.
-pub fn refusal(c: Setup) -> u8
-    ensures { λ r. ⌜ r ≡ setupNumber c ⌝ }
+pub fn refusal(setup: Setup) -> u8
+    ensures { λ r. ⌜ r ≡ setupRefusal setup ⌝ }
 {
-    if 4 <= c.mode {
+    if 4 <= setup.mode {
         return 1;
     }
-    if !is_size(c) {
+    if !is_size(setup) {
         return 2;
     }
-    if cells(c) <= c.cell {
+    if cells(setup) <= setup.cell {
         return 3;
     }
     0
 }
 
 // What the cell alone fixes of the places of a slot.
-pub fn table(c: Setup) -> [u16; 188]
-    requires { ⌜ Valid c ⌝ }
-    ensures { λ r. ⌜ TableOf c r ⌝ }
+pub fn table(setup: Setup) -> [u16; 188]
+    requires { ⌜ Valid setup ⌝ }
+    ensures { λ r. ⌜ TableOf setup r ⌝ }
 {
-    if c.mode == 0 {
-        return pusc_dl::table(c.cell);
+    if setup.mode == 0 {
+        return pusc_dl::table(setup.cell);
     }
-    if c.mode == 1 {
-        return pusc_ul::table(c.cell);
+    if setup.mode == 1 {
+        return pusc_ul::table(setup.cell);
     }
-    if c.mode == 2 {
-        return ofusc::table(width(c), c.cell);
+    if setup.mode == 2 {
+        return ofusc::table(width(setup), setup.cell);
     }
-    amc::table(c.cell)
+    amc::table(setup.cell)
 }
 
 // Where data number d lies in a slot of one symbol.
@@ -207,89 +208,92 @@ fn bin_spot(slot: usize, d: usize) -> Spot
 }
 
 // Where a point lies in its slot.
-fn spot(c: Setup, slot: usize, subchannel: usize, index: usize) -> Spot
-    requires { ⌜ Valid c ⌝ }
-    requires { ⌜ (subchannel < Subchannels c) × (index < 48) ⌝ }
-    ensures { λ r. ⌜ r ≡ spotOf c slot subchannel index ⌝ }
+fn spot(setup: Setup, slot: usize, subchannel: usize, index: usize) -> Spot
+    requires { ⌜ Valid setup ⌝ }
+    requires { ⌜ (subchannel < Subchannels setup) × (index < 48) ⌝ }
+    ensures { λ r. ⌜ r ≡ spotOf setup slot subchannel index ⌝ }
 {
-    if c.mode == 0 {
-        return pusc_dl::spot(c.cell, subchannel, index);
+    if setup.mode == 0 {
+        return pusc_dl::spot(setup.cell, subchannel, index);
     }
-    if c.mode == 1 {
-        return pusc_ul::spot(c.cell, subchannel, index);
+    if setup.mode == 1 {
+        return pusc_ul::spot(setup.cell, subchannel, index);
     }
-    if c.mode == 2 {
+    if setup.mode == 2 {
         return bin_spot(
             slot,
-            ofusc::data_number(width(c), c.cell, subchannel, index),
+            ofusc::data_number(width(setup), setup.cell, subchannel, index),
         );
     }
-    bin_spot(slot, amc::data_number(c.cell, subchannel, index))
+    bin_spot(slot, amc::data_number(setup.cell, subchannel, index))
 }
 
 // The place in a subchannel's row at which index 0 stands; the others follow, going on at the row's start.
-pub fn shift(c: Setup, subchannel: usize) -> usize
+pub fn shift(setup: Setup, subchannel: usize) -> usize
     requires { ⌜ subchannel < 65536 ⌝ }
-    ensures { λ r. ⌜ (r ≡ shiftOf c subchannel) × (r < 48) ⌝ }
+    ensures { λ r. ⌜ (r ≡ shiftOf setup subchannel) × (r < 48) ⌝ }
 {
-    if c.mode == 0 {
+    if setup.mode == 0 {
         return 0;
     }
-    if c.mode == 1 {
+    if setup.mode == 1 {
         return 13 * subchannel % 48;
     }
-    if c.mode == 2 {
+    if setup.mode == 2 {
         return 23 * subchannel % 48;
     }
-    c.cell % 48
+    setup.cell % 48
 }
 
 // Where the points of a subchannel lie in its slot, as numbers, index 0 at place `shift`; not in PUSC uplink.
-fn spots(c: Setup, slot: usize, subchannel: usize, table: &[u16; 188]) -> [u16; 48]
-    requires { ⌜ Valid c ⌝ }
-    requires { ⌜ (c .mode ≡ 1 → ⊥) × (subchannel < Subchannels c) × TableOf c (now table) ⌝ }
-    ensures { λ r. ⌜ Turned (shiftOf c subchannel) (λ m. spotNumber (spotOf c slot subchannel m)) r ⌝ }
+fn spots(setup: Setup, slot: usize, subchannel: usize, table: &[u16; 188]) -> [u16; 48]
+    requires { ⌜ Valid setup ⌝ }
+    requires { ⌜ (setup .mode ≡ 1 → ⊥) × (subchannel < Subchannels setup) × TableOf setup (now table) ⌝ }
+    ensures { λ r. ⌜ Turned (shiftOf setup subchannel) (λ m. spotNumber (spotOf setup slot subchannel m)) r ⌝ }
 {
-    if c.mode == 0 {
-        return pusc_dl::spots(c.cell, subchannel, table);
+    if setup.mode == 0 {
+        return pusc_dl::spots(setup.cell, subchannel, table);
     }
-    if c.mode == 2 {
-        return carriers::used_numbers(slot, ofusc::numbers(width(c), c.cell, subchannel, table));
+    if setup.mode == 2 {
+        return carriers::used_numbers(
+            slot,
+            ofusc::numbers(width(setup), setup.cell, subchannel, table),
+        );
     }
-    carriers::used_numbers(slot, amc::numbers(c.cell, subchannel, table))
+    carriers::used_numbers(slot, amc::numbers(setup.cell, subchannel, table))
 }
 
 // The carriers of a subchannel's points as numbers, 2048 for each symbol of the slot, index 0 at place `shift`.
-pub fn carrier_row(c: Setup, slot: usize, subchannel: usize, table: &[u16; 188]) -> [u16; 48]
-    requires { ⌜ Valid c ⌝ }
-    requires { ⌜ (subchannel < Subchannels c) × TableOf c (now table) ⌝ }
-    ensures { λ r. ⌜ Turned (shiftOf c subchannel) (λ m. carrierNumber (BandOf c) (spotOf c slot subchannel m)) r ⌝ }
+pub fn carrier_row(setup: Setup, slot: usize, subchannel: usize, table: &[u16; 188]) -> [u16; 48]
+    requires { ⌜ Valid setup ⌝ }
+    requires { ⌜ (subchannel < Subchannels setup) × TableOf setup (now table) ⌝ }
+    ensures { λ r. ⌜ Turned (shiftOf setup subchannel) (λ m. carrierNumber (BandOf setup) (spotOf setup slot subchannel m)) r ⌝ }
 {
-    if c.mode == 1 {
-        return pusc_ul::carrier_row(c.cell, subchannel, table);
+    if setup.mode == 1 {
+        return pusc_ul::carrier_row(setup.cell, subchannel, table);
     }
-    let row = spots(c, slot, subchannel, table);
-    carriers::carrier_row(band(c), row)
+    let row = spots(setup, slot, subchannel, table);
+    carriers::carrier_row(band(setup), row)
 }
 
-fn is_pilot(c: Setup, symbol: usize, used: usize) -> bool
-    ensures { λ r. ⌜ r ≡ isPilot c symbol used ⌝ }
+fn is_pilot(setup: Setup, symbol: usize, used: usize) -> bool
+    ensures { λ r. ⌜ r ≡ isPilot setup symbol used ⌝ }
 {
-    if c.mode == 0 {
+    if setup.mode == 0 {
         return pusc_dl::is_pilot(symbol, used);
     }
-    if c.mode == 1 {
+    if setup.mode == 1 {
         return pusc_ul::is_pilot(symbol % 3, used);
     }
     carriers::is_bin_pilot(symbol, used)
 }
 
 // The pilots of a symbol of the zone.
-pub fn pilot_comb(c: Setup, symbol: usize) -> Comb
-    requires { ⌜ Valid c ⌝ }
-    ensures { λ r. ⌜ r ≡ combOf c symbol ⌝ }
+pub fn pilot_comb(setup: Setup, symbol: usize) -> Comb
+    requires { ⌜ Valid setup ⌝ }
+    ensures { λ r. ⌜ r ≡ combOf setup symbol ⌝ }
 {
-    if c.mode == 0 {
+    if setup.mode == 0 {
         let p = pusc_dl::pilots(symbol);
         return Comb {
             first: p.first,
@@ -298,7 +302,7 @@ pub fn pilot_comb(c: Setup, symbol: usize) -> Comb
             count: 120,
         };
     }
-    if c.mode == 1 {
+    if setup.mode == 1 {
         return tile_comb(symbol);
     }
     let place = carriers::bin_pilot_place(symbol);
@@ -306,7 +310,7 @@ pub fn pilot_comb(c: Setup, symbol: usize) -> Comb
         first: place,
         second: place,
         step: 9,
-        count: 6 * width(c),
+        count: 6 * width(setup),
     }
 }
 
@@ -342,34 +346,34 @@ pub fn pilot_number(k: Comb, j: usize) -> usize
 }
 
 // Whose point a used number holds that is no pilot.
-fn address(c: Setup, symbol: usize, used: usize) -> Address
-    requires { ⌜ Valid c ⌝ }
-    requires { ⌜ used < BandOf c .used ⌝ }
-    requires { ⌜ isPilot c symbol used ≡ false ⌝ }
-    ensures { λ r. ⌜ r ≡ addressOf c symbol used ⌝ }
+fn address(setup: Setup, symbol: usize, used: usize) -> Address
+    requires { ⌜ Valid setup ⌝ }
+    requires { ⌜ used < BandOf setup .used ⌝ }
+    requires { ⌜ isPilot setup symbol used ≡ false ⌝ }
+    ensures { λ r. ⌜ r ≡ addressOf setup symbol used ⌝ }
 {
-    if c.mode == 0 {
-        return pusc_dl::address(c.cell, symbol % 2, used);
+    if setup.mode == 0 {
+        return pusc_dl::address(setup.cell, symbol % 2, used);
     }
-    if c.mode == 1 {
-        return pusc_ul::address(c.cell, symbol % 3, used);
+    if setup.mode == 1 {
+        return pusc_ul::address(setup.cell, symbol % 3, used);
     }
     let d = carriers::data_of_used(symbol, used);
-    if c.mode == 2 {
-        return ofusc::address(width(c), c.cell, d);
+    if setup.mode == 2 {
+        return ofusc::address(width(setup), setup.cell, d);
     }
-    amc::address(c.cell, d)
+    amc::address(setup.cell, d)
 }
 
 // The place of a spot of a slot.
-fn at(c: Setup, slot: usize, x: Spot) -> Placed
-    requires { ⌜ Valid c ⌝ }
-    requires { ⌜ (slot < 512) × (x .offset < Symbols c) × (x .used < BandOf c .used) ⌝ }
-    ensures { λ r. ⌜ placed r ≡ accepted (placeAt c slot x) ⌝ }
+fn at(setup: Setup, slot: usize, x: Spot) -> Placed
+    requires { ⌜ Valid setup ⌝ }
+    requires { ⌜ (slot < 512) × (x .offset < Symbols setup) × (x .used < BandOf setup .used) ⌝ }
+    ensures { λ r. ⌜ placed r ≡ accepted (placeAt setup slot x) ⌝ }
 {
     Placed::At {
-        symbol: slot * symbols(c) + x.offset,
-        carrier: carriers::carrier(band(c), x.used),
+        symbol: slot * symbols(setup) + x.offset,
+        carrier: carriers::carrier(band(setup), x.used),
     }
 }
 
@@ -394,25 +398,25 @@ pub fn place(setup: Setup, slot: usize, subchannel: usize, index: usize) -> Plac
 }
 
 // What a carrier of an accepted symbol holds.
-fn content(c: Setup, symbol: usize, carrier: usize) -> Located
-    requires { ⌜ Valid c ⌝ }
-    requires { ⌜ carrier < c .size ⌝ }
-    ensures { λ r. ⌜ located r ≡ accepted (contentOf c symbol carrier) ⌝ }
+fn content(setup: Setup, symbol: usize, carrier: usize) -> Located
+    requires { ⌜ Valid setup ⌝ }
+    requires { ⌜ carrier < setup .size ⌝ }
+    ensures { λ r. ⌜ located r ≡ accepted (contentOf setup symbol carrier) ⌝ }
 {
-    let b = band(c);
-    if carriers::is_guard(b, c.size, carrier) {
+    let b = band(setup);
+    if carriers::is_guard(b, setup.size, carrier) {
         return Located::Guard;
     }
     if carriers::is_dc(b, carrier) {
         return Located::Dc;
     }
     let used = carriers::used(b, carrier);
-    if is_pilot(c, symbol, used) {
+    if is_pilot(setup, symbol, used) {
         return Located::Pilot;
     }
-    let a = address(c, symbol, used);
+    let a = address(setup, symbol, used);
     Located::Data {
-        slot: slot_of(c, symbol),
+        slot: slot_of(setup, symbol),
         subchannel: a.subchannel,
         index: a.index,
     }

@@ -1,4 +1,4 @@
--- Optional FUSC numbers the data carriers of a symbol one for one: the group is a rotation of the index, the place in the group an exclusive or, and both are digits of the data number. Assumes nothing.
+-- Optional FUSC numbers the data carriers of a symbol one for one: the group is a rotation of the index, the place in the group an exclusive or, and both are digits of the data number.
 use mathlib.Core.Path.{_≡_, ap, ap₂, _∙_}
 use Prim.Native.Nat.{ℕ, _+_, _*_, _/_, _%_, _<_}
 use native.Mathlib.Nat.{mod-lt, div-add-mod', div-lt-iff-lt-mul}

@@ -1,4 +1,4 @@
--- A row of data numbers: the subchannel is added to what the cell fixes. Assumes nothing.
+-- A row of data numbers: the subchannel is added to what the cell fixes.
 use mathlib.Core.Path.{_≡_, ap, ap₂, _∙_, subst⁻¹}
 use Prim.Native.Nat.{ℕ, _+_, _*_, _%_, _^_, _<_}
 use native.Mathlib.Omega.{arith}

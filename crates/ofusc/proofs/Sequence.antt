@@ -1,4 +1,4 @@
--- What the sequences are made of: each entry is an element of the field. Assumes nothing.
+-- What the sequences are made of: each entry is an element of the field.
 use mathlib.Core.Path.{_≡_, refl, sym, ap, _∙_, subst, subst⁻¹}
 use mathlib.Core.Bool.{Bool}
 use Prim.Native.Nat.{ℕ, _+_, _-_, _*_, _/_, _%_, _^_, _<_, _≤_}

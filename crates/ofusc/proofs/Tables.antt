@@ -1,4 +1,4 @@
--- The tables of the code and of document 002 against the rule: P1 lists the powers of 2, and P2's entry i is P1's entry 2i mod (N-1). Each a test computed over the whole table. Assumes nothing.
+-- The tables of the code and of document 002 against the rule: P1 lists the powers of 2, and P2's entry i is P1's entry 2i mod (N-1). Each a test computed over the whole table.
 use mathlib.Core.Path.{_≡_, refl, ap₂}
 use mathlib.Core.Bool.{Bool}
 use mathlib.Core.List.{List, [], _∷_}

@@ -1,4 +1,4 @@
--- The bytes of zones, one zone after the other. Assumes nothing.
+-- The bytes of zones, one zone after the other.
 use mathlib.Core.Path.{_≡_, refl, sym, ap, _∙_}
 use mathlib.Core.List.{List, [], _∷_, _++_, append-assoc, append-nil}
 use Prim.Native.Nat.{ℕ, _+_, _*_, _<_, _≤_}
@@ -16,7 +16,7 @@ use Rattle.value.proofs.Laws.{size-most, Put, put-length, put-next}
 use Rattle.plan.specs.declared.Zone.{Zone}
 use Rattle.plan.specs.declared.Plan.{Plan}
 use Rattle.plan.specs.Zone.{unused}
-use Rattle.plan.specs.Write.{zoneBytes, zonesBytes, planBytes, planNumber, writeOf}
+use Rattle.plan.specs.Write.{zoneBytes, zonesBytes, planBytes, planRefusal, writeOf}
 use Rattle.plan.proofs.Number.{plan-by}
 
 pub zone-length : (z : Zone) → length (zoneBytes z) ≡ length (encode (z .mode)) + (length (encode (z .cell)) + length (encode (z .slots)))
@@ -103,7 +103,7 @@ pub put-begin : (d : List ℕ) (count : ℕ) (zones : List Zone) (at : ℕ) → 
 put-begin d count zones at p c r = record { places = p; count-is = c; below = omega arith; room = r; done = rw (no-zones zones) (put-none d at) }
 
 -- the answers of writing
-module _ (p : Plan) (d : List ℕ) {n : ℕ} (e : n ≡ planNumber p) where
+module _ (p : Plan) (d : List ℕ) {n : ℕ} (e : n ≡ planRefusal p) where
   pub write-no : (n ≡ 0 → ⊥) → record { answer = refused n; dest = d } ≡ writeOf p d
   unfolding writeOf
   write-no h = rw (plan-by p, ← e, ne-eqb n 0 h)

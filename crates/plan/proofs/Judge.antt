@@ -1,4 +1,4 @@
--- The questions put to zones, and what a yes to all of them says. Assumes nothing.
+-- The questions put to zones, and what a yes to all of them says.
 use mathlib.Core.Path.{_≡_, refl, _∙_}
 use mathlib.Core.Bool.{true}
 use mathlib.Core.List.{List, [], _∷_}
@@ -21,7 +21,7 @@ use Rattle.plan.specs.declared.Plan.{Plan}
 use Rattle.plan.specs.declared.Before.{Before}
 use Rattle.plan.specs.declared.Before.the-variants.{First, After}
 use Rattle.plan.specs.Zone.{isCount, isZoneMode, setupOf, isSlots, isOrder, askZone, unused}
-use Rattle.plan.specs.Write.{areUnused, usedZones, askZones, askPlan, planNumber, Small}
+use Rattle.plan.specs.Write.{areUnused, usedZones, askZones, askPlan, planRefusal, Small}
 use Rattle.plan.proofs.Places.{both-true}
 use Rattle.plan.proofs.Number.{yes-all, plan-by}
 
@@ -131,10 +131,10 @@ unfolding isSize
 size-small z e = size-most (record { mode = 2; size = z; cell = 0 }) e
 
 -- a plan whose number is 0 is such a plan, and its zones' values are small
-pub fit-of : (p : Plan) → planNumber p ≡ 0 → Fit p
+pub fit-of : (p : Plan) → planRefusal p ≡ 0 → Fit p
 fit-of p e =
     let end : Answer (Unit {0}) = accepted tt in
-    plan-yes p end {a = tt} (plan-by p end ∙ yes-all (planNumber p) end e) .0
+    plan-yes p end {a = tt} (plan-by p end ∙ yes-all (planRefusal p) end e) .0
 
 pub used-small : (p : Plan) (k : ℕ) → Fit p → length (p .zones) ≡ 8 → k < p .count → Small (getD (p .zones) k unused)
 used-small p k f e h =

@@ -1,4 +1,4 @@
--- A chain of questions by its number: the first that is answered no, or 0. Assumes nothing.
+-- A chain of questions by its number: the first that is answered no, or 0.
 use mathlib.Core.Path.{_≡_, refl, sym, ap, _∙_}
 use mathlib.Core.Bool.{Bool, true, false}
 use mathlib.Core.List.{List, [], _∷_}
@@ -8,15 +8,16 @@ use lib.Dec.{eqb, ltb}
 use lib.ListN.{length, take, drop, getD}
 use borrow.Author.Tests.{eq-eqb, ne-eqb, lt-ltb, le-ltb, le-leb, lt-leb}
 use Rattle.base.specs.Choice.{pick}
-use Rattle.base.specs.Answer.{Answer, accepted, refused, ask, number}
+use Rattle.base.specs.Answer.{Answer, accepted, refused, ask, refusalOf}
 use Rattle.base.proofs.Test.{cases}
-use Rattle.map.specs.Question.{isMode, isFourSizes, isSize, isCell, setupNumber}
+use Rattle.map.specs.Question.{isMode, isFourSizes, isSize, isCell}
+use Rattle.map.specs.Model.{setupRefusal}
 use Rattle.plan.specs.declared.Zone.{Zone}
 use Rattle.plan.specs.declared.Plan.{Plan}
 use Rattle.plan.specs.declared.Before.{Before}
 use Rattle.plan.specs.declared.Before.the-variants.{First, After}
-use Rattle.plan.specs.Zone.{isCount, isZoneMode, setupOf, isSlots, isOrder, askZone, slotsNumber, ownNumber, zoneNumber, unused}
-use Rattle.plan.specs.Write.{areUnused, usedZones, askZones, askPlan, zonesNumber, planNumber}
+use Rattle.plan.specs.Zone.{isCount, isZoneMode, setupOf, isSlots, isOrder, askZone, slotsRefusal, ownRefusal, zoneRefusal, unused}
+use Rattle.plan.specs.Write.{areUnused, usedZones, askZones, askPlan, zonesRefusal, planRefusal}
 use Rattle.plan.proofs.Places.{used-next, used-none}
 
 -- what a chain of this number gives, before the rest
@@ -36,16 +37,16 @@ twice n m rest = cases (eqb n 0) (λ e. rw e) (λ e. rw (e, e))
 
 -- slots
 module _ (slots : ℕ) where
-  pub slots-none : slots ≡ 0 → 13 ≡ slotsNumber slots
-  unfolding slotsNumber isSlots
+  pub slots-none : slots ≡ 0 → 13 ≡ slotsRefusal slots
+  unfolding slotsRefusal isSlots
   slots-none h = rw (le-ltb 0 slots (omega arith))
 
-  pub slots-many : (slots ≡ 0 → ⊥) → 512 < slots → 13 ≡ slotsNumber slots
-  unfolding slotsNumber isSlots
+  pub slots-many : (slots ≡ 0 → ⊥) → 512 < slots → 13 ≡ slotsRefusal slots
+  unfolding slotsRefusal isSlots
   slots-many z h = rw (lt-ltb 0 slots (omega arith), lt-leb slots 512 h)
 
-  pub slots-good : (slots ≡ 0 → ⊥) → slots ≤ 512 → 0 ≡ slotsNumber slots
-  unfolding slotsNumber isSlots
+  pub slots-good : (slots ≡ 0 → ⊥) → slots ≤ 512 → 0 ≡ slotsRefusal slots
+  unfolding slotsRefusal isSlots
   slots-good z h = rw (lt-ltb 0 slots (omega arith), le-leb slots 512 h)
 
 -- the count
@@ -64,8 +65,8 @@ module _ (count : ℕ) where
 
 -- a zone's own questions, by those of the map
 module _ (size : ℕ) (z : Zone) where
-  pub own-uplink : z .mode ≡ 1 → 1 ≡ ownNumber size z
-  unfolding ownNumber isZoneMode
+  pub own-uplink : z .mode ≡ 1 → 1 ≡ ownRefusal size z
+  unfolding ownRefusal isZoneMode
   own-uplink e = rw e
 
   listed : (m : ℕ) → (m ≡ 1 → ⊥) → isZoneMode m ≡ ltb m 4
@@ -78,30 +79,30 @@ module _ (size : ℕ) (z : Zone) where
       let n = suc (suc (suc (suc m))) in
       rw (ne-eqb n 0 (λ q. omega arith), ne-eqb n 2 (λ q. omega arith), ne-eqb n 3 (λ q. omega arith), le-ltb n 4 (omega arith))
 
-  pub own-by : (z .mode ≡ 1 → ⊥) → ownNumber size z ≡ pick (eqb (setupNumber (setupOf size z)) 0) (slotsNumber (z .slots)) (setupNumber (setupOf size z))
-  unfolding ownNumber setupNumber slotsNumber isMode
+  pub own-by : (z .mode ≡ 1 → ⊥) → ownRefusal size z ≡ pick (eqb (setupRefusal (setupOf size z)) 0) (slotsRefusal (z .slots)) (setupRefusal (setupOf size z))
+  unfolding ownRefusal setupRefusal slotsRefusal isMode
   own-by h = rw (listed (z .mode) h) (four (ltb (z .mode) 4) (isSize (setupOf size z)) (isCell (setupOf size z)) (isSlots (z .slots)))
     where
-      four : (a b d e : Bool) → number (ask {A = Unit {0}} a 1 (ask b 2 (ask d 3 (ask e 13 (accepted tt))))) ≡ pick (eqb (number (ask {A = Unit {0}} a 1 (ask b 2 (ask d 3 (accepted tt))))) 0) (number (ask {A = Unit {0}} e 13 (accepted tt))) (number (ask {A = Unit {0}} a 1 (ask b 2 (ask d 3 (accepted tt)))))
+      four : (a b d e : Bool) → refusalOf (ask {A = Unit {0}} a 1 (ask b 2 (ask d 3 (ask e 13 (accepted tt))))) ≡ pick (eqb (refusalOf (ask {A = Unit {0}} a 1 (ask b 2 (ask d 3 (accepted tt))))) 0) (refusalOf (ask {A = Unit {0}} e 13 (accepted tt))) (refusalOf (ask {A = Unit {0}} a 1 (ask b 2 (ask d 3 (accepted tt)))))
       four false b d e = refl
       four true false d e = refl
       four true true false e = refl
       four true true true e = refl
 
-  module _ (u : z .mode ≡ 1 → ⊥) (r : ℕ) (e : r ≡ setupNumber (setupOf size z)) where
-    pub own-no : (r ≡ 0 → ⊥) → r ≡ ownNumber size z
+  module _ (u : z .mode ≡ 1 → ⊥) (r : ℕ) (e : r ≡ setupRefusal (setupOf size z)) where
+    pub own-no : (r ≡ 0 → ⊥) → r ≡ ownRefusal size z
     own-no h = rw (own-by u, ← e, ne-eqb r 0 h)
 
-    pub own-rest : r ≡ 0 → (n : ℕ) → n ≡ slotsNumber (z .slots) → n ≡ ownNumber size z
+    pub own-rest : r ≡ 0 → (n : ℕ) → n ≡ slotsRefusal (z .slots) → n ≡ ownRefusal size z
     own-rest h n q = rw (own-by u, ← e, eq-eqb r 0 h, q)
 
 -- the questions put to a zone in its plan
 module _ (size : ℕ) (before : Before) (z : Zone) where
-  pub zone-by : {A : Type 0} (rest : Answer A) → askZone size before z rest ≡ numbered (zoneNumber size before z) rest
-  unfolding zoneNumber
+  pub zone-by : {A : Type 0} (rest : Answer A) → askZone size before z rest ≡ numbered (zoneRefusal size before z) rest
+  unfolding zoneRefusal
   zone-by rest = five (isZoneMode (z .mode)) (isSize (setupOf size z)) (isCell (setupOf size z)) (isSlots (z .slots)) (isOrder before size z)
     where
-      five : (a b d e f : Bool) → ask a 1 (ask b 2 (ask d 3 (ask e 13 (ask f 14 rest)))) ≡ numbered (number (ask {A = Unit {0}} a 1 (ask b 2 (ask d 3 (ask e 13 (ask f 14 (accepted tt))))))) rest
+      five : (a b d e f : Bool) → ask a 1 (ask b 2 (ask d 3 (ask e 13 (ask f 14 rest)))) ≡ numbered (refusalOf (ask {A = Unit {0}} a 1 (ask b 2 (ask d 3 (ask e 13 (ask f 14 (accepted tt))))))) rest
       five false b d e f = refl
       five true false d e f = refl
       five true true false e f = refl
@@ -109,11 +110,11 @@ module _ (size : ℕ) (before : Before) (z : Zone) where
       five true true true true false = refl
       five true true true true true = refl
 
-  own-first : zoneNumber size before z ≡ pick (eqb (ownNumber size z) 0) (pick (isOrder before size z) 0 14) (ownNumber size z)
-  unfolding zoneNumber ownNumber
+  own-first : zoneRefusal size before z ≡ pick (eqb (ownRefusal size z) 0) (pick (isOrder before size z) 0 14) (ownRefusal size z)
+  unfolding zoneRefusal ownRefusal
   own-first = five (isZoneMode (z .mode)) (isSize (setupOf size z)) (isCell (setupOf size z)) (isSlots (z .slots)) (isOrder before size z)
     where
-      five : (a b d e f : Bool) → number (ask {A = Unit {0}} a 1 (ask b 2 (ask d 3 (ask e 13 (ask f 14 (accepted tt)))))) ≡ pick (eqb (number (ask {A = Unit {0}} a 1 (ask b 2 (ask d 3 (ask e 13 (accepted tt)))))) 0) (pick f 0 14) (number (ask {A = Unit {0}} a 1 (ask b 2 (ask d 3 (ask e 13 (accepted tt))))))
+      five : (a b d e f : Bool) → refusalOf (ask {A = Unit {0}} a 1 (ask b 2 (ask d 3 (ask e 13 (ask f 14 (accepted tt)))))) ≡ pick (eqb (refusalOf (ask {A = Unit {0}} a 1 (ask b 2 (ask d 3 (ask e 13 (accepted tt)))))) 0) (pick f 0 14) (refusalOf (ask {A = Unit {0}} a 1 (ask b 2 (ask d 3 (ask e 13 (accepted tt))))))
       five false b d e f = refl
       five true false d e f = refl
       five true true false e f = refl
@@ -121,68 +122,68 @@ module _ (size : ℕ) (before : Before) (z : Zone) where
       five true true true true false = refl
       five true true true true true = refl
 
-  module _ (r : ℕ) (e : r ≡ ownNumber size z) where
-    pub zone-no : (r ≡ 0 → ⊥) → r ≡ zoneNumber size before z
+  module _ (r : ℕ) (e : r ≡ ownRefusal size z) where
+    pub zone-no : (r ≡ 0 → ⊥) → r ≡ zoneRefusal size before z
     zone-no h = rw (own-first, ← e, ne-eqb r 0 h)
 
-    pub zone-order : r ≡ 0 → (b : Bool) → b ≡ isOrder before size z → pick b 0 14 ≡ zoneNumber size before z
+    pub zone-order : r ≡ 0 → (b : Bool) → b ≡ isOrder before size z → pick b 0 14 ≡ zoneRefusal size before z
     zone-order h b q = rw (own-first, ← e, eq-eqb r 0 h, q)
 
 -- the zones one after the other
-pub zones-cons : (size : ℕ) (before : Before) (z : Zone) (zones : List Zone) → zonesNumber size before (z ∷ zones) ≡ pick (eqb (zoneNumber size before z) 0) (zonesNumber size (After (z .mode)) zones) (zoneNumber size before z)
-unfolding zonesNumber askZones
-zones-cons size before z zones = ap number (zone-by size before z (askZones size (After (z .mode)) zones (accepted tt))) ∙ through (eqb (zoneNumber size before z) 0)
+pub zones-cons : (size : ℕ) (before : Before) (z : Zone) (zones : List Zone) → zonesRefusal size before (z ∷ zones) ≡ pick (eqb (zoneRefusal size before z) 0) (zonesRefusal size (After (z .mode)) zones) (zoneRefusal size before z)
+unfolding zonesRefusal askZones
+zones-cons size before z zones = ap refusalOf (zone-by size before z (askZones size (After (z .mode)) zones (accepted tt))) ∙ through (eqb (zoneRefusal size before z) 0)
   where
-    through : (b : Bool) → number (pick b (askZones {A = Unit {0}} size (After (z .mode)) zones (accepted tt)) (refused (zoneNumber size before z))) ≡ pick b (number (askZones {A = Unit {0}} size (After (z .mode)) zones (accepted tt))) (zoneNumber size before z)
+    through : (b : Bool) → refusalOf (pick b (askZones {A = Unit {0}} size (After (z .mode)) zones (accepted tt)) (refused (zoneRefusal size before z))) ≡ pick b (refusalOf (askZones {A = Unit {0}} size (After (z .mode)) zones (accepted tt))) (zoneRefusal size before z)
     through true = refl
     through false = refl
 
-module _ (size : ℕ) (before : Before) (zones : List Zone) (count k n : ℕ) (h : k < count) (m : count ≤ length zones) (e : n ≡ zoneNumber size before (getD zones k unused)) where
-  pub zones-no : (n ≡ 0 → ⊥) → n ≡ zonesNumber size before (drop k (take count zones))
+module _ (size : ℕ) (before : Before) (zones : List Zone) (count k n : ℕ) (h : k < count) (m : count ≤ length zones) (e : n ≡ zoneRefusal size before (getD zones k unused)) where
+  pub zones-no : (n ≡ 0 → ⊥) → n ≡ zonesRefusal size before (drop k (take count zones))
   zones-no f = rw (used-next zones count k h m, zones-cons, ← e, ne-eqb n 0 f)
 
-  pub zones-next : n ≡ 0 → zonesNumber size (After (getD zones k unused .mode)) (drop (k + 1) (take count zones)) ≡ zonesNumber size before (drop k (take count zones))
+  pub zones-next : n ≡ 0 → zonesRefusal size (After (getD zones k unused .mode)) (drop (k + 1) (take count zones)) ≡ zonesRefusal size before (drop k (take count zones))
   zones-next z = rw (used-next zones count k h m, zones-cons, ← e, eq-eqb n 0 z)
 
-pub zones-end : (size : ℕ) (before : Before) (zones : List Zone) (count k : ℕ) → count ≤ k → count ≤ length zones → 0 ≡ zonesNumber size before (drop k (take count zones))
-unfolding zonesNumber askZones
+pub zones-end : (size : ℕ) (before : Before) (zones : List Zone) (count k : ℕ) → count ≤ k → count ≤ length zones → 0 ≡ zonesRefusal size before (drop k (take count zones))
+unfolding zonesRefusal askZones
 zones-end size before zones count k h m = rw (used-none zones count k h m)
 
-pub zones-by : {A : Type 0} (size : ℕ) (before : Before) (zones : List Zone) (rest : Answer A) → askZones size before zones rest ≡ numbered (zonesNumber size before zones) rest
-unfolding zonesNumber askZones
+pub zones-by : {A : Type 0} (size : ℕ) (before : Before) (zones : List Zone) (rest : Answer A) → askZones size before zones rest ≡ numbered (zonesRefusal size before zones) rest
+unfolding zonesRefusal askZones
 zones-by size before [] rest = refl
 zones-by size before (z ∷ zones) rest =
     zone-by size before z (askZones size (After (z .mode)) zones rest)
-    ∙ ap (numbered (zoneNumber size before z)) (zones-by size (After (z .mode)) zones rest)
-    ∙ twice (zoneNumber size before z) (zonesNumber size (After (z .mode)) zones) rest
+    ∙ ap (numbered (zoneRefusal size before z)) (zones-by size (After (z .mode)) zones rest)
+    ∙ twice (zoneRefusal size before z) (zonesRefusal size (After (z .mode)) zones) rest
     ∙ ap (λ n. numbered n rest) (sym (zones-cons size before z zones))
 
 -- the plan
-pub plan-by : {A : Type 0} (p : Plan) (rest : Answer A) → askPlan p rest ≡ numbered (planNumber p) rest
-unfolding planNumber zonesNumber
+pub plan-by : {A : Type 0} (p : Plan) (rest : Answer A) → askPlan p rest ≡ numbered (planRefusal p) rest
+unfolding planRefusal zonesRefusal
 plan-by p rest = three (isCount (p .count)) (areUnused (drop (p .count) (p .zones))) (isFourSizes (p .size))
   where
-    three : (a b d : Bool) → ask a 12 (ask b 12 (ask d 2 (askZones (p .size) First (usedZones p) rest))) ≡ numbered (number (ask a 12 (ask b 12 (ask d 2 (askZones {A = Unit {0}} (p .size) First (usedZones p) (accepted tt)))))) rest
+    three : (a b d : Bool) → ask a 12 (ask b 12 (ask d 2 (askZones (p .size) First (usedZones p) rest))) ≡ numbered (refusalOf (ask a 12 (ask b 12 (ask d 2 (askZones {A = Unit {0}} (p .size) First (usedZones p) (accepted tt)))))) rest
     three false b d = refl
     three true false d = refl
     three true true false = refl
     three true true true = zones-by (p .size) First (usedZones p) rest
 
 module _ (p : Plan) where
-  pub plan-count : isCount (p .count) ≡ false → 12 ≡ planNumber p
-  unfolding planNumber
+  pub plan-count : isCount (p .count) ≡ false → 12 ≡ planRefusal p
+  unfolding planRefusal
   plan-count e = rw e
 
   module _ (c : isCount (p .count) ≡ true) where
-    pub plan-places : areUnused (drop (p .count) (p .zones)) ≡ false → 12 ≡ planNumber p
-    unfolding planNumber
+    pub plan-places : areUnused (drop (p .count) (p .zones)) ≡ false → 12 ≡ planRefusal p
+    unfolding planRefusal
     plan-places e = rw (c, e)
 
     module _ (u : areUnused (drop (p .count) (p .zones)) ≡ true) where
-      pub plan-size : isFourSizes (p .size) ≡ false → 2 ≡ planNumber p
-      unfolding planNumber
+      pub plan-size : isFourSizes (p .size) ≡ false → 2 ≡ planRefusal p
+      unfolding planRefusal
       plan-size e = rw (c, u, e)
 
-      pub plan-zones : isFourSizes (p .size) ≡ true → zonesNumber (p .size) First (usedZones p) ≡ planNumber p
-      unfolding planNumber zonesNumber
+      pub plan-zones : isFourSizes (p .size) ≡ true → zonesRefusal (p .size) First (usedZones p) ≡ planRefusal p
+      unfolding planRefusal zonesRefusal
       plan-zones e = rw (c, u, e)

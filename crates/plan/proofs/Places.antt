@@ -1,4 +1,4 @@
--- The laws of a plan's places. Assumes nothing.
+-- The laws of a plan's places.
 use mathlib.Core.Path.{_≡_, refl, sym, ap, ap₂, _∙_}
 use mathlib.Core.Bool.{Bool, true, false}
 use mathlib.Core.List.{List, [], _∷_, _++_, map}

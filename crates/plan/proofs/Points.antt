@@ -1,4 +1,4 @@
--- The plans that document 01 names, and others that show which question comes first. Assumes nothing.
+-- The plans that document 01 names, and others that show which question comes first.
 use mathlib.Core.Path.{_≡_, refl}
 use mathlib.Core.List.{[], _∷_}
 use Prim.Native.Nat.{ℕ}

@@ -1,4 +1,4 @@
--- Reading and writing undo each other. Assumes nothing.
+-- Reading and writing undo each other.
 use mathlib.Core.Path.{_≡_, refl, sym, ap, _∙_, subst}
 use mathlib.Core.Bool.{true}
 use mathlib.Core.List.{List, [], _∷_, _++_, append-assoc, append-nil}

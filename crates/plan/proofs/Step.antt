@@ -1,4 +1,4 @@
--- Reading from a place on, value by value and zone by zone. Assumes nothing.
+-- Reading from a place on, value by value and zone by zone.
 use mathlib.Core.Path.{_≡_, refl, sym, ap, _∙_}
 use mathlib.Core.List.{List, [], _∷_, _++_, append-nil}
 use Prim.Native.Nat.{ℕ, suc, _+_, _-_, _<_, _≤_}
@@ -17,7 +17,7 @@ use Rattle.plan.specs.declared.ZoneFound.{ZoneFound}
 use Rattle.plan.specs.declared.ZoneFound.the-variants.{Found, Refused}
 use Rattle.plan.specs.declared.Before.{Before}
 use Rattle.plan.specs.declared.Before.the-variants.{First, After}
-use Rattle.plan.specs.Zone.{zoneNumber, inPlaces}
+use Rattle.plan.specs.Zone.{zoneRefusal, inPlaces}
 use Rattle.plan.specs.Read.{zoneOf, zoneFound, readZones, finish, zonesOf}
 use Rattle.plan.proofs.Places.{set-places}
 use Rattle.plan.proofs.Number.{numbered, yes-all, no-first, zone-by}
@@ -48,7 +48,7 @@ module _ {s : List ℕ} {at count size : ℕ} {zones : List Zone} {prior : Befor
     unfolding readZones
     zone-none q = rw (ahead, ← f, q)
 
-    module _ {z : Zone} {after n : ℕ} (q : r ≡ Found z after) (e : n ≡ zoneNumber size prior z) where
+    module _ {z : Zone} {after n : ℕ} (q : r ≡ Found z after) (e : n ≡ zoneRefusal size prior z) where
       asked : zonesOf count size (drop at s) ≡ numbered n (readZones (count - suc k) size (After (z .mode)) (drop after s) (λ further s₁. finish count size (h .done ++ z ∷ further) s₁))
       unfolding readZones
       asked = rw (ahead, ← f, q, e) (zone-by size prior z _)

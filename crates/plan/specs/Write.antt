@@ -5,7 +5,7 @@ use Prim.Native.Nat.{ℕ, _<_}
 use lib.Dec.{eqb, leb}
 use lib.ListN.{length, take, drop}
 use Rattle.base.specs.Choice.{pick}
-use Rattle.base.specs.Answer.{Answer, accepted, refused, ask, number}
+use Rattle.base.specs.Answer.{Answer, accepted, refused, ask, refusalOf}
 use Rattle.map.specs.Question.{isFourSizes}
 use Rattle.value.specs.Value.{encode}
 use Rattle.plan.specs.declared.Zone.{Zone}
@@ -40,11 +40,11 @@ askPlan p rest =
     (askZones (p .size) First (usedZones p) rest)))
 
 -- the number of the first of them that is answered no, 0 where none is
-unfoldable pub zonesNumber : ℕ → Before → List Zone → ℕ
-zonesNumber size before zones = number (askZones {A = Unit {0}} size before zones (accepted tt))
+unfoldable pub zonesRefusal : ℕ → Before → List Zone → ℕ
+zonesRefusal size before zones = refusalOf (askZones {A = Unit {0}} size before zones (accepted tt))
 
-unfoldable pub planNumber : Plan → ℕ
-planNumber p = number (askPlan {A = Unit {0}} p (accepted tt))
+unfoldable pub planRefusal : Plan → ℕ
+planRefusal p = refusalOf (askPlan {A = Unit {0}} p (accepted tt))
 
 -- a zone whose three values can be written
 pub record Small (z : Zone) : Type 0 where

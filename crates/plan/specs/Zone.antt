@@ -4,7 +4,7 @@ use mathlib.Core.List.{List, [], _∷_}
 use Prim.Native.Nat.{ℕ, zero, suc}
 use lib.Dec.{eqb, ltb, leb}
 use Rattle.base.specs.Choice.{pick}
-use Rattle.base.specs.Answer.{Answer, accepted, ask, number}
+use Rattle.base.specs.Answer.{Answer, accepted, ask, refusalOf}
 use Rattle.map.specs.declared.Setup.{Setup}
 use Rattle.map.specs.Question.{isSize, isCell}
 use Rattle.plan.specs.declared.Zone.{Zone}
@@ -49,14 +49,14 @@ abbrev pub askZone : {A : Type 0} → ℕ → Before → Zone → Answer A → A
 askZone size before zone rest = askOwn size zone (ask (isOrder before size zone) 14 rest)
 
 -- the numbers of the first of them that is answered no, 0 where none is
-unfoldable pub slotsNumber : ℕ → ℕ
-slotsNumber slots = number (ask {A = Unit {0}} (isSlots slots) 13 (accepted tt))
+unfoldable pub slotsRefusal : ℕ → ℕ
+slotsRefusal slots = refusalOf (ask {A = Unit {0}} (isSlots slots) 13 (accepted tt))
 
-unfoldable pub ownNumber : ℕ → Zone → ℕ
-ownNumber size zone = number (askOwn {A = Unit {0}} size zone (accepted tt))
+unfoldable pub ownRefusal : ℕ → Zone → ℕ
+ownRefusal size zone = refusalOf (askOwn {A = Unit {0}} size zone (accepted tt))
 
-unfoldable pub zoneNumber : ℕ → Before → Zone → ℕ
-zoneNumber size before zone = number (askZone {A = Unit {0}} size before zone (accepted tt))
+unfoldable pub zoneRefusal : ℕ → Before → Zone → ℕ
+zoneRefusal size before zone = refusalOf (askZone {A = Unit {0}} size before zone (accepted tt))
 
 -- an unused place of a plan
 abbrev pub unused : Zone

@@ -6,8 +6,8 @@ ghost use Prim.Native.Nat.{_+_, _≤_};
 ghost use lib.ListN.{length, drop};
 ghost use Rattle.text.specs.Text.{written, wrote};
 ghost use Rattle.base.specs.Answer.{refused as no};
-ghost use Rattle.plan.specs.Zone.{isOpening, isFollowing, isOrder, slotsNumber, ownNumber, zoneNumber};
-ghost use Rattle.plan.specs.Write.{isUnused, areUnused, usedZones, zonesNumber, planNumber, Small, zoneBytes, planBytes, outcome, writeOf};
+ghost use Rattle.plan.specs.Zone.{isOpening, isFollowing, isOrder, slotsRefusal, ownRefusal, zoneRefusal};
+ghost use Rattle.plan.specs.Write.{isUnused, areUnused, usedZones, zonesRefusal, planRefusal, Small, zoneBytes, planBytes, outcome, writeOf};
 ghost use Rattle.plan.specs.Read.{zoneFound, zoneOf, afterMode, afterCell, zonesOf, readValue, afterSize, planOf, answered};
 
 // One zone: mode, cell and how many slots.
@@ -49,7 +49,7 @@ pub enum ZoneFound {
 }
 
 fn slots_refusal(slots: usize) -> u8
-    ensures { λ r. ⌜ r ≡ slotsNumber slots ⌝ }
+    ensures { λ r. ⌜ r ≡ slotsRefusal slots ⌝ }
 {
     if slots == 0 {
         return 13;
@@ -62,7 +62,7 @@ fn slots_refusal(slots: usize) -> u8
 
 // The number of the first of a zone's own questions that is answered no, or 0.
 fn own_refusal(size: usize, zone: Zone) -> u8
-    ensures { λ r. ⌜ r ≡ ownNumber size zone ⌝ }
+    ensures { λ r. ⌜ r ≡ ownRefusal size zone ⌝ }
 {
     if zone.mode == 1 {
         return 1;
@@ -111,7 +111,7 @@ fn is_order(size: usize, prior: Before, zone: Zone) -> bool
 
 // The number of the first question put to a zone in its plan that is answered no, or 0.
 fn zone_refusal(size: usize, prior: Before, zone: Zone) -> u8
-    ensures { λ r. ⌜ r ≡ zoneNumber size prior zone ⌝ }
+    ensures { λ r. ⌜ r ≡ zoneRefusal size prior zone ⌝ }
 {
     let own = own_refusal(size, zone);
     if own != 0 {
@@ -280,7 +280,7 @@ fn are_unused(plan: Plan) -> bool
 // The number of the first question that a zone of the plan answers no, or 0.
 fn zones_refusal(plan: Plan) -> u8
     requires { ⌜ plan .count ≤ 8 ⌝ }
-    ensures { λ r. ⌜ r ≡ zonesNumber (plan .size) Before.First (usedZones plan) ⌝ }
+    ensures { λ r. ⌜ r ≡ zonesRefusal (plan .size) Before.First (usedZones plan) ⌝ }
 {
     let count = plan.count;
     let size = plan.size;
@@ -301,7 +301,7 @@ fn zones_refusal(plan: Plan) -> u8
 
 // The number of the first of a plan's questions that is answered no, or 0.
 fn plan_refusal(plan: Plan) -> u8
-    ensures { λ r. ⌜ r ≡ planNumber plan ⌝ }
+    ensures { λ r. ⌜ r ≡ planRefusal plan ⌝ }
 {
     if plan.count == 0 {
         return 12;
@@ -328,7 +328,7 @@ fn zone_size(zone: Zone) -> usize
 
 // How many bytes an accepted plan takes.
 fn plan_size(plan: Plan) -> usize
-    requires { ⌜ planNumber plan ≡ 0 ⌝ }
+    requires { ⌜ planRefusal plan ≡ 0 ⌝ }
     ensures { λ r. ⌜ r ≡ length (planBytes plan) ⌝ }
 {
     let count = plan.count;
@@ -354,7 +354,7 @@ fn put_zone(dest: &mut [u8], at: usize, zone: Zone) -> usize
 
 // Puts an accepted plan where it fits; answers how many bytes it takes.
 fn put_plan(dest: &mut [u8], plan: Plan) -> usize
-    requires { ⌜ (planNumber plan ≡ 0) × (length (planBytes plan) ≤ length (now dest)) ⌝ }
+    requires { ⌜ (planRefusal plan ≡ 0) × (length (planBytes plan) ≤ length (now dest)) ⌝ }
     ensures { λ r. ⌜ written (now (dest .exit)) r ≡ wrote (now (dest .entry)) 0 (planBytes plan) ⌝ }
 {
     let used = plan.count;

@@ -1,4 +1,4 @@
--- Data numbers and data places of a cluster are the same, one for one, in each of the two symbols of a slot; and logical and physical clusters are. Assumes nothing.
+-- Data numbers and data places of a cluster are the same, one for one, in each of the two symbols of a slot; and logical and physical clusters are.
 use mathlib.Core.Path.{_≡_}
 use mathlib.Core.Bool.{Bool, true, false, not}
 use Prim.Native.Nat.{ℕ, _*_, _%_, _<_}

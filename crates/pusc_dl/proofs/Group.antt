@@ -1,4 +1,4 @@
--- Major groups: numbers and groups, and the points and the data numbers of a group, each one for one. Assumes nothing.
+-- Major groups: numbers and groups, and the points and the data numbers of a group, each one for one.
 use mathlib.Core.Path.{_≡_, ap₂, _∙_}
 use mathlib.Core.Bool.{Bool}
 use mathlib.Core.List.{List}

@@ -1,4 +1,4 @@
--- A loop that writes one entry of each half of a list a turn. Assumes nothing.
+-- A loop that writes one entry of each half of a list a turn.
 use mathlib.Core.Path.{_≡_, ap, _∙_}
 use mathlib.Core.List.{List}
 use Prim.Native.Nat.{ℕ, _+_, _-_, _<_, _≤_}

@@ -1,4 +1,4 @@
--- The law of PUSC downlink: from the points of a group to its data numbers, and from these to the used numbers of a symbol. Assumes nothing.
+-- The law of PUSC downlink: from the points of a group to its data numbers, and from these to the used numbers of a symbol.
 use mathlib.Core.Path.{_≡_}
 use mathlib.Core.Bool.{false}
 use Prim.Native.Nat.{ℕ, _+_, _-_, _*_, _/_, _%_, _<_}

@@ -1,4 +1,4 @@
--- R and the bases B are permutations, by one computed test for each direction; and pilots go by the parity of the symbol. Assumes nothing.
+-- R and the bases B are permutations, by one computed test for each direction; and pilots go by the parity of the symbol.
 use mathlib.Core.Path.{_≡_, refl}
 use Prim.Native.Nat.{ℕ, _+_, _*_, _%_}
 use native.Mathlib.Omega.{arith}

@@ -1,4 +1,4 @@
--- The law of PUSC uplink. A tile's turn is a rotation, Q and a rotation; an index goes to its data place by a rotation; the rest is digits. Assumes nothing.
+-- The law of PUSC uplink. A tile's turn is a rotation, Q and a rotation; an index goes to its data place by a rotation; the rest is digits.
 use mathlib.Core.Path.{_≡_, ap₂, _∙_}
 use mathlib.Core.Bool.{false}
 use Prim.Native.Nat.{ℕ, _+_, _*_, _/_, _%_, _<_}

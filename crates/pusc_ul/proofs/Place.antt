@@ -1,4 +1,4 @@
--- The data places of a slot and the data carriers of a subchannel's six tiles are the same, one for one: tests over all 48 places, and over all carriers of six tiles. Assumes nothing.
+-- The data places of a slot and the data carriers of a subchannel's six tiles are the same, one for one: tests over all 48 places, and over all carriers of six tiles.
 use mathlib.Core.Path.{_≡_}
 use mathlib.Core.Bool.{Bool, true, false, not}
 use Prim.Native.Nat.{ℕ, _<_}

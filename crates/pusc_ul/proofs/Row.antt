@@ -1,4 +1,4 @@
--- The carriers of a subchannel from the table of the cell, eight for each tile. Assumes nothing.
+-- The carriers of a subchannel from the table of the cell, eight for each tile.
 use mathlib.Core.Path.{_≡_, ap, _∙_}
 use mathlib.Core.Bool.{false}
 use mathlib.Core.List.{List}

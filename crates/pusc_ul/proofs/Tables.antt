@@ -1,4 +1,4 @@
--- Q is a permutation of 0..69: one computed test for each direction. Assumes nothing.
+-- Q is a permutation of 0..69: one computed test for each direction.
 use mathlib.Core.Path.{refl}
 use Rattle.base.specs.Steps.{entry}
 use Rattle.base.proofs.Perm.{Perm}

@@ -1,4 +1,4 @@
--- Laws of text in a buffer and of decimal digits. Assumes nothing.
+-- Laws of text in a buffer and of decimal digits.
 use Prim.Native.Nat.{ℕ, zero, suc, _+_, _^_, _/_, _%_, _<_, _≤_}
 use native.Mathlib.Nat.{add-zero, add-assoc}
 use native.Mathlib.Numerals.{add-one}

@@ -1,4 +1,4 @@
--- Laws of numbers read from text. Assumes nothing.
+-- Laws of numbers read from text.
 use Prim.Native.Nat.{ℕ, zero, suc, _+_, _-_, _^_, _/_, _%_, _<_, _≤_}
 use native.Mathlib.Nat.{add-assoc}
 use native.Mathlib.Numerals.{add-one}

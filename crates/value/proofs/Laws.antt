@@ -1,4 +1,4 @@
--- The laws of the values of a plan file. Assumes nothing.
+-- The laws of the values of a plan file.
 use mathlib.Core.Path.{_≡_, refl, sym, ap, _∙_}
 use mathlib.Core.List.{List, [], _∷_, _++_, append-assoc}
 use Prim.Native.Nat.{ℕ, zero, suc, _+_, _*_, _/_, _%_, _<_, _≤_}

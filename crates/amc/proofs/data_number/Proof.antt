@@ -1,19 +1,10 @@
--- `amc::data_number` meets its contract. Assumes nothing.
+-- `amc::data_number` meets its contract.
 use Rattle.amc.proofs.Law.{traffic-lt}
 use native.Mathlib.Omega.{arith}
 use Rattle.amc.specs.Map.{dataNumber}
 use borrow.Author.Needs.{needs}
 use Rattle.amc.proofs.data_number.Statement.{statement}
 use Rattle.amc.proofs.data_number.Tie as tie
-
-traffic-requires : tie.Need-traffic-requires
-traffic-requires c κs = search needs
-
-mul-result : tie.Need-mul-result
-mul-result c = search needs
-
-add-result : tie.Need-add-result
-add-result c = search needs
 
 mul-result-2 : tie.Need-mul-result-2
 mul-result-2 c = omega (arith, traffic-lt (c .before .args .cell) (c .before .pre .0) (c .before .args .index))
@@ -27,4 +18,4 @@ returns c = rw (c .traffic .ensures)
 
 pub data-number-spec : {M : Type 1} → statement M
 data-number-spec =
-    tie.close (tie.spec traffic-requires mul-result add-result mul-result-2 add-result-2 returns)
+    tie.close (tie.spec (λ c κs. search needs) (λ c. search needs) (λ c. search needs) mul-result-2 add-result-2 returns)

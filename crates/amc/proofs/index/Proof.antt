@@ -1,4 +1,4 @@
--- `amc::index` meets its contract. Assumes nothing.
+-- `amc::index` meets its contract.
 use Rattle.amc.proofs.Tables.{position-lt}
 use Prim.Native.Nat.{_+_}
 use native.Mathlib.Omega.{arith}
@@ -14,15 +14,6 @@ use Rattle.amc.proofs.index.Tie as tie
 sum-is : (c : tie.After-sum-of) → c .sum-of .result ≡ sumOf (off (c .before .before .before .args .cell)) (digits (c .before .before .before .args .v + 1))
 sum-is c = rw (c .sum-of .ensures, c .before .before .off .ensures, c .before .digits .ensures)
 
-off-requires : tie.Need-off-requires
-off-requires c κs = search needs
-
-add-digits : tie.Need-add-digits
-add-digits c = search needs
-
-digits-requires : tie.Need-digits-requires
-digits-requires c κs = search needs
-
 sum-of-requires : tie.Need-sum-of-requires
 sum-of-requires c κs = (subst⁻¹ Proper (c .before .off .ensures) (off-proper _ (c .before .before .pre .0)), subst⁻¹ Proper (c .digits .ensures) (e-proper _ (c .before .before .pre .0) _ (c .before .before .pre .1)))
 
@@ -35,9 +26,6 @@ number-requires c κs = rw (c .subtract .ensures) (subtract-proper _ _)
 array-read-wide : tie.Need-array-read-wide
 array-read-wide c = rw (c .number .ensures, c .before .subtract .ensures) (number-lt _ (subtract-proper _ _))
 
-wide-requires : tie.Need-wide-requires
-wide-requires c κs = search needs
-
 unrotate-requires : tie.Need-unrotate-requires
 unrotate-requires c κs = let l = position-lt (c .before .number .result) (array-read-wide (c .before)) in omega (arith, c .wide .ensures .0)
 
@@ -49,13 +37,5 @@ pub index-spec : {M : Type 1} → statement M
 index-spec =
     tie.close
     (tie.spec
-    off-requires
-    add-digits
-    digits-requires
-    sum-of-requires
-    subtract-requires
-    number-requires
-    array-read-wide
-    wide-requires
-    unrotate-requires
-    returns)
+    (λ c κs. search needs) (λ c. search needs) (λ c κs. search needs) sum-of-requires subtract-requires
+    number-requires array-read-wide (λ c κs. search needs) unrotate-requires returns)

@@ -1,4 +1,4 @@
--- `amc::numbers` meets its contract. Assumes nothing.
+-- `amc::numbers` meets its contract.
 use mathlib.Core.Path.{_≡_}
 use Prim.Native.Nat.{_-_}
 use native.Mathlib.Omega.{arith}
@@ -16,38 +16,17 @@ Inv-loop cell subchannel table first row₀ i₀ row i = Written 48 (sequenceNum
 abbrev μ-loop : tie.MeasureT-loop
 μ-loop cell subchannel table first row₀ i₀ row i = 48 - i
 
-mul-first : tie.Need-mul-first Inv-loop μ-loop
-mul-first c = search needs
-
 cast-first : tie.Need-cast-first Inv-loop μ-loop
 cast-first c = omega arith
 
 loop-holds : tie.Need-loop-holds Inv-loop μ-loop
 loop-holds c = written-none 48 _
 
-mul-row : tie.Need-mul-row Inv-loop μ-loop
-mul-row c = search needs
-
-element-copy-out-row : tie.Need-element-copy-out-row Inv-loop μ-loop
-element-copy-out-row c = search needs
-
 entry-is : (c : tie.After-row Inv-loop μ-loop) → entry (c .before .before .before .args .table .now) (c .before .before .loop .i) ≡ sequencePlace (c .before .before .before .args .cell) (c .before .before .loop .i)
 entry-is c = c .before .before .before .pre .1 _ (c .before .loop-test .taken)
 
 add-row : tie.Need-add-row Inv-loop μ-loop
 add-row c = rw (entry-is c) (omega (arith, sequence-place-lt _ (c .before .before .loop .i) (c .before .before .before .pre .0 .0) (c .before .loop-test .taken)))
-
-mul-row-2 : tie.Need-mul-row-2 Inv-loop μ-loop
-mul-row-2 c = search needs
-
-array-write-row : tie.Need-array-write-row Inv-loop μ-loop
-array-write-row c = search needs
-
-add-i : tie.Need-add-i Inv-loop μ-loop
-add-i c = search needs
-
-loop-less : tie.Need-loop-less Inv-loop μ-loop
-loop-less c = search needs
 
 loop-again : tie.Need-loop-again Inv-loop μ-loop
 unfolding sequenceNumber
@@ -60,17 +39,5 @@ pub numbers-spec : {M : Type 1} → statement M
 numbers-spec =
     tie.close
     (tie.spec
-    Inv-loop
-    μ-loop
-    mul-first
-    cast-first
-    loop-holds
-    mul-row
-    element-copy-out-row
-    add-row
-    mul-row-2
-    array-write-row
-    add-i
-    loop-less
-    loop-again
-    returns)
+    Inv-loop μ-loop (λ c. search needs) cast-first loop-holds (λ c. search needs) (λ c. search needs) add-row
+    (λ c. search needs) (λ c. search needs) (λ c. search needs) (λ c. search needs) loop-again returns)

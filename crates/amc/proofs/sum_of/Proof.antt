@@ -1,18 +1,9 @@
--- `amc::sum_of` meets its contract. Assumes nothing.
+-- `amc::sum_of` meets its contract.
 use mathlib.Core.Path.{sym, _∙_}
 use Rattle.amc.proofs.ZeroRule.{sum-off, sum-other}
 use borrow.Author.Needs.{needs}
 use Rattle.amc.proofs.sum_of.Statement.{statement}
 use Rattle.amc.proofs.sum_of.Tie as tie
-
-number-requires : tie.Need-number-requires
-number-requires c κs = search needs
-
-number-requires-2 : tie.Need-number-requires-2
-number-requires-2 c κs = search needs
-
-digits-requires : tie.Need-digits-requires
-digits-requires c κs = search needs
 
 returns : tie.Need-returns
 returns c = c .digits .ensures ∙ sym (sum-off _ _ (sym (c .before .before .before .number .ensures) ∙ c .before .if1 .taken ∙ c .before .before .number2 .ensures))
@@ -22,4 +13,4 @@ returns-2 c = sym (sum-other _ _ (λ e. c .if1 .left (c .before .before .number 
 
 pub sum-of-spec : {M : Type 1} → statement M
 sum-of-spec =
-    tie.close (tie.spec number-requires number-requires-2 digits-requires returns returns-2)
+    tie.close (tie.spec (λ c κs. search needs) (λ c κs. search needs) (λ c κs. search needs) returns returns-2)

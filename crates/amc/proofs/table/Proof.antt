@@ -1,4 +1,4 @@
--- `amc::table` meets its contract. Assumes nothing.
+-- `amc::table` meets its contract.
 use mathlib.Core.Path.{ap₂, _∙_}
 use Prim.Native.Nat.{_-_}
 use native.Mathlib.Omega.{arith}
@@ -17,9 +17,6 @@ Inv-loop cell p high low table₀ i₀ table i = Written 188 (sequencePlace cell
 abbrev μ-loop : tie.MeasureT-loop
 μ-loop cell p high low table₀ i₀ table i = 48 - i
 
-off-requires : tie.Need-off-requires Inv-loop μ-loop
-off-requires c κs = search needs
-
 cast-high : tie.Need-cast-high Inv-loop μ-loop
 cast-high c = rw (c .before .off .ensures) (omega (arith, off-proper _ (c .before .before .pre) .high-lt))
 
@@ -29,9 +26,6 @@ cast-low c = rw (c .before .before .off .ensures) (omega (arith, off-proper _ (c
 loop-holds : tie.Need-loop-holds Inv-loop μ-loop
 loop-holds c = written-none 188 _
 
-array-read-sum-place : tie.Need-array-read-sum-place Inv-loop μ-loop
-array-read-sum-place c = search needs
-
 cast-sum-place : tie.Need-cast-sum-place Inv-loop μ-loop
 cast-sum-place c = omega (arith, entry-digits (c .before .loop .i) (c .loop-test .taken) .high-lt)
 
@@ -40,18 +34,6 @@ sum-place-requires c κs =
     let o = off-proper _ (c .before .before .before .before .before .pre) in
     let d = entry-digits (c .before .loop .i) (c .loop-test .taken) in
     (rw (c .before .before .before .before .off .ensures) (o .high-lt), rw (c .before .before .before .before .off .ensures) (o .low-lt), d .high-lt, d .low-lt, d .above)
-
-mul-table : tie.Need-mul-table Inv-loop μ-loop
-mul-table c = search needs
-
-array-write-table : tie.Need-array-write-table Inv-loop μ-loop
-array-write-table c = search needs
-
-add-i : tie.Need-add-i Inv-loop μ-loop
-add-i c = search needs
-
-loop-less : tie.Need-loop-less Inv-loop μ-loop
-loop-less c = search needs
 
 loop-again : tie.Need-loop-again Inv-loop μ-loop
 unfolding sequencePlace
@@ -64,18 +46,6 @@ pub table-spec : {M : Type 1} → statement M
 table-spec =
     tie.close
     (tie.spec
-    Inv-loop
-    μ-loop
-    off-requires
-    cast-high
-    cast-low
-    loop-holds
-    array-read-sum-place
-    cast-sum-place
-    sum-place-requires
-    mul-table
-    array-write-table
-    add-i
-    loop-less
-    loop-again
+    Inv-loop μ-loop (λ c κs. search needs) cast-high cast-low loop-holds (λ c. search needs) cast-sum-place
+    sum-place-requires (λ c. search needs) (λ c. search needs) (λ c. search needs) (λ c. search needs) loop-again
     returns)

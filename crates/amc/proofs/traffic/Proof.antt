@@ -1,4 +1,4 @@
--- `amc::traffic` meets its contract. Assumes nothing.
+-- `amc::traffic` meets its contract.
 use Prim.Native.Nat.{_-_}
 use native.Mathlib.Omega.{arith}
 use mathlib.Core.Path.{_≡_, ap, _∙_, subst⁻¹}
@@ -17,15 +17,6 @@ value c = rw (c .zero-rule .ensures, c .before .sequence .ensures, c .before .be
 number-is : (c : tie.After-number) → c .number .result ≡ number (elementOf (c .before .before .before .before .args .cell) (c .before .before .before .before .args .j))
 number-is c = c .number .ensures ∙ ap number (value (c .before))
 
-off-requires : tie.Need-off-requires
-off-requires c κs = search needs
-
-add-sequence : tie.Need-add-sequence
-add-sequence c = search needs
-
-sequence-requires : tie.Need-sequence-requires
-sequence-requires c κs = search needs
-
 zero-rule-requires : tie.Need-zero-rule-requires
 zero-rule-requires c κs = (rw (c .before .off .ensures) (off-proper _ (c .before .before .pre .0)), rw (c .sequence .ensures) (powers _ (turn-lt _ (c .before .before .pre .0) (c .before .before .args .j)) .proper))
 
@@ -43,10 +34,5 @@ pub traffic-spec : {M : Type 1} → statement M
 traffic-spec =
     tie.close
     (tie.spec
-    off-requires
-    add-sequence
-    sequence-requires
-    zero-rule-requires
-    number-requires
-    sub-result
+    (λ c κs. search needs) (λ c. search needs) (λ c κs. search needs) zero-rule-requires number-requires sub-result
     returns)

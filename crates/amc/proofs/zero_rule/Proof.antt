@@ -1,13 +1,10 @@
--- `amc::zero_rule` meets its contract. Assumes nothing.
+-- `amc::zero_rule` meets its contract.
 use mathlib.Core.Path.{sym, _∙_}
 use Rattle.amc.proofs.Digit.{add-proper}
 use Rattle.amc.proofs.ZeroRule.{rule-zero, rule-other}
 use borrow.Author.Needs.{needs}
 use Rattle.amc.proofs.zero_rule.Statement.{statement}
 use Rattle.amc.proofs.zero_rule.Tie as tie
-
-add-requires : tie.Need-add-requires
-add-requires c κs = search needs
 
 number-requires : tie.Need-number-requires
 number-requires c κs = rw (c .add .ensures) (add-proper _ _)
@@ -19,4 +16,4 @@ returns-2 : tie.Need-returns-2
 returns-2 c = rw (← c .before .before .add .ensures) (sym (rule-other _ _ (λ e. c .if1 .left (c .before .number .ensures ∙ e))))
 
 pub zero-rule-spec : {M : Type 1} → statement M
-zero-rule-spec = tie.close (tie.spec add-requires number-requires returns returns-2)
+zero-rule-spec = tie.close (tie.spec (λ c κs. search needs) number-requires returns returns-2)

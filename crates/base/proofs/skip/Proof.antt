@@ -1,13 +1,10 @@
--- `base::skip` meets its contract. Assumes nothing.
+-- `base::skip` meets its contract.
 use native.Mathlib.Omega.{arith}
 use mathlib.Core.Path.{sym}
 use Rattle.base.proofs.LeaveOut.{skip-below, skip-above}
 use borrow.Author.Needs.{needs}
 use Rattle.base.proofs.skip.Statement.{statement}
 use Rattle.base.proofs.skip.Tie as tie
-
-add-result : tie.Need-add-result
-add-result c = search needs
 
 returns : tie.Need-returns
 returns c = (sym (skip-below _ _ (c .if1 .taken)), omega arith)
@@ -16,4 +13,4 @@ returns-2 : tie.Need-returns-2
 returns-2 c = (sym (skip-above _ _ (c .if1 .left)), omega arith)
 
 pub skip-spec : {M : Type 1} → statement M
-skip-spec = tie.close (tie.spec add-result returns returns-2)
+skip-spec = tie.close (tie.spec (λ c. search needs) returns returns-2)

@@ -1,13 +1,10 @@
--- `base::unskip` meets its contract. Assumes nothing.
+-- `base::unskip` meets its contract.
 use native.Mathlib.Omega.{arith}
 use mathlib.Core.Path.{sym}
 use Rattle.base.proofs.LeaveOut.{unskip-below, unskip-above}
 use borrow.Author.Needs.{needs}
 use Rattle.base.proofs.unskip.Statement.{statement}
 use Rattle.base.proofs.unskip.Tie as tie
-
-sub-result : tie.Need-sub-result
-sub-result c = search needs
 
 returns : tie.Need-returns
 returns c = (sym (unskip-below _ _ (c .if1 .taken)), omega arith)
@@ -16,4 +13,4 @@ returns-2 : tie.Need-returns-2
 returns-2 c = (sym (unskip-above _ _ (c .if1 .left)), omega arith)
 
 pub unskip-spec : {M : Type 1} → statement M
-unskip-spec = tie.close (tie.spec sub-result returns returns-2)
+unskip-spec = tie.close (tie.spec (λ c. search needs) returns returns-2)

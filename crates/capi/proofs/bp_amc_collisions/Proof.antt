@@ -1,11 +1,8 @@
--- `capi::bp_amc_collisions` meets its contract. Assumes nothing.
+-- `capi::bp_amc_collisions` meets its contract.
 use borrow.Author.Needs.{needs}
 use Rattle.capi.proofs.Collision.{amc-whole}
 use Rattle.capi.proofs.bp_amc_collisions.Statement.{statement}
 use Rattle.capi.proofs.bp_amc_collisions.Tie as tie
-
-amc-requires : tie.Need-amc-requires
-amc-requires c κs = search needs
 
 hand-over-requires : tie.Need-hand-over-requires
 hand-over-requires c κs = rw (c .before .before .amc .ensures) (amc-whole _ _)
@@ -14,4 +11,4 @@ returns : tie.Need-returns
 returns c = rw (c .before .before .before .amc .ensures) at (c .hand-over .ensures)
 
 pub bp-amc-collisions-spec : {M : Type 1} → statement M
-bp-amc-collisions-spec = tie.close (tie.spec amc-requires hand-over-requires returns)
+bp-amc-collisions-spec = tie.close (tie.spec (λ c κs. search needs) hand-over-requires returns)

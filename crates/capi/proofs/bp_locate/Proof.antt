@@ -1,28 +1,10 @@
--- `capi::bp_locate` meets its contract. Assumes nothing.
+-- `capi::bp_locate` meets its contract.
 use Rattle.capi.specs.Map.{locateOut}
 use native.Mathlib.Omega.{arith}
 use Rattle.capi.proofs.Map.{data-small, located-out}
 use borrow.Author.Needs.{needs}
 use Rattle.capi.proofs.bp_locate.Statement.{statement}
 use Rattle.capi.proofs.bp_locate.Tie as tie
-
-setup-requires : tie.Need-setup-requires
-setup-requires c κs = search needs
-
-locate-requires : tie.Need-locate-requires
-locate-requires c κs = search needs
-
-enum-told : tie.Need-enum-told
-enum-told c = search needs
-
-enum-told-2 : tie.Need-enum-told-2
-enum-told-2 c = search needs
-
-enum-told-3 : tie.Need-enum-told-3
-enum-told-3 c = search needs
-
-enum-known-answer : tie.Need-enum-known-answer
-enum-known-answer c = search needs
 
 cast-slot : tie.Need-cast-slot
 cast-slot c = omega (arith, data-small _ _ _ _ (c .before .before .before .locate .ensures) _ _ _ (c .before .answer .given .1))
@@ -32,12 +14,6 @@ cast-subchannel c = omega (arith, data-small _ _ _ _ (c .before .before .before 
 
 cast-index : tie.Need-cast-index
 cast-index c = omega (arith, data-small _ _ _ _ (c .before .before .before .locate .ensures) _ _ _ (c .before .answer .given .1))
-
-enum-known-answer-2 : tie.Need-enum-known-answer-2
-enum-known-answer-2 c = search needs
-
-cast-result : tie.Need-cast-result
-cast-result c = search needs
 
 returns : tie.Need-returns
 unfolding locateOut
@@ -63,19 +39,6 @@ pub bp-locate-spec : {M : Type 1} → statement M
 bp-locate-spec =
     tie.close
     (tie.spec
-    setup-requires
-    locate-requires
-    enum-told
-    enum-told-2
-    enum-told-3
-    enum-known-answer
-    cast-slot
-    cast-subchannel
-    cast-index
-    enum-known-answer-2
-    cast-result
-    returns
-    returns-2
-    returns-3
-    returns-4
-    returns-5)
+    (λ c κs. search needs) (λ c κs. search needs) (λ c. search needs) (λ c. search needs) (λ c. search needs)
+    (λ c. search needs) cast-slot cast-subchannel cast-index (λ c. search needs) (λ c. search needs) returns
+    returns-2 returns-3 returns-4 returns-5)

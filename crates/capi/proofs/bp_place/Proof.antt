@@ -1,4 +1,4 @@
--- `capi::bp_place` meets its contract. Assumes nothing.
+-- `capi::bp_place` meets its contract.
 use Rattle.capi.specs.Map.{placeOut}
 use Rattle.capi.proofs.Map.{placed-out, at-small}
 use native.Mathlib.Omega.{arith}
@@ -6,26 +6,11 @@ use borrow.Author.Needs.{needs}
 use Rattle.capi.proofs.bp_place.Statement.{statement}
 use Rattle.capi.proofs.bp_place.Tie as tie
 
-setup-requires : tie.Need-setup-requires
-setup-requires c κs = search needs
-
-place-requires : tie.Need-place-requires
-place-requires c κs = search needs
-
-enum-known-answer : tie.Need-enum-known-answer
-enum-known-answer c = search needs
-
 cast-symbol : tie.Need-cast-symbol
 cast-symbol c = omega (arith, at-small _ _ _ _ _ (c .before .before .before .place .ensures) _ _ (c .before .answer .given .1))
 
 cast-carrier : tie.Need-cast-carrier
 cast-carrier c = omega (arith, at-small _ _ _ _ _ (c .before .before .before .place .ensures) _ _ (c .before .answer .given .1))
-
-enum-known-answer-2 : tie.Need-enum-known-answer-2
-enum-known-answer-2 c = search needs
-
-cast-result : tie.Need-cast-result
-cast-result c = search needs
 
 returns : tie.Need-returns
 unfolding placeOut
@@ -39,12 +24,5 @@ pub bp-place-spec : {M : Type 1} → statement M
 bp-place-spec =
     tie.close
     (tie.spec
-    setup-requires
-    place-requires
-    enum-known-answer
-    cast-symbol
-    cast-carrier
-    enum-known-answer-2
-    cast-result
-    returns
-    returns-2)
+    (λ c κs. search needs) (λ c κs. search needs) (λ c. search needs) cast-symbol cast-carrier (λ c. search needs)
+    (λ c. search needs) returns returns-2)

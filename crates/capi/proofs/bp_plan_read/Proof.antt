@@ -1,4 +1,4 @@
--- `capi::bp_plan_read` meets its contract. Assumes nothing.
+-- `capi::bp_plan_read` meets its contract.
 use native.Mathlib.Omega.{arith}
 use borrow.Author.Needs.{needs}
 use Rattle.capi.proofs.Plan.{read-small, read-no, read-yes}

@@ -1,4 +1,4 @@
--- `capi::bp_plan_write` meets its contract. Assumes nothing.
+-- `capi::bp_plan_write` meets its contract.
 use native.Mathlib.Omega.{arith}
 use borrow.Author.Needs.{needs}
 use Rattle.capi.specs.Plan.{writeOut}
@@ -20,4 +20,6 @@ returns-2 c = write-out _ _ _ _ (c .before .before .before .before .before .befo
 pub bp-plan-write-spec : {M : Type 1} → statement M
 bp-plan-write-spec =
     tie.close
-    (tie.spec (λ c κs. search needs) (λ c κs. search needs) (λ c. search needs) cast-written (λ c. search needs) (λ c. search needs) (λ c. search needs) returns (λ c. search needs) returns-2)
+    (tie.spec
+    (λ c κs. search needs) (λ c κs. search needs) (λ c. search needs) cast-written (λ c. search needs)
+    (λ c. search needs) (λ c. search needs) returns (λ c. search needs) returns-2)

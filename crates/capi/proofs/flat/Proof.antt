@@ -1,4 +1,4 @@
--- `capi::flat` meets its contract. Assumes nothing.
+-- `capi::flat` meets its contract.
 use mathlib.Core.Path.{refl}
 use Prim.Native.Nat.{_-_}
 use native.Mathlib.Omega.{arith}
@@ -35,4 +35,8 @@ returns c = flat-end (c .before .loop .inv) (c .loop-test .left)
 pub flat-spec : {M : Type 1} → statement M
 flat-spec =
     tie.close
-    (tie.spec Inv-loop μ-loop loop-holds (λ c. search needs) (λ c. search needs) cast-numbers (λ c. search needs) (λ c. search needs) (λ c. search needs) cast-numbers-2 (λ c. search needs) (λ c. search needs) (λ c. search needs) (λ c. search needs) cast-numbers-3 (λ c. search needs) (λ c. search needs) (λ c. search needs) (λ c. search needs) (λ c. search needs) (λ c. search needs) loop-again returns)
+    (tie.spec
+    Inv-loop μ-loop loop-holds (λ c. search needs) (λ c. search needs) cast-numbers (λ c. search needs)
+    (λ c. search needs) (λ c. search needs) cast-numbers-2 (λ c. search needs) (λ c. search needs)
+    (λ c. search needs) (λ c. search needs) cast-numbers-3 (λ c. search needs) (λ c. search needs)
+    (λ c. search needs) (λ c. search needs) (λ c. search needs) (λ c. search needs) loop-again returns)

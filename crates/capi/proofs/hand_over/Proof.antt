@@ -1,4 +1,4 @@
--- `capi::hand_over` meets its contract: the marks below k are written. Assumes nothing.
+-- `capi::hand_over` meets its contract: the marks below k are written.
 use Prim.Native.Nat.{_-_}
 use borrow.Author.Tests.{ne-eqb}
 use borrow.Author.Needs.{needs}
@@ -13,9 +13,6 @@ Inv-loop answer hits count number marks bytes₀ k₀ bytes k = Written marks k 
 abbrev μ-loop : tie.MeasureT-loop
 μ-loop answer hits count number marks bytes₀ k₀ bytes k = 48 - k
 
-cast-result : tie.Need-cast-result Inv-loop μ-loop
-cast-result c = search needs
-
 returns : tie.Need-returns Inv-loop μ-loop
 unfolding collisionOut
 returns c = rw (ne-eqb _ _ (c .if1 .taken))
@@ -23,26 +20,11 @@ returns c = rw (ne-eqb _ _ (c .if1 .taken))
 loop-holds : tie.Need-loop-holds Inv-loop μ-loop
 loop-holds c = start _
 
-array-read-bytes : tie.Need-array-read-bytes Inv-loop μ-loop
-array-read-bytes c = search needs
-
 cast-bytes : tie.Need-cast-bytes Inv-loop μ-loop
 cast-bytes c = tt
 
-array-write-bytes : tie.Need-array-write-bytes Inv-loop μ-loop
-array-write-bytes c = search needs
-
-add-k : tie.Need-add-k Inv-loop μ-loop
-add-k c = search needs
-
-loop-less : tie.Need-loop-less Inv-loop μ-loop
-loop-less c = search needs
-
 loop-again : tie.Need-loop-again Inv-loop μ-loop
 loop-again c = step _ _ _ (c .before .loop .inv) (c .loop-test .taken)
-
-cast-count : tie.Need-cast-count Inv-loop μ-loop
-cast-count c = search needs
 
 returns-2 : tie.Need-returns-2 Inv-loop μ-loop
 returns-2 c =
@@ -53,16 +35,5 @@ pub hand-over-spec : {M : Type 1} → statement M
 hand-over-spec =
     tie.close
     (tie.spec
-    Inv-loop
-    μ-loop
-    cast-result
-    returns
-    loop-holds
-    array-read-bytes
-    cast-bytes
-    array-write-bytes
-    add-k
-    loop-less
-    loop-again
-    cast-count
-    returns-2)
+    Inv-loop μ-loop (λ c. search needs) returns loop-holds (λ c. search needs) cast-bytes (λ c. search needs)
+    (λ c. search needs) (λ c. search needs) loop-again (λ c. search needs) returns-2)

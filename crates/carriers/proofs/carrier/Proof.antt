@@ -1,4 +1,4 @@
--- `carriers::carrier` meets its contract. Assumes nothing.
+-- `carriers::carrier` meets its contract.
 use Rattle.base.proofs.LeaveOut.{skip-le}
 use native.Mathlib.Omega.{arith}
 use Rattle.carriers.specs.Band.{carrierOf}
@@ -6,15 +6,12 @@ use borrow.Author.Needs.{needs}
 use Rattle.carriers.proofs.carrier.Statement.{statement}
 use Rattle.carriers.proofs.carrier.Tie as tie
 
-skip-requires : tie.Need-skip-requires
-skip-requires c κs = search needs
-
 add-result : tie.Need-add-result
-add-result c = omega (arith, skip-le (c .before .before .args .b .turn) (c .before .before .args .u))
+add-result c = omega (arith, skip-le (c .before .before .args .b .half) (c .before .before .args .u))
 
 returns : tie.Need-returns
 unfolding carrierOf
 returns c = search needs
 
 pub carrier-spec : {M : Type 1} → statement M
-carrier-spec = tie.close (tie.spec skip-requires add-result returns)
+carrier-spec = tie.close (tie.spec (λ c κs. search needs) add-result returns)

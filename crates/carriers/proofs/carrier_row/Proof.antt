@@ -1,4 +1,4 @@
--- `carriers::carrier_row` meets its contract. Assumes nothing.
+-- `carriers::carrier_row` meets its contract.
 use mathlib.Core.Path.{ap}
 use mathlib.Core.Bool.{Bool}
 use Prim.Native.Nat.{ℕ, _+_, _-_, _%_, _<_}
@@ -14,25 +14,19 @@ use Rattle.carriers.proofs.carrier_row.Statement.{statement}
 use Rattle.carriers.proofs.carrier_row.Tie as tie
 
 abbrev Inv-loop : tie.InvT-loop
-Inv-loop spots left turn row₀ k₀ row k = Written 48 (λ j. entry spots j + left + pick (leb turn (entry spots j % 2048)) 1 0) row k
+Inv-loop spots left half row₀ k₀ row k = Written 48 (λ j. entry spots j + left + pick (leb half (entry spots j % 2048)) 1 0) row k
 
 abbrev μ-loop : tie.MeasureT-loop
-μ-loop spots left turn row₀ k₀ row k = 48 - k
+μ-loop spots left half row₀ k₀ row k = 48 - k
 
 cast-left : tie.Need-cast-left Inv-loop μ-loop
 cast-left c = omega (arith, c .before .pre .0)
 
-cast-turn : tie.Need-cast-turn Inv-loop μ-loop
-cast-turn c = omega (arith, c .before .before .pre .1)
+cast-half : tie.Need-cast-half Inv-loop μ-loop
+cast-half c = omega (arith, c .before .before .pre .1)
 
 loop-holds : tie.Need-loop-holds Inv-loop μ-loop
 loop-holds c = written-none 48 _
-
-mul-x : tie.Need-mul-x Inv-loop μ-loop
-mul-x c = search needs
-
-array-read-x : tie.Need-array-read-x Inv-loop μ-loop
-array-read-x c = search needs
 
 -- a spot and the left guards are small
 sum-few : (c : tie.In-loop Inv-loop μ-loop) → entry (c .before .before .before .before .args .t2) (c .before .loop .k) + c .before .before .before .before .args .b .left < 65535
@@ -40,7 +34,7 @@ sum-few c = omega (arith, c .before .before .before .before .pre .0, c .before .
 
 -- DC lies below the carrier
 abbrev past-dc : tie.In-loop Inv-loop μ-loop → Bool
-past-dc c = leb (c .before .before .before .before .args .b .turn) (entry (c .before .before .before .before .args .t2) (c .before .loop .k) % 2048)
+past-dc c = leb (c .before .before .before .before .args .b .half) (entry (c .before .before .before .before .args .t2) (c .before .loop .k) % 2048)
 
 add-row : tie.Need-add-row Inv-loop μ-loop
 add-row c = omega (arith, sum-few c)
@@ -50,18 +44,6 @@ cast-row c = tt
 
 add-row-2 : tie.Need-add-row-2 Inv-loop μ-loop
 add-row-2 c = step-fits _ (past-dc c) (sum-few c)
-
-mul-row : tie.Need-mul-row Inv-loop μ-loop
-mul-row c = search needs
-
-array-write-row : tie.Need-array-write-row Inv-loop μ-loop
-array-write-row c = search needs
-
-add-k : tie.Need-add-k Inv-loop μ-loop
-add-k c = search needs
-
-loop-less : tie.Need-loop-less Inv-loop μ-loop
-loop-less c = search needs
 
 loop-again : tie.Need-loop-again Inv-loop μ-loop
 loop-again c = written-next (c .before .loop .inv) (c .loop-test .taken) _ (ap (λ (x : ℕ). entry (c .before .before .before .before .args .t2) (c .before .loop .k) + c .before .before .before .before .args .b .left + x) (step-is (past-dc c)))
@@ -74,19 +56,5 @@ pub carrier-row-spec : {M : Type 1} → statement M
 carrier-row-spec =
     tie.close
     (tie.spec
-    Inv-loop
-    μ-loop
-    cast-left
-    cast-turn
-    loop-holds
-    mul-x
-    array-read-x
-    add-row
-    cast-row
-    add-row-2
-    mul-row
-    array-write-row
-    add-k
-    loop-less
-    loop-again
-    returns)
+    Inv-loop μ-loop cast-left cast-half loop-holds (λ c. search needs) (λ c. search needs) add-row cast-row add-row-2
+    (λ c. search needs) (λ c. search needs) (λ c. search needs) (λ c. search needs) loop-again returns)

@@ -1,4 +1,4 @@
--- `carriers::data_of_used` meets its contract. Assumes nothing.
+-- `carriers::data_of_used` meets its contract.
 use Rattle.base.proofs.LeaveOut.{unskip-le}
 use native.Mathlib.Omega.{arith}
 use Prim.Native.Nat.{_%_}
@@ -6,15 +6,6 @@ use Rattle.carriers.specs.Bin.{dataOfUsed}
 use borrow.Author.Needs.{needs}
 use Rattle.carriers.proofs.data_of_used.Statement.{statement}
 use Rattle.carriers.proofs.data_of_used.Tie as tie
-
-mul-result : tie.Need-mul-result
-mul-result c = search needs
-
-bin-pilot-place-requires : tie.Need-bin-pilot-place-requires
-bin-pilot-place-requires c κs = search needs
-
-unskip-requires : tie.Need-unskip-requires
-unskip-requires c κs = search needs
 
 add-result : tie.Need-add-result
 add-result c = omega (arith, unskip-le (c .before .bin-pilot-place .result) (c .before .before .args .u % 9))
@@ -25,4 +16,4 @@ returns c = rw (c .unskip .ensures .0, c .before .bin-pilot-place .ensures)
 
 pub data-of-used-spec : {M : Type 1} → statement M
 data-of-used-spec =
-    tie.close (tie.spec mul-result bin-pilot-place-requires unskip-requires add-result returns)
+    tie.close (tie.spec (λ c. search needs) (λ c κs. search needs) (λ c κs. search needs) add-result returns)

@@ -1,15 +1,12 @@
--- `carriers::is_bin_pilot` meets its contract. Assumes nothing.
+-- `carriers::is_bin_pilot` meets its contract.
 use Rattle.carriers.specs.Bin.{isBinPilot}
 use borrow.Author.Needs.{needs}
 use Rattle.carriers.proofs.is_bin_pilot.Statement.{statement}
 use Rattle.carriers.proofs.is_bin_pilot.Tie as tie
-
-bin-pilot-place-requires : tie.Need-bin-pilot-place-requires
-bin-pilot-place-requires c κs = search needs
 
 returns : tie.Need-returns
 unfolding isBinPilot
 returns c = rw (c .bin-pilot-place .ensures)
 
 pub is-bin-pilot-spec : {M : Type 1} → statement M
-is-bin-pilot-spec = tie.close (tie.spec bin-pilot-place-requires returns)
+is-bin-pilot-spec = tie.close (tie.spec (λ c κs. search needs) returns)

@@ -1,4 +1,4 @@
--- `carriers::is_dc` meets its contract. Assumes nothing.
+-- `carriers::is_dc` meets its contract.
 use borrow.Author.Needs.{needs}
 use Rattle.carriers.specs.Band.{isDc}
 use Rattle.carriers.proofs.is_dc.Statement.{statement}

@@ -1,4 +1,4 @@
--- `carriers::is_guard` meets its contract. Assumes nothing.
+-- `carriers::is_guard` meets its contract.
 use borrow.Author.Tests.{lt-ltb, le-ltb}
 use Rattle.carriers.specs.Band.{isGuard}
 use borrow.Author.Needs.{needs}
@@ -9,12 +9,9 @@ returns : tie.Need-returns
 unfolding isGuard
 returns c = simp (lt-ltb _ _ (c .if1 .taken))
 
-sub-result : tie.Need-sub-result
-sub-result c = search needs
-
 returns-2 : tie.Need-returns-2
 unfolding isGuard
 returns-2 c = simp (le-ltb _ _ (c .before .if1 .left))
 
 pub is-guard-spec : {M : Type 1} → statement M
-is-guard-spec = tie.close (tie.spec returns sub-result returns-2)
+is-guard-spec = tie.close (tie.spec returns (λ c. search needs) returns-2)

@@ -1,4 +1,4 @@
--- `carriers::used_numbers` meets its contract. Assumes nothing.
+-- `carriers::used_numbers` meets its contract.
 use Prim.Native.Nat.{_-_, _%_}
 use lib.Dec.{leb}
 use native.Mathlib.Omega.{arith}
@@ -17,20 +17,11 @@ Inv-loop y numbers pilot row₀ m₀ row m = Written 48 (λ k. usedOfData y (ent
 abbrev μ-loop : tie.MeasureT-loop
 μ-loop y numbers pilot row₀ m₀ row m = 48 - m
 
-bin-pilot-place-requires : tie.Need-bin-pilot-place-requires Inv-loop μ-loop
-bin-pilot-place-requires c κs = search needs
-
 cast-pilot : tie.Need-cast-pilot Inv-loop μ-loop
 cast-pilot c = rw (c .bin-pilot-place .ensures) (omega (arith, pilot-place-le (c .before .args .y)))
 
 loop-holds : tie.Need-loop-holds Inv-loop μ-loop
 loop-holds c = written-none 48 _
-
-mul-d : tie.Need-mul-d Inv-loop μ-loop
-mul-d c = search needs
-
-array-read-d : tie.Need-array-read-d Inv-loop μ-loop
-array-read-d c = search needs
 
 add-row : tie.Need-add-row Inv-loop μ-loop
 add-row c = omega (arith, c .before .before .before .pre _ (c .loop-test .taken))
@@ -40,18 +31,6 @@ cast-row c = tt
 
 add-row-2 : tie.Need-add-row-2 Inv-loop μ-loop
 add-row-2 c = step-fits _ (leb (c .before .before .bin-pilot-place .result) (entry (c .before .before .before .args .t2) (c .before .loop .m) % 8)) (omega (arith, c .before .before .before .pre _ (c .loop-test .taken)))
-
-mul-row : tie.Need-mul-row Inv-loop μ-loop
-mul-row c = search needs
-
-array-write-row : tie.Need-array-write-row Inv-loop μ-loop
-array-write-row c = search needs
-
-add-m : tie.Need-add-m Inv-loop μ-loop
-add-m c = search needs
-
-loop-less : tie.Need-loop-less Inv-loop μ-loop
-loop-less c = search needs
 
 loop-again : tie.Need-loop-again Inv-loop μ-loop
 loop-again c = written-next (c .before .loop .inv) (c .loop-test .taken) _ (rw (c .before .before .bin-pilot-place .ensures) (used-by-steps _ _))
@@ -63,19 +42,6 @@ pub used-numbers-spec : {M : Type 1} → statement M
 used-numbers-spec =
     tie.close
     (tie.spec
-    Inv-loop
-    μ-loop
-    bin-pilot-place-requires
-    cast-pilot
-    loop-holds
-    mul-d
-    array-read-d
-    add-row
-    cast-row
-    add-row-2
-    mul-row
-    array-write-row
-    add-m
-    loop-less
-    loop-again
+    Inv-loop μ-loop (λ c κs. search needs) cast-pilot loop-holds (λ c. search needs) (λ c. search needs) add-row
+    cast-row add-row-2 (λ c. search needs) (λ c. search needs) (λ c. search needs) (λ c. search needs) loop-again
     returns)

@@ -1,4 +1,4 @@
--- `carriers::used_of_data` meets its contract. Assumes nothing.
+-- `carriers::used_of_data` meets its contract.
 use Rattle.base.proofs.LeaveOut.{skip-le}
 use native.Mathlib.Omega.{arith}
 use Prim.Native.Nat.{_%_}
@@ -6,15 +6,6 @@ use Rattle.carriers.specs.Bin.{usedOfData}
 use borrow.Author.Needs.{needs}
 use Rattle.carriers.proofs.used_of_data.Statement.{statement}
 use Rattle.carriers.proofs.used_of_data.Tie as tie
-
-mul-result : tie.Need-mul-result
-mul-result c = search needs
-
-bin-pilot-place-requires : tie.Need-bin-pilot-place-requires
-bin-pilot-place-requires c κs = search needs
-
-skip-requires : tie.Need-skip-requires
-skip-requires c κs = search needs
 
 add-result : tie.Need-add-result
 add-result c = omega (arith, skip-le (c .before .bin-pilot-place .result) (c .before .before .args .d % 8))
@@ -25,4 +16,4 @@ returns c = rw (c .skip .ensures .0, c .before .bin-pilot-place .ensures)
 
 pub used-of-data-spec : {M : Type 1} → statement M
 used-of-data-spec =
-    tie.close (tie.spec mul-result bin-pilot-place-requires skip-requires add-result returns)
+    tie.close (tie.spec (λ c. search needs) (λ c κs. search needs) (λ c κs. search needs) add-result returns)

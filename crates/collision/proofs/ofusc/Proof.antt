@@ -1,4 +1,4 @@
--- `collision::ofusc` meets its contract. Assumes nothing.
+-- `collision::ofusc` meets its contract.
 use mathlib.Core.Path.{_≡_, sym, _∙_}
 use mathlib.Core.Bool.{true}
 use native.Mathlib.Omega.{arith}
@@ -12,20 +12,11 @@ use Rattle.collision.proofs.ofusc.Tie as tie
 four : (c : tie.Else1) → isFourSizes (c .before .before .args .size) ≡ true
 four c = sym (c .before .is-four-sizes .ensures) ∙ not-false _ (c .if1 .left)
 
-is-four-sizes-requires : tie.Need-is-four-sizes-requires
-is-four-sizes-requires c κs = search needs
-
-refused-requires : tie.Need-refused-requires
-refused-requires c κs = search needs
-
 returns : tie.Need-returns
 returns c = c .refused .ensures ∙ ofusc-2 _ _ _ _ _ (sym (c .before .before .is-four-sizes .ensures) ∙ not-true _ (c .before .if1 .taken))
 
 mul-if2 : tie.Need-mul-if2
 mul-if2 c = omega (arith, wide _ (four c) .few)
-
-refused-requires-2 : tie.Need-refused-requires-2
-refused-requires-2 c κs = search needs
 
 returns-2 : tie.Need-returns-2
 returns-2 c = c .refused2 .ensures ∙ ofusc-3a _ _ _ _ _ (four (c .before .before)) (c .before .if2 .taken)
@@ -33,20 +24,11 @@ returns-2 c = c .refused2 .ensures ∙ ofusc-3a _ _ _ _ _ (four (c .before .befo
 mul-if3 : tie.Need-mul-if3
 mul-if3 c = omega (arith, wide _ (four (c .before)) .few)
 
-refused-requires-3 : tie.Need-refused-requires-3
-refused-requires-3 c κs = search needs
-
 returns-3 : tie.Need-returns-3
 returns-3 c = c .refused3 .ensures ∙ ofusc-3b _ _ _ _ _ (four (c .before .before .before)) (c .before .before .if2 .left) (c .before .if3 .taken)
 
-refused-requires-4 : tie.Need-refused-requires-4
-refused-requires-4 c κs = search needs
-
 returns-4 : tie.Need-returns-4
 returns-4 c = c .refused4 .ensures ∙ ofusc-5a _ _ _ _ _ (four (c .before .before .before .before)) (c .before .before .before .if2 .left) (c .before .before .if3 .left) (c .before .if4 .taken)
-
-refused-requires-5 : tie.Need-refused-requires-5
-refused-requires-5 c κs = search needs
 
 returns-5 : tie.Need-returns-5
 returns-5 c = c .refused5 .ensures ∙ ofusc-5b _ _ _ _ _ (four (c .before .before .before .before .before)) (c .before .before .before .before .if2 .left) (c .before .before .before .if3 .left) (c .before .before .if4 .left) (c .before .if5 .taken)
@@ -61,18 +43,6 @@ pub ofusc-spec : {M : Type 1} → statement M
 ofusc-spec =
     tie.close
     (tie.spec
-    is-four-sizes-requires
-    refused-requires
-    returns
-    mul-if2
-    refused-requires-2
-    returns-2
-    mul-if3
-    refused-requires-3
-    returns-3
-    refused-requires-4
-    returns-4
-    refused-requires-5
-    returns-5
-    ofusc-hits-requires
-    returns-6)
+    (λ c κs. search needs) (λ c κs. search needs) returns mul-if2 (λ c κs. search needs) returns-2 mul-if3
+    (λ c κs. search needs) returns-3 (λ c κs. search needs) returns-4 (λ c κs. search needs) returns-5
+    ofusc-hits-requires returns-6)

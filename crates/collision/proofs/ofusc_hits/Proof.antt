@@ -1,4 +1,4 @@
--- `collision::ofusc_hits` meets its contract. Assumes nothing.
+-- `collision::ofusc_hits` meets its contract.
 use Prim.Native.Nat.{_*_, _-_}
 use native.Mathlib.Omega.{arith}
 use borrow.Author.Needs.{needs}
@@ -15,12 +15,6 @@ Inv-loop n cell-a a cell-b b numbers-a numbers-b s t hits₀ count₀ k₀ hits 
 abbrev μ-loop : tie.MeasureT-loop
 μ-loop n cell-a a cell-b b numbers-a numbers-b s t hits₀ count₀ k₀ hits count k = 48 - k
 
-table-requires : tie.Need-table-requires Inv-loop μ-loop
-table-requires c κs = search needs
-
-table-requires-2 : tie.Need-table-requires-2 Inv-loop μ-loop
-table-requires-2 c κs = search needs
-
 cast-s : tie.Need-cast-s Inv-loop μ-loop
 cast-s c = omega (arith, size (c .before .before .pre .0), c .before .before .pre .1 .1 .0)
 
@@ -30,32 +24,11 @@ cast-t c = omega (arith, size (c .before .before .pre .0), c .before .before .pr
 loop-holds : tie.Need-loop-holds Inv-loop μ-loop
 loop-holds c = start _
 
-mul-same-element : tie.Need-mul-same-element Inv-loop μ-loop
-mul-same-element c = search needs
-
-array-read-same-element : tie.Need-array-read-same-element Inv-loop μ-loop
-array-read-same-element c = search needs
-
-mul-same-element-2 : tie.Need-mul-same-element-2 Inv-loop μ-loop
-mul-same-element-2 c = search needs
-
-array-read-same-element-2 : tie.Need-array-read-same-element-2 Inv-loop μ-loop
-array-read-same-element-2 c = search needs
-
-array-write-hits : tie.Need-array-write-hits Inv-loop μ-loop
-array-write-hits c = search needs
-
 cast-count : tie.Need-cast-count Inv-loop μ-loop
 cast-count c = tt
 
 add-count : tie.Need-add-count Inv-loop μ-loop
 add-count c = search (fits, needs)
-
-add-k : tie.Need-add-k Inv-loop μ-loop
-add-k c = search needs
-
-loop-less : tie.Need-loop-less Inv-loop μ-loop
-loop-less c = search needs
 
 loop-again : tie.Need-loop-again Inv-loop μ-loop
 loop-again c =
@@ -72,21 +45,6 @@ pub ofusc-hits-spec : {M : Type 1} → statement M
 ofusc-hits-spec =
     tie.close
     (tie.spec
-    Inv-loop
-    μ-loop
-    table-requires
-    table-requires-2
-    cast-s
-    cast-t
-    loop-holds
-    mul-same-element
-    array-read-same-element
-    mul-same-element-2
-    array-read-same-element-2
-    array-write-hits
-    cast-count
-    add-count
-    add-k
-    loop-less
-    loop-again
-    returns)
+    Inv-loop μ-loop (λ c κs. search needs) (λ c κs. search needs) cast-s cast-t loop-holds (λ c. search needs)
+    (λ c. search needs) (λ c. search needs) (λ c. search needs) (λ c. search needs) cast-count add-count
+    (λ c. search needs) (λ c. search needs) loop-again returns)

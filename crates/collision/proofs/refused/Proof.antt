@@ -1,4 +1,4 @@
--- `collision::refused` meets its contract. Assumes nothing.
+-- `collision::refused` meets its contract.
 use mathlib.Core.Path.{refl}
 use Rattle.base.specs.Tabulate.{tabulate}
 use Rattle.collision.specs.Collision.{answerOf}

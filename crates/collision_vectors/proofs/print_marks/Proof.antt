@@ -1,4 +1,4 @@
--- `collision_vectors::print_marks` is safe and ends. The measure is the number of marks that are left. Assumes nothing.
+-- `collision_vectors::print_marks` is safe and ends. The measure is the number of marks that are left.
 use borrow.Author.Needs.{needs}
 use Prim.Native.Nat.{_+_, _-_}
 use native.Mathlib.Omega.{arith}
@@ -16,15 +16,6 @@ Inv-loop hits out₀ k₀ out k = length out ≡ 49
 abbrev μ-loop : tie.MeasureT-loop
 μ-loop hits out₀ k₀ out k = 48 - k
 
-loop-holds : tie.Need-loop-holds Inv-loop μ-loop
-loop-holds c = search needs
-
-array-read-out : tie.Need-array-read-out Inv-loop μ-loop
-array-read-out c = search needs
-
-cast-out : tie.Need-cast-out Inv-loop μ-loop
-cast-out c = search needs
-
 digit-fits : (mark : Bool) → Fits w8 (48 + boolByte mark)
 digit-fits true = omega arith
 digit-fits false = omega arith
@@ -32,45 +23,10 @@ digit-fits false = omega arith
 add-out : tie.Need-add-out Inv-loop μ-loop
 add-out c = search (digit-fits, needs)
 
-add-out-2 : tie.Need-add-out-2 Inv-loop μ-loop
-add-out-2 c = search needs
-
-array-write-out : tie.Need-array-write-out Inv-loop μ-loop
-array-write-out c = search needs
-
-add-k : tie.Need-add-k Inv-loop μ-loop
-add-k c = search needs
-
-loop-less : tie.Need-loop-less Inv-loop μ-loop
-loop-less c = search needs
-
-loop-again : tie.Need-loop-again Inv-loop μ-loop
-loop-again c = search needs
-
-slice-aggregate-print : tie.Need-slice-aggregate-print Inv-loop μ-loop
-slice-aggregate-print c = search needs
-
-print-requires : tie.Need-print-requires Inv-loop μ-loop
-print-requires c κs = search needs
-
-returns : tie.Need-returns Inv-loop μ-loop
-returns c = search needs
-
 pub print-marks-spec : {M : Type 1} → statement M
 print-marks-spec =
     tie.close
     (tie.spec
-    Inv-loop
-    μ-loop
-    loop-holds
-    array-read-out
-    cast-out
-    add-out
-    add-out-2
-    array-write-out
-    add-k
-    loop-less
-    loop-again
-    slice-aggregate-print
-    print-requires
-    returns)
+    Inv-loop μ-loop (λ c. search needs) (λ c. search needs) (λ c. search needs) add-out (λ c. search needs)
+    (λ c. search needs) (λ c. search needs) (λ c. search needs) (λ c. search needs) (λ c. search needs)
+    (λ c κs. search needs) (λ c. search needs))

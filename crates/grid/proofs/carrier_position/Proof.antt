@@ -1,4 +1,4 @@
--- `grid::carrier_position` meets its contract. Assumes nothing.
+-- `grid::carrier_position` meets its contract.
 use Prim.Native.Nat.{_+_, _*_, _%_, _<_}
 use Rattle.map.specs.Mode.{symbols}
 use mathlib.Core.Path.{_≡_, subst⁻¹}
@@ -16,9 +16,6 @@ value : (c : tie.After-struct-known) → c .before .offset-of .result * c .befor
 unfolding position
 value c = rw (c .before .offset-of .ensures)
 
-offset-of-requires : tie.Need-offset-of-requires
-offset-of-requires c κs = search needs
-
 mul-result : tie.Need-mul-result
 mul-result c = rw (c .before .offset-of .ensures) (omega (arith, row-few (c .before .before .pre .0) _ (mod-lt (c .before .before .args .symbol) (symbols-range (c .before .before .pre .0) .0))))
 
@@ -30,4 +27,4 @@ returns c = (value c, subst⁻¹ (λ x. x < gridPoints (c .before .before .args 
 
 pub carrier-position-spec : {M : Type 1} → statement M
 carrier-position-spec =
-    tie.close (tie.spec offset-of-requires mul-result add-result returns)
+    tie.close (tie.spec (λ c κs. search needs) mul-result add-result returns)

@@ -1,4 +1,4 @@
--- `grid::clear` meets its contract. Assumes nothing.
+-- `grid::clear` meets its contract.
 use borrow.Author.Needs.{needs}
 use native.Mathlib.Omega.{arith}
 use lib.Ieee.{nan}
@@ -18,9 +18,6 @@ abbrev μ-loop : tie.MeasureT-loop
 
 loop-holds : tie.Need-loop-holds Inv-loop μ-loop
 loop-holds c = (omega arith, refl, refl, λ k h. absurd (omega arith))
-
-mul-floats : tie.Need-mul-floats Inv-loop μ-loop
-mul-floats c = search needs
 
 slice-write-floats : tie.Need-slice-write-floats Inv-loop μ-loop
 slice-write-floats c = omega arith
@@ -44,13 +41,4 @@ pub clear-spec : {M : Type 1} → statement M
 clear-spec =
     tie.close
     (tie.spec
-    Inv-loop
-    μ-loop
-    loop-holds
-    mul-floats
-    slice-write-floats
-    add-j
-    loop-less
-    loop-again
-    same-length
-    returns)
+    Inv-loop μ-loop loop-holds (λ c. search needs) slice-write-floats add-j loop-less loop-again same-length returns)

@@ -1,4 +1,4 @@
--- `grid::empty` meets its contract. Assumes nothing.
+-- `grid::empty` meets its contract.
 use mathlib.Core.Path.{refl, _∙_}
 use Rattle.grid.specs.Model.{taken}
 use borrow.Author.Needs.{needs}
@@ -15,17 +15,11 @@ Inv-loop c slot grid points₀ k table n s₀ points s = EmptyTurn c slot grid p
 abbrev μ-loop : tie.MeasureT-loop
 μ-loop c slot grid points₀ k table n s₀ points s = n - s
 
-slot-refusal-requires : tie.Need-slot-refusal-requires Inv-loop μ-loop
-slot-refusal-requires c κs = search needs
-
 returns : tie.Need-returns Inv-loop μ-loop
 returns c = search (empty-refused, needs)
 
 table-requires : tie.Need-table-requires Inv-loop μ-loop
 table-requires c κs = (now-accepted _ _ _ _ _ (c .before .slot-refusal .ensures) (c .if1 .left)) .valid
-
-subchannels-requires : tie.Need-subchannels-requires Inv-loop μ-loop
-subchannels-requires c κs = search needs
 
 loop-holds : tie.Need-loop-holds Inv-loop μ-loop
 unfolding taken
@@ -58,16 +52,5 @@ pub empty-spec : {M : Type 1} → statement M
 empty-spec =
     tie.close
     (tie.spec
-    Inv-loop
-    μ-loop
-    slot-refusal-requires
-    returns
-    table-requires
-    subchannels-requires
-    loop-holds
-    take-requires
-    add-s
-    loop-less
-    loop-again
-    same-length
-    returns-2)
+    Inv-loop μ-loop (λ c κs. search needs) returns table-requires (λ c κs. search needs) loop-holds take-requires
+    add-s loop-less loop-again same-length returns-2)

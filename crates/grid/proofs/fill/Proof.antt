@@ -1,4 +1,4 @@
--- `grid::fill` meets its contract. Assumes nothing.
+-- `grid::fill` meets its contract.
 use mathlib.Core.Path.{refl, sym, _∙_}
 use Rattle.grid.specs.Model.{laid}
 use borrow.Author.Needs.{needs}
@@ -15,9 +15,6 @@ Inv-loop c slot points grid₀ k table n s₀ grid s = FillTurn c slot points gr
 abbrev μ-loop : tie.MeasureT-loop
 μ-loop c slot points grid₀ k table n s₀ grid s = n - s
 
-slot-refusal-requires : tie.Need-slot-refusal-requires Inv-loop μ-loop
-slot-refusal-requires c κs = search needs
-
 returns : tie.Need-returns Inv-loop μ-loop
 returns c = search (fill-refused, needs)
 
@@ -26,9 +23,6 @@ ground-requires c κs = let a = (now-accepted _ _ _ _ _ (c .before .before .slot
 
 table-requires : tie.Need-table-requires Inv-loop μ-loop
 table-requires c κs = (now-accepted _ _ _ _ _ (c .before .before .before .before .before .slot-refusal .ensures) (c .before .before .before .before .if1 .left)) .valid
-
-subchannels-requires : tie.Need-subchannels-requires Inv-loop μ-loop
-subchannels-requires c κs = search needs
 
 loop-holds : tie.Need-loop-holds Inv-loop μ-loop
 unfolding laid
@@ -61,17 +55,5 @@ pub fill-spec : {M : Type 1} → statement M
 fill-spec =
     tie.close
     (tie.spec
-    Inv-loop
-    μ-loop
-    slot-refusal-requires
-    returns
-    ground-requires
-    table-requires
-    subchannels-requires
-    loop-holds
-    lay-requires
-    add-s
-    loop-less
-    loop-again
-    same-length
-    returns-2)
+    Inv-loop μ-loop (λ c κs. search needs) returns ground-requires table-requires (λ c κs. search needs) loop-holds
+    lay-requires add-s loop-less loop-again same-length returns-2)

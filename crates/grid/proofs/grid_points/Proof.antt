@@ -1,4 +1,4 @@
--- `grid::grid_points` meets its contract. Assumes nothing.
+-- `grid::grid_points` meets its contract.
 use Prim.Native.Nat.{_*_}
 use mathlib.Core.Path.{_≡_}
 use Rattle.grid.proofs.Slot.{grid-few}
@@ -12,9 +12,6 @@ value : (c : tie.After-struct-known) → c .before .symbols .result * c .before 
 unfolding gridPoints
 value c = rw (c .before .symbols .ensures)
 
-symbols-requires : tie.Need-symbols-requires
-symbols-requires c κs = search needs
-
 mul-result : tie.Need-mul-result
 mul-result c = omega (arith, value c, grid-few (c .before .before .pre))
 
@@ -22,4 +19,4 @@ returns : tie.Need-returns
 returns c = (value c, omega (arith, value c, grid-few (c .before .before .pre)))
 
 pub grid-points-spec : {M : Type 1} → statement M
-grid-points-spec = tie.close (tie.spec symbols-requires mul-result returns)
+grid-points-spec = tie.close (tie.spec (λ c κs. search needs) mul-result returns)

@@ -1,4 +1,4 @@
--- `grid::ground` meets its contract. Assumes nothing.
+-- `grid::ground` meets its contract.
 use Rattle.grid.specs.Model.{pilotRows}
 use Rattle.grid.specs.Points.{zero32}
 use lib.ListN.{replicate}
@@ -16,12 +16,6 @@ Inv-loop c slot p grid₀ rows row₀ grid row = GroundTurn c slot p rows grid r
 
 abbrev μ-loop : tie.MeasureT-loop
 μ-loop c slot p grid₀ rows row₀ grid row = rows - row
-
-clear-requires : tie.Need-clear-requires Inv-loop μ-loop
-clear-requires c κs = search needs
-
-symbols-requires : tie.Need-symbols-requires Inv-loop μ-loop
-symbols-requires c κs = search needs
 
 loop-holds : tie.Need-loop-holds Inv-loop μ-loop
 unfolding pilotRows
@@ -55,14 +49,5 @@ pub ground-spec : {M : Type 1} → statement M
 ground-spec =
     tie.close
     (tie.spec
-    Inv-loop
-    μ-loop
-    clear-requires
-    symbols-requires
-    loop-holds
-    pilot-row-requires
-    add-row
-    loop-less
-    loop-again
-    same-length
-    returns)
+    Inv-loop μ-loop (λ c κs. search needs) (λ c κs. search needs) loop-holds pilot-row-requires add-row loop-less
+    loop-again same-length returns)

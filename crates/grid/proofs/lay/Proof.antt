@@ -1,4 +1,4 @@
--- `grid::lay` meets its contract. Assumes nothing.
+-- `grid::lay` meets its contract.
 use mathlib.Core.Path.{refl, ap, _∙_}
 use Prim.Native.Nat.{ℕ, _-_}
 use native.Mathlib.Omega.{arith}
@@ -52,13 +52,5 @@ pub lay-spec : {M : Type 1} → statement M
 lay-spec =
     tie.close
     (tie.spec
-    carrier-row-requires
-    shift-requires
-    mul-first
-    sub-lay-run
-    lay-run-requires
-    sub-lay-run-2
-    add-lay-run
-    lay-run-requires-2
-    same-length
-    returns)
+    carrier-row-requires shift-requires mul-first sub-lay-run lay-run-requires sub-lay-run-2 add-lay-run
+    lay-run-requires-2 same-length returns)

@@ -1,4 +1,4 @@
--- `grid::pilot_row` meets its contract. Assumes nothing.
+-- `grid::pilot_row` meets its contract.
 use mathlib.Core.Path.{sym, _∙_}
 use Prim.Native.Nat.{_-_, _*_}
 use native.Mathlib.Omega.{arith}
@@ -14,9 +14,6 @@ Inv-loop c slot row p grid₀ k i₀ grid i = RowTurn c slot row p grid₀ k gri
 
 abbrev μ-loop : tie.MeasureT-loop
 μ-loop c slot row p grid₀ k i₀ grid i = k .count - i
-
-symbols-requires : tie.Need-symbols-requires Inv-loop μ-loop
-symbols-requires c κs = search needs
 
 mul-pilot-comb : tie.Need-mul-pilot-comb Inv-loop μ-loop
 mul-pilot-comb c = omega (arith, slot-few (c .before .before .pre .0) (c .before .before .args .slot) (c .symbols .result) (c .before .before .pre .1 .0) (c .symbols .ensures))
@@ -81,22 +78,6 @@ pub pilot-row-spec : {M : Type 1} → statement M
 pilot-row-spec =
     tie.close
     (tie.spec
-    Inv-loop
-    μ-loop
-    symbols-requires
-    mul-pilot-comb
-    add-pilot-comb
-    pilot-comb-requires
-    loop-holds
-    mul-pilot-number
-    pilot-number-requires
-    put-used-requires
-    mul-pilot-number-2
-    add-pilot-number
-    pilot-number-requires-2
-    put-used-requires-2
-    add-i
-    loop-less
-    loop-again
-    same-length
-    returns)
+    Inv-loop μ-loop (λ c κs. search needs) mul-pilot-comb add-pilot-comb pilot-comb-requires loop-holds
+    mul-pilot-number pilot-number-requires put-used-requires mul-pilot-number-2 add-pilot-number
+    pilot-number-requires-2 put-used-requires-2 add-i loop-less loop-again same-length returns)

@@ -1,4 +1,4 @@
--- `grid::position` meets its contract. Assumes nothing.
+-- `grid::position` meets its contract.
 use Prim.Native.Nat.{_+_, _*_, _<_}
 use mathlib.Core.Path.{_≡_, subst⁻¹}
 use Rattle.grid.proofs.Slot.{used-position-lt, grid-few}
@@ -16,9 +16,6 @@ value c = rw (c .carrier .ensures, c .before .band .ensures)
 mul-result : tie.Need-mul-result
 mul-result c = omega (arith, row-few (c .before .pre .0) (c .before .args .row) (c .before .pre .1 .0))
 
-band-requires : tie.Need-band-requires
-band-requires c κs = search needs
-
 carrier-requires : tie.Need-carrier-requires
 carrier-requires c κs = (rw (c .band .ensures) (omega (arith, left-few (c .before .before .pre .0))), omega (arith, used-few (c .before .before .pre .0)))
 
@@ -29,4 +26,4 @@ returns : tie.Need-returns
 returns c = (value c, subst⁻¹ (λ x. x < gridPoints (c .before .before .before .args .c)) (value c) (used-position-lt _ (c .before .before .before .pre .0) _ _ (c .before .before .before .pre .1 .1) (c .before .before .before .pre .1 .0)))
 
 pub position-spec : {M : Type 1} → statement M
-position-spec = tie.close (tie.spec mul-result band-requires carrier-requires add-result returns)
+position-spec = tie.close (tie.spec mul-result (λ c κs. search needs) carrier-requires add-result returns)

@@ -1,25 +1,10 @@
--- `grid::sight` meets its contract. Assumes nothing.
+-- `grid::sight` meets its contract.
 use Rattle.map.specs.Place.{located}
 use Rattle.grid.specs.Grid.{sightOf, sight}
 use mathlib.Core.Path.{sym, ap}
 use borrow.Author.Needs.{needs}
 use Rattle.grid.proofs.sight.Statement.{statement}
 use Rattle.grid.proofs.sight.Tie as tie
-
-enum-told : tie.Need-enum-told
-enum-told c = search needs
-
-enum-told-2 : tie.Need-enum-told-2
-enum-told-2 c = search needs
-
-enum-told-3 : tie.Need-enum-told-3
-enum-told-3 c = search needs
-
-enum-known-found : tie.Need-enum-known-found
-enum-known-found c = search needs
-
-enum-known-found-2 : tie.Need-enum-known-found-2
-enum-known-found-2 c = search needs
 
 returns : tie.Need-returns
 unfolding sightOf sight
@@ -45,13 +30,5 @@ pub sight-spec : {M : Type 1} → statement M
 sight-spec =
     tie.close
     (tie.spec
-    enum-told
-    enum-told-2
-    enum-told-3
-    enum-known-found
-    enum-known-found-2
-    returns
-    returns-2
-    returns-3
-    returns-4
-    returns-5)
+    (λ c. search needs) (λ c. search needs) (λ c. search needs) (λ c. search needs) (λ c. search needs) returns
+    returns-2 returns-3 returns-4 returns-5)

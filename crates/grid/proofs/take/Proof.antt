@@ -1,4 +1,4 @@
--- `grid::take` meets its contract. Assumes nothing.
+-- `grid::take` meets its contract.
 use mathlib.Core.Path.{refl, ap, _∙_}
 use Prim.Native.Nat.{ℕ, _-_}
 use native.Mathlib.Omega.{arith}
@@ -52,13 +52,5 @@ pub take-spec : {M : Type 1} → statement M
 take-spec =
     tie.close
     (tie.spec
-    carrier-row-requires
-    shift-requires
-    mul-first
-    sub-take-run
-    take-run-requires
-    sub-take-run-2
-    add-take-run
-    take-run-requires-2
-    same-length
-    returns)
+    carrier-row-requires shift-requires mul-first sub-take-run take-run-requires sub-take-run-2 add-take-run
+    take-run-requires-2 same-length returns)

@@ -1,4 +1,4 @@
--- `grid::take_run` meets its contract. Assumes nothing.
+-- `grid::take_run` meets its contract.
 use mathlib.Core.Path.{ap, _∙_}
 use Prim.Native.Nat.{_+_, _-_}
 use native.Mathlib.Omega.{arith}
@@ -20,32 +20,14 @@ abbrev μ-loop : tie.MeasureT-loop
 loop-holds : tie.Need-loop-holds Inv-loop μ-loop
 loop-holds c = record { at-most = omega arith; so-far = puts-none _ _ _ }
 
-add-wide16 : tie.Need-add-wide16 Inv-loop μ-loop
-add-wide16 c = search needs
-
-mul-wide16 : tie.Need-mul-wide16 Inv-loop μ-loop
-mul-wide16 c = search needs
-
 element-copy-out-wide16 : tie.Need-element-copy-out-wide16 Inv-loop μ-loop
 element-copy-out-wide16 c = omega (arith, c .before .before .before .before .pre .0, c .loop-test .taken)
-
-wide16-requires : tie.Need-wide16-requires Inv-loop μ-loop
-wide16-requires c κs = search needs
-
-add-put-point : tie.Need-add-put-point Inv-loop μ-loop
-add-put-point c = search needs
 
 point-at-requires : tie.Need-point-at-requires Inv-loop μ-loop
 point-at-requires c κs = rw (c .before .wide16 .ensures .0) (c .before .before .before .before .before .before .before .pre .3 (c .before .before .before .before .before .before .before .args .q + c .before .before .before .before .loop .m) (omega (arith, c .before .before .before .before .before .before .before .pre .0, c .before .before .before .loop-test .taken)))
 
 put-point-requires : tie.Need-put-point-requires Inv-loop μ-loop
 put-point-requires c κs = rw (copy-long (c .before .before .before .before .before .loop .inv)) (omega (arith, c .before .before .before .before .before .before .before .before .pre .2, c .before .before .before .before .loop-test .taken))
-
-add-m : tie.Need-add-m Inv-loop μ-loop
-add-m c = search needs
-
-loop-less : tie.Need-loop-less Inv-loop μ-loop
-loop-less c = search needs
 
 loop-again : tie.Need-loop-again Inv-loop μ-loop
 loop-again c = copy-next (c .before .before .before .before .before .before .before .before .loop .inv) (c .before .before .before .before .before .before .before .loop-test .taken) _ (c .before .before .put-point .ensures ∙ ap (putPoint (c .before .before .before .before .before .before .before .before .loop .points) (c .before .before .before .before .before .before .before .before .before .before .before .args .first + c .before .before .before .before .before .before .before .before .loop .m)) (c .before .before .before .point-at .ensures ∙ ap (pointAt _) (c .before .before .before .before .before .wide16 .ensures .0)))
@@ -60,18 +42,6 @@ pub take-run-spec : {M : Type 1} → statement M
 take-run-spec =
     tie.close
     (tie.spec
-    Inv-loop
-    μ-loop
-    loop-holds
-    add-wide16
-    mul-wide16
-    element-copy-out-wide16
-    wide16-requires
-    add-put-point
-    point-at-requires
-    put-point-requires
-    add-m
-    loop-less
-    loop-again
-    same-length
-    returns)
+    Inv-loop μ-loop loop-holds (λ c. search needs) (λ c. search needs) element-copy-out-wide16 (λ c κs. search needs)
+    (λ c. search needs) point-at-requires put-point-requires (λ c. search needs) (λ c. search needs) loop-again
+    same-length returns)

@@ -1,4 +1,4 @@
--- `map::address` meets its contract. Assumes nothing.
+-- `map::address` meets its contract.
 use native.Mathlib.Omega.{arith}
 use Rattle.map.proofs.ByMode.{pusc-dl-asks, pusc-ul-asks, ofusc-back-asks, in-amc, used-few, mode-0, mode-1, mode-2, mode-3}
 use Rattle.map.specs.Mode.{addressOf}
@@ -26,9 +26,6 @@ returns-2 c = rw (c .address2 .ensures) (search (mode-1, needs))
 data-of-used-requires : tie.Need-data-of-used-requires
 data-of-used-requires c κs = omega (arith, used-few (c .before .before .before .before .pre .0))
 
-width-requires : tie.Need-width-requires
-width-requires c κs = search needs
-
 address-requires-3 : tie.Need-address-requires-3
 address-requires-3 c κs = ofusc-back-asks (c .before .before .before .before .before .before .before .before .pre .0) _ _ (c .before .before .before .before .before .before .before .before .pre .1 .0) (c .before .before .before .before .before .before .before .before .pre .1 .1) _ (c .width .ensures) _ (c .before .before .before .data-of-used .ensures) (c .before .if3 .taken)
 
@@ -47,13 +44,5 @@ pub address-spec : {M : Type 1} → statement M
 address-spec =
     tie.close
     (tie.spec
-    address-requires
-    returns
-    address-requires-2
-    returns-2
-    data-of-used-requires
-    width-requires
-    address-requires-3
-    returns-3
-    address-requires-4
-    returns-4)
+    address-requires returns address-requires-2 returns-2 data-of-used-requires (λ c κs. search needs)
+    address-requires-3 returns-3 address-requires-4 returns-4)

@@ -1,4 +1,4 @@
--- `map::band` meets its contract. Assumes nothing.
+-- `map::band` meets its contract.
 use native.Mathlib.Omega.{arith}
 use Rattle.map.proofs.ByMode.{bin-width, mode-0, mode-1, mode-bins}
 use Rattle.ofusc.proofs.Sequence.{size}
@@ -7,22 +7,13 @@ use borrow.Author.Needs.{needs}
 use Rattle.map.proofs.band.Statement.{statement}
 use Rattle.map.proofs.band.Tie as tie
 
-pusc-band-requires : tie.Need-pusc-band-requires
-pusc-band-requires c κs = search needs
-
 returns : tie.Need-returns
 unfolding band
 returns c = rw (c .pusc-band .ensures) (search (mode-0, needs))
 
-pusc-band-requires-2 : tie.Need-pusc-band-requires-2
-pusc-band-requires-2 c κs = search needs
-
 returns-2 : tie.Need-returns-2
 unfolding band
 returns-2 c = rw (c .pusc-band2 .ensures) (search (mode-1, needs))
-
-width-requires : tie.Need-width-requires
-width-requires c κs = search needs
 
 bin-band-requires : tie.Need-bin-band-requires
 bin-band-requires c κs = omega (arith, size (bin-width (c .before .before .before .before .before .pre) (c .before .before .before .if1 .left) (c .before .if2 .left)))
@@ -35,10 +26,5 @@ pub band-spec : {M : Type 1} → statement M
 band-spec =
     tie.close
     (tie.spec
-    pusc-band-requires
-    returns
-    pusc-band-requires-2
-    returns-2
-    width-requires
-    bin-band-requires
+    (λ c κs. search needs) returns (λ c κs. search needs) returns-2 (λ c κs. search needs) bin-band-requires
     returns-3)

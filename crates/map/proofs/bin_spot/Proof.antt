@@ -1,13 +1,10 @@
--- `map::bin_spot` meets its contract. Assumes nothing.
+-- `map::bin_spot` meets its contract.
 use borrow.Author.Needs.{needs}
 use Rattle.map.proofs.bin_spot.Statement.{statement}
 use Rattle.map.proofs.bin_spot.Tie as tie
-
-used-of-data-requires : tie.Need-used-of-data-requires
-used-of-data-requires c κs = search needs
 
 returns : tie.Need-returns
 returns c = rw (c .used-of-data .ensures)
 
 pub bin-spot-spec : {M : Type 1} → statement M
-bin-spot-spec = tie.close (tie.spec used-of-data-requires returns)
+bin-spot-spec = tie.close (tie.spec (λ c κs. search needs) returns)

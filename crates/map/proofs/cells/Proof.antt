@@ -1,4 +1,4 @@
--- `map::cells` meets its contract. Assumes nothing.
+-- `map::cells` meets its contract.
 use Rattle.map.specs.Mode.{width, cells}
 use native.Mathlib.Nat.{mul-le-mul}
 use native.Mathlib.Omega.{arith}
@@ -15,12 +15,6 @@ returns-2 : tie.Need-returns-2
 unfolding cells
 returns-2 c = mode-1 _ _ _ _ _ (c .if2 .taken)
 
-width-requires : tie.Need-width-requires
-width-requires c κs = search needs
-
-width-requires-2 : tie.Need-width-requires-2
-width-requires-2 c κs = search needs
-
 mul-result : tie.Need-mul-result
 unfolding width
 mul-result c = omega (arith, mul-le-mul {n₁ = c .before .width .result} {m₁ = c .width2 .result} {n₂ = 32} {m₂ = 32} (omega arith) (omega arith))
@@ -36,4 +30,4 @@ returns-4 c = search (mode-3, needs)
 pub cells-spec : {M : Type 1} → statement M
 cells-spec =
     tie.close
-    (tie.spec returns returns-2 width-requires width-requires-2 mul-result returns-3 returns-4)
+    (tie.spec returns returns-2 (λ c κs. search needs) (λ c κs. search needs) mul-result returns-3 returns-4)

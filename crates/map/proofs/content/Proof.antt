@@ -1,4 +1,4 @@
--- `map::content` meets its contract. Assumes nothing.
+-- `map::content` meets its contract.
 use Rattle.map.proofs.Outcome.{content-left, content-used, no-pilot, content-guard, content-dc, content-pilot, content-point}
 use Rattle.map.specs.Mode.{band}
 use native.Mathlib.Omega.{arith}
@@ -7,17 +7,11 @@ use borrow.Author.Needs.{needs}
 use Rattle.map.proofs.content.Statement.{statement}
 use Rattle.map.proofs.content.Tie as tie
 
-band-requires : tie.Need-band-requires
-band-requires c κs = search needs
-
 is-guard-requires : tie.Need-is-guard-requires
 is-guard-requires c κs = rw (c .band .ensures) (omega (arith, band-law (c .before .pre .0)))
 
 returns : tie.Need-returns
 returns c = search (content-guard, needs)
-
-is-dc-requires : tie.Need-is-dc-requires
-is-dc-requires c κs = search needs
 
 returns-2 : tie.Need-returns-2
 returns-2 c = search (content-dc, needs)
@@ -25,17 +19,11 @@ returns-2 c = search (content-dc, needs)
 used-requires : tie.Need-used-requires
 used-requires c κs = search (content-left, needs)
 
-is-pilot-requires : tie.Need-is-pilot-requires
-is-pilot-requires c κs = search needs
-
 returns-3 : tie.Need-returns-3
 returns-3 c = search (content-pilot, needs)
 
 address-requires : tie.Need-address-requires
 address-requires c κs = (search needs, (search (content-used, needs), no-pilot _ _ _ _ (c .before .is-pilot .ensures) (c .if3 .left)))
-
-slot-of-requires : tie.Need-slot-of-requires
-slot-of-requires c κs = search needs
 
 returns-4 : tie.Need-returns-4
 returns-4 c = search (content-point, needs)
@@ -44,14 +32,5 @@ pub content-spec : {M : Type 1} → statement M
 content-spec =
     tie.close
     (tie.spec
-    band-requires
-    is-guard-requires
-    returns
-    is-dc-requires
-    returns-2
-    used-requires
-    is-pilot-requires
-    returns-3
-    address-requires
-    slot-of-requires
-    returns-4)
+    (λ c κs. search needs) is-guard-requires returns (λ c κs. search needs) returns-2 used-requires
+    (λ c κs. search needs) returns-3 address-requires (λ c κs. search needs) returns-4)

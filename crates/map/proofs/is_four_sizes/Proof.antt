@@ -1,4 +1,4 @@
--- `map::is_four_sizes` meets its contract. Assumes nothing.
+-- `map::is_four_sizes` meets its contract.
 use borrow.Author.Needs.{needs}
 use Rattle.map.proofs.Accept.{four-rest}
 use borrow.Author.Tests.{eq-eqb, ne-eqb}

@@ -1,4 +1,4 @@
--- `map::is_pilot` meets its contract. Assumes nothing.
+-- `map::is_pilot` meets its contract.
 use Rattle.map.proofs.ByMode.{mode-0, mode-1, mode-bins}
 use Rattle.map.specs.Mode.{isPilot}
 use borrow.Author.Needs.{needs}
@@ -6,22 +6,13 @@ use Rattle.map.proofs.is_pilot.Statement.{statement}
 use Rattle.map.proofs.is_pilot.Tie as tie
 use Rattle.pusc_ul.proofs.is_pilot.Reads as is-pilot-reads′
 
-is-pilot-requires : tie.Need-is-pilot-requires
-is-pilot-requires c κs = search needs
-
 returns : tie.Need-returns
 unfolding isPilot
 returns c = rw (c .is-pilot .ensures) (search (mode-0, needs))
 
-is-pilot-requires-2 : tie.Need-is-pilot-requires-2
-is-pilot-requires-2 c κs = search needs
-
 returns-2 : tie.Need-returns-2
 unfolding isPilot
 returns-2 c = rw (c .is-pilot2 .ensures) (search (mode-1, needs))
-
-is-bin-pilot-requires : tie.Need-is-bin-pilot-requires
-is-bin-pilot-requires c κs = search needs
 
 returns-3 : tie.Need-returns-3
 unfolding isPilot
@@ -30,10 +21,4 @@ returns-3 c = rw (c .is-bin-pilot .ensures) (search (mode-bins, needs))
 pub is-pilot-spec : {M : Type 1} → statement M
 is-pilot-spec =
     tie.close
-    (tie.spec
-    is-pilot-requires
-    returns
-    is-pilot-requires-2
-    returns-2
-    is-bin-pilot-requires
-    returns-3)
+    (tie.spec (λ c κs. search needs) returns (λ c κs. search needs) returns-2 (λ c κs. search needs) returns-3)

@@ -1,12 +1,9 @@
--- `map::is_size` meets its contract. Assumes nothing.
+-- `map::is_size` meets its contract.
 use borrow.Author.Tests.{lt-ltb, le-ltb}
 use Rattle.map.specs.Question.{isSize}
 use borrow.Author.Needs.{needs}
 use Rattle.map.proofs.is_size.Statement.{statement}
 use Rattle.map.proofs.is_size.Tie as tie
-
-is-four-sizes-requires : tie.Need-is-four-sizes-requires
-is-four-sizes-requires c κs = search needs
 
 returns : tie.Need-returns
 unfolding isSize
@@ -17,4 +14,4 @@ unfolding isSize
 returns-2 c = rw (c .is-four-sizes .ensures, le-ltb _ _ (c .before .if1 .left))
 
 pub is-size-spec : {M : Type 1} → statement M
-is-size-spec = tie.close (tie.spec is-four-sizes-requires returns returns-2)
+is-size-spec = tie.close (tie.spec (λ c κs. search needs) returns returns-2)

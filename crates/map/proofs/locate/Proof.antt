@@ -1,4 +1,4 @@
--- `map::locate` meets its contract. Assumes nothing.
+-- `map::locate` meets its contract.
 use mathlib.Core.Path.{sym, _∙_}
 use Rattle.map.proofs.ByMode.{symbols-range}
 use native.Mathlib.Omega.{arith}
@@ -7,14 +7,8 @@ use borrow.Author.Needs.{needs}
 use Rattle.map.proofs.locate.Statement.{statement}
 use Rattle.map.proofs.locate.Tie as tie
 
-refusal-requires : tie.Need-refusal-requires
-refusal-requires c κs = search needs
-
 returns : tie.Need-returns
 returns c = search (locate-setup, needs)
-
-symbols-requires : tie.Need-symbols-requires
-symbols-requires c κs = search needs
 
 mul-if2 : tie.Need-mul-if2
 mul-if2 c = omega (arith, symbols-range (now-valid _ _ (c .before .before .refusal .ensures) (c .before .if1 .left)))
@@ -35,11 +29,4 @@ pub locate-spec : {M : Type 1} → statement M
 locate-spec =
     tie.close
     (tie.spec
-    refusal-requires
-    returns
-    symbols-requires
-    mul-if2
-    returns-2
-    returns-3
-    content-requires
-    returns-4)
+    (λ c κs. search needs) returns (λ c κs. search needs) mul-if2 returns-2 returns-3 content-requires returns-4)

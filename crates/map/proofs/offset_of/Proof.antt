@@ -1,4 +1,4 @@
--- `map::offset_of` meets its contract. Assumes nothing.
+-- `map::offset_of` meets its contract.
 use mathlib.Core.Path.{ap}
 use Prim.Native.Nat.{ℕ, _%_}
 use native.Mathlib.Omega.{arith}
@@ -13,7 +13,7 @@ returns-2 : tie.Need-returns-2
 returns-2 c = ap (λ (t : ℕ). c .before .before .before .before .args .symbol % t) (three-symbols _ (c .if2 .taken))
 
 returns-3 : tie.Need-returns-3
-returns-3 c = omega (arith, ap (λ (t : ℕ). c .before .before .before .before .args .symbol % t) (one-symbol (c .before .before .before .before .args .c) (c .before .before .if1 .left) (c .if2 .left)))
+returns-3 c = omega (arith, ap (λ (t : ℕ). c .before .before .before .before .args .symbol % t) (one-symbol (c .before .before .before .before .args .setup) (c .before .before .if1 .left) (c .if2 .left)))
 
 pub offset-of-spec : {M : Type 1} → statement M
 offset-of-spec = tie.close (tie.spec returns returns-2 returns-3)

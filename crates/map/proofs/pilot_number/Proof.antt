@@ -1,4 +1,4 @@
--- `map::pilot_number` meets its contract. Assumes nothing.
+-- `map::pilot_number` meets its contract.
 use Prim.Native.Nat.{_/_}
 use native.Mathlib.Nat.{mul-le-mul}
 use borrow.Author.Tests.{eq-eqb, ne-eqb}

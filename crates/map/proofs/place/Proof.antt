@@ -1,4 +1,4 @@
--- `map::place` meets its contract. Assumes nothing.
+-- `map::place` meets its contract.
 use Rattle.map.specs.Place.{placeAt}
 use Rattle.base.specs.Answer.{accepted}
 use Rattle.map.proofs.Outcome.{spot-asks, now-valid, place-setup, place-4, place-5, place-6, place-done}
@@ -7,17 +7,11 @@ use borrow.Author.Needs.{needs}
 use Rattle.map.proofs.place.Statement.{statement}
 use Rattle.map.proofs.place.Tie as tie
 
-refusal-requires : tie.Need-refusal-requires
-refusal-requires c κs = search needs
-
 returns : tie.Need-returns
 returns c = search (place-setup, needs)
 
 returns-2 : tie.Need-returns-2
 returns-2 c = search (place-4, now-valid, needs)
-
-subchannels-requires : tie.Need-subchannels-requires
-subchannels-requires c κs = search needs
 
 returns-3 : tie.Need-returns-3
 returns-3 c = search (place-5, now-valid, needs)
@@ -41,12 +35,5 @@ pub place-spec : {M : Type 1} → statement M
 place-spec =
     tie.close
     (tie.spec
-    refusal-requires
-    returns
-    returns-2
-    subchannels-requires
-    returns-3
-    returns-4
-    spot-requires
-    at-requires
+    (λ c κs. search needs) returns returns-2 (λ c κs. search needs) returns-3 returns-4 spot-requires at-requires
     returns-5)

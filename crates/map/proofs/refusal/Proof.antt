@@ -1,4 +1,4 @@
--- `map::refusal` meets its contract. Assumes nothing.
+-- `map::refusal` meets its contract.
 use borrow.Author.Tests.{not-true, not-false}
 use mathlib.Core.Path.{_∙_, sym}
 use Rattle.map.proofs.Accept.{number-1, number-2, number-3, number-0, size-most}
@@ -8,9 +8,6 @@ use Rattle.map.proofs.refusal.Tie as tie
 
 returns : tie.Need-returns
 returns c = search (number-1, needs)
-
-is-size-requires : tie.Need-is-size-requires
-is-size-requires c κs = search needs
 
 returns-2 : tie.Need-returns-2
 returns-2 c = number-2 _ (c .before .before .if1 .left) (sym (c .before .is-size .ensures) ∙ not-true _ (c .if2 .taken))
@@ -26,4 +23,4 @@ returns-4 c = number-0 _ (c .before .before .before .before .before .if1 .left) 
 
 pub refusal-spec : {M : Type 1} → statement M
 refusal-spec =
-    tie.close (tie.spec returns is-size-requires returns-2 cells-requires returns-3 returns-4)
+    tie.close (tie.spec returns (λ c κs. search needs) returns-2 cells-requires returns-3 returns-4)

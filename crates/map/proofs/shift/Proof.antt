@@ -1,4 +1,4 @@
--- `map::shift` meets its contract. Assumes nothing.
+-- `map::shift` meets its contract.
 use native.Mathlib.Omega.{arith}
 use borrow.Author.Needs.{needs}
 use Rattle.map.proofs.Row.{shift-0, shift-1, shift-2, shift-3}
@@ -8,14 +8,8 @@ use Rattle.map.proofs.shift.Tie as tie
 returns : tie.Need-returns
 returns c = (shift-0 _ _ (c .if1 .taken), omega arith)
 
-mul-result : tie.Need-mul-result
-mul-result c = search needs
-
 returns-2 : tie.Need-returns-2
 returns-2 c = (shift-1 _ _ (c .if2 .taken), omega arith)
-
-mul-result-2 : tie.Need-mul-result-2
-mul-result-2 c = search needs
 
 returns-3 : tie.Need-returns-3
 returns-3 c = (shift-2 _ _ (c .if3 .taken), omega arith)
@@ -24,4 +18,4 @@ returns-4 : tie.Need-returns-4
 returns-4 c = (shift-3 _ _ (c .before .before .before .before .before .if1 .left) (c .before .before .before .if2 .left) (c .before .if3 .left), omega arith)
 
 pub shift-spec : {M : Type 1} → statement M
-shift-spec = tie.close (tie.spec returns mul-result returns-2 mul-result-2 returns-3 returns-4)
+shift-spec = tie.close (tie.spec returns (λ c. search needs) returns-2 (λ c. search needs) returns-3 returns-4)

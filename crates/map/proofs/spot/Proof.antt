@@ -1,4 +1,4 @@
--- `map::spot` meets its contract. Assumes nothing.
+-- `map::spot` meets its contract.
 use Rattle.map.proofs.ByMode.{in-pusc-dl, in-pusc-ul, ofusc-asks, ofusc-few, amc-asks, amc-few, mode-0, mode-1, mode-2, mode-3}
 use native.Mathlib.Omega.{arith}
 use Rattle.map.specs.Mode.{spotOf}
@@ -21,9 +21,6 @@ spot-requires-2 c κs = omega (arith, in-pusc-ul (c .before .before .before .bef
 returns-2 : tie.Need-returns-2
 unfolding spotOf
 returns-2 c = rw (c .spot2 .ensures) (search (mode-1, needs))
-
-width-requires : tie.Need-width-requires
-width-requires c κs = search needs
 
 data-number-requires : tie.Need-data-number-requires
 data-number-requires c κs = ofusc-asks (c .before .before .before .before .before .before .before .pre .0) _ (c .width .ensures) _ _ (c .before .before .before .before .before .before .before .pre .1 .0) (c .before .before .before .before .before .before .before .pre .1 .1) (c .before .if3 .taken)
@@ -49,14 +46,5 @@ pub spot-spec : {M : Type 1} → statement M
 spot-spec =
     tie.close
     (tie.spec
-    spot-requires
-    returns
-    spot-requires-2
-    returns-2
-    width-requires
-    data-number-requires
-    bin-spot-requires
-    returns-3
-    data-number-requires-2
-    bin-spot-requires-2
-    returns-4)
+    spot-requires returns spot-requires-2 returns-2 (λ c κs. search needs) data-number-requires bin-spot-requires
+    returns-3 data-number-requires-2 bin-spot-requires-2 returns-4)

@@ -1,4 +1,4 @@
--- `map::spots` meets its contract. Assumes nothing.
+-- `map::spots` meets its contract.
 use borrow.Author.Needs.{needs}
 use Rattle.map.proofs.Row.{asks-0, asks-2, asks-3, row-0, row-below, bin-row, group-number-lt, sequence-number-lt, spot-2, spot-3}
 use Rattle.map.proofs.spots.Statement.{statement}
@@ -9,9 +9,6 @@ spots-requires c κs = asks-0 (c .before .before .pre .0) _ (c .before .before .
 
 returns : tie.Need-returns
 returns c = row-0 _ _ _ (c .before .if1 .taken) (c .spots .result) (c .spots .ensures)
-
-width-requires : tie.Need-width-requires
-width-requires c κs = search needs
 
 numbers-requires : tie.Need-numbers-requires
 numbers-requires c κs =
@@ -41,12 +38,5 @@ pub spots-spec : {M : Type 1} → statement M
 spots-spec =
     tie.close
     (tie.spec
-    spots-requires
-    returns
-    width-requires
-    numbers-requires
-    used-numbers-requires
-    returns-2
-    numbers-requires-2
-    used-numbers-requires-2
-    returns-3)
+    spots-requires returns (λ c κs. search needs) numbers-requires used-numbers-requires returns-2 numbers-requires-2
+    used-numbers-requires-2 returns-3)

@@ -1,4 +1,4 @@
--- `map::symbols` meets its contract. Assumes nothing.
+-- `map::symbols` meets its contract.
 use borrow.Author.Needs.{needs}
 use Rattle.map.proofs.ByMode.{mode-0, mode-1, mode-bins}
 use Rattle.map.specs.Mode.{symbols}

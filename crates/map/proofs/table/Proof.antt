@@ -1,4 +1,4 @@
--- `map::table` meets its contract. Assumes nothing.
+-- `map::table` meets its contract.
 use native.Mathlib.Omega.{arith}
 use borrow.Author.Needs.{needs}
 use Rattle.map.proofs.ByMode.{in-pusc-dl, in-pusc-ul, in-ofusc, in-amc, bin-width}
@@ -17,9 +17,6 @@ table-requires-2 c κs = in-pusc-ul (c .before .before .before .before .pre) (c 
 
 returns-2 : tie.Need-returns-2
 returns-2 c = to-table (c .table2 .result) (as-1 (c .before .if2 .taken)) (c .table2 .ensures)
-
-width-requires : tie.Need-width-requires
-width-requires c κs = search needs
 
 table-requires-3 : tie.Need-table-requires-3
 table-requires-3 c κs =
@@ -40,12 +37,5 @@ pub table-spec : {M : Type 1} → statement M
 table-spec =
     tie.close
     (tie.spec
-    table-requires
-    returns
-    table-requires-2
-    returns-2
-    width-requires
-    table-requires-3
-    returns-3
-    table-requires-4
-    returns-4)
+    table-requires returns table-requires-2 returns-2 (λ c κs. search needs) table-requires-3 returns-3
+    table-requires-4 returns-4)

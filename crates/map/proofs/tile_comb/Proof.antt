@@ -1,4 +1,4 @@
--- `map::tile_comb` meets its contract. Assumes nothing.
+-- `map::tile_comb` meets its contract.
 use borrow.Author.Tests.{eq-eqb, ne-eqb}
 use Rattle.map.proofs.tile_comb.Statement.{statement}
 use Rattle.map.proofs.tile_comb.Tie as tie

@@ -1,4 +1,4 @@
--- `map::width` meets its contract. Assumes nothing.
+-- `map::width` meets its contract.
 use borrow.Author.Needs.{needs}
 use Rattle.map.specs.Mode.{width}
 use Rattle.map.proofs.width.Statement.{statement}

@@ -1,4 +1,4 @@
--- `ofusc::address` meets its contract. Assumes nothing.
+-- `ofusc::address` meets its contract.
 use Prim.Native.Nat.{_<_}
 use native.Mathlib.Nat.{div-lt-iff-lt-mul}
 use native.Mathlib.Omega.{arith}

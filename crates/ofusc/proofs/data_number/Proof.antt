@@ -1,4 +1,4 @@
--- `ofusc::data_number` meets its contract. Assumes nothing.
+-- `ofusc::data_number` meets its contract.
 use Prim.Native.Nat.{_<_}
 use native.Mathlib.Omega.{arith}
 use Rattle.ofusc.specs.Map.{dataNumber}

@@ -1,4 +1,4 @@
--- `ofusc::mask` meets its contract. Assumes nothing.
+-- `ofusc::mask` meets its contract.
 use native.Mathlib.Nat.{mod-lt, div-lt-iff-lt-mul}
 use Rattle.ofusc.proofs.Sequence.{pos}
 use Rattle.ofusc.proofs.Tables.{mask-is}

@@ -1,4 +1,4 @@
--- `ofusc::parts` meets its contract. Assumes nothing.
+-- `ofusc::parts` meets its contract.
 use Rattle.ofusc.proofs.Sequence.{parts-at, no-other}
 use Rattle.ofusc.proofs.parts.Statement.{statement}
 use Rattle.ofusc.proofs.parts.Tie as tie

@@ -1,4 +1,4 @@
--- `ofusc::table` meets its contract. Assumes nothing.
+-- `ofusc::table` meets its contract.
 use mathlib.Core.Path.{_≡_, ap}
 use Prim.Native.Nat.{ℕ, _+_, _-_, _*_, _<_}
 use native.Mathlib.Nat.{mod-lt, div-lt-iff-lt-mul}
@@ -53,18 +53,6 @@ add-table c = omega (arith, written-lt c)
 cast-table : tie.Need-cast-table Inv-loop μ-loop
 cast-table c = omega (arith, written-lt c)
 
-mul-table-2 : tie.Need-mul-table-2 Inv-loop μ-loop
-mul-table-2 c = search needs
-
-array-write-table : tie.Need-array-write-table Inv-loop μ-loop
-array-write-table c = search needs
-
-add-k : tie.Need-add-k Inv-loop μ-loop
-add-k c = search needs
-
-loop-less : tie.Need-loop-less Inv-loop μ-loop
-loop-less c = search needs
-
 loop-again : tie.Need-loop-again Inv-loop μ-loop
 loop-again c = written-next (c .before .before .before .before .before .loop .inv) (omega (arith, c .before .before .before .before .loop-test .taken)) _ (written-is c)
 
@@ -75,19 +63,5 @@ pub table-spec : {M : Type 1} → statement M
 table-spec =
     tie.close
     (tie.spec
-    Inv-loop
-    μ-loop
-    rem-c1
-    div-c2
-    loop-holds
-    term-requires
-    term-requires-2
-    mul-table
-    add-table
-    cast-table
-    mul-table-2
-    array-write-table
-    add-k
-    loop-less
-    loop-again
-    returns)
+    Inv-loop μ-loop rem-c1 div-c2 loop-holds term-requires term-requires-2 mul-table add-table cast-table
+    (λ c. search needs) (λ c. search needs) (λ c. search needs) (λ c. search needs) loop-again returns)

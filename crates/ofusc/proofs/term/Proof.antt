@@ -1,4 +1,4 @@
--- `ofusc::term` meets its contract. Assumes nothing.
+-- `ofusc::term` meets its contract.
 use mathlib.Core.Path.{sym}
 use Prim.Native.Nat.{_+_, _<_}
 use native.Mathlib.Omega.{arith}
@@ -14,9 +14,6 @@ returns c = sym (term-zero _ _ _ _ (c .if1 .taken))
 add-turn : tie.Need-add-turn
 add-turn c = omega (arith, size (c .before .pre .0))
 
-turn-requires : tie.Need-turn-requires
-turn-requires c κs = search needs
-
 -- the row of N lies within the table
 row-below : (c : tie.After-turn) → c .before .before .args .n + c .turn .result < 63
 row-below c = rw (c .turn .ensures) (place-lt (c .before .before .pre .0) _)
@@ -27,13 +24,10 @@ add-i c = omega (arith, row-below c)
 element-copy-out-wide : tie.Need-element-copy-out-wide
 element-copy-out-wide c = row-below c
 
-wide-requires : tie.Need-wide-requires
-wide-requires c κs = search needs
-
 returns-2 : tie.Need-returns-2
 returns-2 c = rw (c .wide .ensures .0, c .before .before .turn .ensures) (sym (term-turn _ _ _ _ (c .before .before .before .if1 .left)))
 
 pub term-spec : {M : Type 1} → statement M
 term-spec =
     tie.close
-    (tie.spec returns add-turn turn-requires add-i element-copy-out-wide wide-requires returns-2)
+    (tie.spec returns add-turn (λ c κs. search needs) add-i element-copy-out-wide (λ c κs. search needs) returns-2)

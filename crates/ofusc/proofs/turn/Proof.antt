@@ -1,4 +1,4 @@
--- `ofusc::turn` meets its contract. Assumes nothing.
+-- `ofusc::turn` meets its contract.
 use Rattle.ofusc.proofs.Sequence.{turn-at, no-other}
 use Rattle.ofusc.proofs.turn.Statement.{statement}
 use Rattle.ofusc.proofs.turn.Tie as tie

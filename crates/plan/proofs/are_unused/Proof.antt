@@ -1,4 +1,4 @@
--- `plan::are_unused` meets its contract: the places from the k-th on say what those from the count on say. Assumes nothing.
+-- `plan::are_unused` meets its contract: the places from the k-th on say what those from the count on say.
 use mathlib.Core.Path.{_≡_, refl, sym, _∙_}
 use Prim.Native.Nat.{_-_}
 use borrow.Author.Needs.{needs}
@@ -38,4 +38,6 @@ returns-2 c =
 pub are-unused-spec : {M : Type 1} → statement M
 are-unused-spec =
     tie.close
-    (tie.spec Inv-loop μ-loop loop-holds (λ c. search needs) (λ c. search needs) (λ c κs. search needs) returns (λ c. search needs) (λ c. search needs) loop-again returns-2)
+    (tie.spec
+    Inv-loop μ-loop loop-holds (λ c. search needs) (λ c. search needs) (λ c κs. search needs) returns
+    (λ c. search needs) (λ c. search needs) loop-again returns-2)

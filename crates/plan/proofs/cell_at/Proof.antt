@@ -1,4 +1,4 @@
--- `plan::cell_at` meets its contract. Assumes nothing.
+-- `plan::cell_at` meets its contract.
 use native.Mathlib.Omega.{arith}
 use lib.Seq.{drop-drop}
 use borrow.Author.Needs.{needs}
@@ -23,4 +23,5 @@ returns-2 c = rw (← c .before .before .before .before .read .ensures, c .befor
 pub cell-at-spec : {M : Type 1} → statement M
 cell-at-spec =
     tie.close
-    (tie.spec (λ c κs. search needs) (λ c. search needs) (λ c. search needs) add-next (λ c κs. search needs) returns returns-2)
+    (tie.spec
+    (λ c κs. search needs) (λ c. search needs) (λ c. search needs) add-next (λ c κs. search needs) returns returns-2)

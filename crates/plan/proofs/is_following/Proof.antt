@@ -1,4 +1,4 @@
--- `plan::is_following` meets its contract. Assumes nothing.
+-- `plan::is_following` meets its contract.
 use borrow.Author.Tests.{eq-eqb, ne-eqb}
 use Rattle.plan.specs.Zone.{isFollowing}
 use Rattle.plan.proofs.is_following.Statement.{statement}

@@ -1,4 +1,4 @@
--- `plan::is_opening` meets its contract. Assumes nothing.
+-- `plan::is_opening` meets its contract.
 use borrow.Author.Tests.{eq-eqb, ne-eqb}
 use Rattle.plan.specs.Zone.{isOpening}
 use Rattle.plan.proofs.is_opening.Statement.{statement}

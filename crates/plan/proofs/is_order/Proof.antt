@@ -1,4 +1,4 @@
--- `plan::is_order` meets its contract. Assumes nothing.
+-- `plan::is_order` meets its contract.
 use borrow.Author.Needs.{needs}
 use Rattle.plan.proofs.is_order.Statement.{statement}
 use Rattle.plan.proofs.is_order.Tie as tie

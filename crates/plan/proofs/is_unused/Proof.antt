@@ -1,4 +1,4 @@
--- `plan::is_unused` meets its contract. Assumes nothing.
+-- `plan::is_unused` meets its contract.
 use borrow.Author.Tests.{eq-eqb, ne-eqb}
 use Rattle.plan.specs.Write.{isUnused}
 use Rattle.plan.proofs.is_unused.Statement.{statement}

@@ -1,4 +1,4 @@
--- `plan::own_refusal` meets its contract. Assumes nothing.
+-- `plan::own_refusal` meets its contract.
 use borrow.Author.Needs.{needs}
 use Rattle.plan.proofs.Number.{own-uplink, own-no, own-rest}
 use Rattle.plan.proofs.own_refusal.Statement.{statement}

@@ -1,4 +1,4 @@
--- `plan::plan_size` meets its contract: the sum is the bytes of the count, the size and the zones that are done. Assumes nothing.
+-- `plan::plan_size` meets its contract: the sum is the bytes of the count, the size and the zones that are done.
 use mathlib.Core.Path.{_≡_, ap}
 use Prim.Native.Nat.{_+_, _-_, _≤_}
 use native.Mathlib.Omega.{arith}
@@ -61,4 +61,6 @@ returns c =
 pub plan-size-spec : {M : Type 1} → statement M
 plan-size-spec =
     tie.close
-    (tie.spec Inv-loop μ-loop size-requires size-requires-2 add-n loop-holds (λ c. search needs) (λ c. search needs) zone-size-requires add-n-2 (λ c. search needs) (λ c. search needs) loop-again returns)
+    (tie.spec
+    Inv-loop μ-loop size-requires size-requires-2 add-n loop-holds (λ c. search needs) (λ c. search needs)
+    zone-size-requires add-n-2 (λ c. search needs) (λ c. search needs) loop-again returns)

@@ -1,4 +1,4 @@
--- `plan::put_plan` meets its contract: while zones are put, those that are done stand behind the count and the size. Assumes nothing.
+-- `plan::put_plan` meets its contract: while zones are put, those that are done stand behind the count and the size.
 use mathlib.Core.Path.{_∙_}
 use Prim.Native.Nat.{_-_}
 use native.Mathlib.Omega.{arith}
@@ -60,4 +60,6 @@ returns c =
 pub put-plan-spec : {M : Type 1} → statement M
 put-plan-spec =
     tie.close
-    (tie.spec Inv-loop μ-loop write-requires write-requires-2 loop-holds (λ c. search needs) (λ c. search needs) put-zone-requires (λ c. search needs) (λ c. search needs) loop-again same-length returns)
+    (tie.spec
+    Inv-loop μ-loop write-requires write-requires-2 loop-holds (λ c. search needs) (λ c. search needs)
+    put-zone-requires (λ c. search needs) (λ c. search needs) loop-again same-length returns)

@@ -1,4 +1,4 @@
--- `plan::put_zone` meets its contract. Assumes nothing.
+-- `plan::put_zone` meets its contract.
 use mathlib.Core.Path.{_∙_}
 use native.Mathlib.Omega.{arith}
 use Rattle.value.specs.Value.{encode}

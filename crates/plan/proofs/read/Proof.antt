@@ -1,4 +1,4 @@
--- `plan::read` meets its contract. Assumes nothing.
+-- `plan::read` meets its contract.
 use borrow.Author.Needs.{needs}
 use Rattle.plan.specs.Read.{afterCount, planOf}
 use Rattle.plan.proofs.Number.{count-none, count-many, count-good}
@@ -25,14 +25,5 @@ pub read-spec : {M : Type 1} → statement M
 read-spec =
     tie.close
     (tie.spec
-    (λ c κs. search needs)
-    (λ c. search needs)
-    (λ c κs. search needs)
-    (λ c. search needs)
-    (λ c κs. search needs)
-    returns
-    (λ c κs. search needs)
-    returns-2
-    (λ c κs. search needs)
-    returns-3
-    returns-4)
+    (λ c κs. search needs) (λ c. search needs) (λ c κs. search needs) (λ c. search needs) (λ c κs. search needs)
+    returns (λ c κs. search needs) returns-2 (λ c κs. search needs) returns-3 returns-4)

@@ -1,4 +1,4 @@
--- `plan::refused` meets its contract. Assumes nothing.
+-- `plan::refused` meets its contract.
 use mathlib.Core.Path.{refl}
 use Rattle.plan.specs.Zone.{inPlaces}
 use Rattle.plan.proofs.refused.Statement.{statement}

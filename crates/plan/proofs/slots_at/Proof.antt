@@ -1,4 +1,4 @@
--- `plan::slots_at` meets its contract. Assumes nothing.
+-- `plan::slots_at` meets its contract.
 use native.Mathlib.Omega.{arith}
 use lib.Seq.{drop-drop}
 use borrow.Author.Needs.{needs}

@@ -1,4 +1,4 @@
--- `plan::slots_refusal` meets its contract. Assumes nothing.
+-- `plan::slots_refusal` meets its contract.
 use Rattle.plan.proofs.Number.{slots-none, slots-many, slots-good}
 use Rattle.plan.proofs.slots_refusal.Statement.{statement}
 use Rattle.plan.proofs.slots_refusal.Tie as tie

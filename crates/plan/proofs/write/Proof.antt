@@ -1,4 +1,4 @@
--- `plan::write` meets its contract. Assumes nothing.
+-- `plan::write` meets its contract.
 use mathlib.Core.Path.{sym, _∙_}
 use native.Mathlib.Omega.{arith}
 use borrow.Author.Needs.{needs}
@@ -27,4 +27,5 @@ returns-3 c =
 pub write-spec : {M : Type 1} → statement M
 write-spec =
     tie.close
-    (tie.spec (λ c κs. search needs) returns plan-size-requires returns-2 put-plan-requires (λ c. search needs) returns-3)
+    (tie.spec
+    (λ c κs. search needs) returns plan-size-requires returns-2 put-plan-requires (λ c. search needs) returns-3)

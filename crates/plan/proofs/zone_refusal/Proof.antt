@@ -1,4 +1,4 @@
--- `plan::zone_refusal` meets its contract. Assumes nothing.
+-- `plan::zone_refusal` meets its contract.
 use mathlib.Core.Path.{_∙_, sym}
 use borrow.Author.Needs.{needs}
 use Rattle.plan.proofs.Number.{zone-no, zone-order}

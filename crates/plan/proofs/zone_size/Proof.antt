@@ -1,4 +1,4 @@
--- `plan::zone_size` meets its contract. Assumes nothing.
+-- `plan::zone_size` meets its contract.
 use mathlib.Core.Path.{sym}
 use native.Mathlib.Omega.{arith}
 use borrow.Author.Needs.{needs}

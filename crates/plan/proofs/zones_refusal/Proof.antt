@@ -1,18 +1,18 @@
--- `plan::zones_refusal` meets its contract: the zones from the k-th on give the number that all give. Assumes nothing.
+-- `plan::zones_refusal` meets its contract: the zones from the k-th on give the number that all give.
 use mathlib.Core.Path.{_≡_, refl, _∙_}
 use Prim.Native.Nat.{_-_, _≤_}
 use native.Mathlib.Omega.{arith}
 use borrow.Author.Needs.{needs}
 use lib.ListN.{length, take, drop}
 use Rattle.plan.specs.declared.Before.the-variants.{First}
-use Rattle.plan.specs.Write.{zonesNumber}
+use Rattle.plan.specs.Write.{zonesRefusal}
 use Rattle.plan.proofs.Places.{length-mapped}
 use Rattle.plan.proofs.Number.{zones-no, zones-next, zones-end}
 use Rattle.plan.proofs.zones_refusal.Statement.{statement}
 use Rattle.plan.proofs.zones_refusal.Tie as tie
 
 abbrev Inv-loop : tie.InvT-loop
-Inv-loop count size zones prior₀ k₀ prior k = (length zones ≡ 8) × (count ≤ 8) × (zonesNumber size prior (drop k (take count zones)) ≡ zonesNumber size First (take count zones))
+Inv-loop count size zones prior₀ k₀ prior k = (length zones ≡ 8) × (count ≤ 8) × (zonesRefusal size prior (drop k (take count zones)) ≡ zonesRefusal size First (take count zones))
 
 abbrev μ-loop : tie.MeasureT-loop
 μ-loop count size zones prior₀ k₀ prior k = count - k
@@ -38,4 +38,6 @@ returns-2 c =
 pub zones-refusal-spec : {M : Type 1} → statement M
 zones-refusal-spec =
     tie.close
-    (tie.spec Inv-loop μ-loop loop-holds (λ c. search needs) (λ c. search needs) (λ c κs. search needs) returns (λ c. search needs) (λ c. search needs) loop-again returns-2)
+    (tie.spec
+    Inv-loop μ-loop loop-holds (λ c. search needs) (λ c. search needs) (λ c κs. search needs) returns
+    (λ c. search needs) (λ c. search needs) loop-again returns-2)

@@ -1,4 +1,4 @@
--- `plan_text::lines` meets its contract. Assumes nothing.
+-- `plan_text::lines` meets its contract.
 use borrow.Author.Needs.{needs}
 use Rattle.plan_text.proofs.Listing.{text-refused, text-zones}
 use Rattle.plan_text.proofs.lines.Statement.{statement}

@@ -1,4 +1,4 @@
--- `plan_text::put_field` meets its contract: a number has at most 20 digits. Assumes nothing.
+-- `plan_text::put_field` meets its contract: a number has at most 20 digits.
 use native.Mathlib.Omega.{arith}
 use borrow.Author.Needs.{needs}
 use Rattle.text.proofs.Laws.{wrote-next, wrote-more, decimal-fits}

@@ -1,4 +1,4 @@
--- `plan_text::put_line` meets its contract. Assumes nothing.
+-- `plan_text::put_line` meets its contract.
 use mathlib.Core.Path.{_∙_}
 use native.Mathlib.Omega.{arith}
 use borrow.Author.Needs.{needs}

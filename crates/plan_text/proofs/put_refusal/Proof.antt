@@ -1,4 +1,4 @@
--- `plan_text::put_refusal` meets its contract. Assumes nothing.
+-- `plan_text::put_refusal` meets its contract.
 use native.Mathlib.Omega.{arith}
 use borrow.Author.Needs.{needs}
 use Rattle.text.proofs.Laws.{wrote-next, wrote-more}

@@ -1,4 +1,4 @@
--- `plan_text::put_zones` meets its contract: while lines are put, those that are done stand at the start. Assumes nothing.
+-- `plan_text::put_zones` meets its contract: while lines are put, those that are done stand at the start.
 use Prim.Native.Nat.{_-_}
 use native.Mathlib.Omega.{arith}
 use borrow.Author.Needs.{needs}
@@ -41,4 +41,6 @@ returns-2 c = listed-all (c .before .loop .inv) (c .loop-test .left)
 pub put-zones-spec : {M : Type 1} → statement M
 put-zones-spec =
     tie.close
-    (tie.spec Inv-loop μ-loop loop-holds same-length returns (λ c. search needs) (λ c. search needs) put-line-requires (λ c. search needs) (λ c. search needs) loop-again same-length-2 returns-2)
+    (tie.spec
+    Inv-loop μ-loop loop-holds same-length returns (λ c. search needs) (λ c. search needs) put-line-requires
+    (λ c. search needs) (λ c. search needs) loop-again same-length-2 returns-2)

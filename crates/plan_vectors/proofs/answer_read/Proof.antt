@@ -1,4 +1,4 @@
--- `plan_vectors::answer_read` is safe: the part that is read lies within the bytes. Assumes nothing.
+-- `plan_vectors::answer_read` is safe: the part that is read lies within the bytes.
 use borrow.Author.Needs.{needs}
 use mathlib.Core.Path.{sym}
 use lib.Seq.{length-take-le}

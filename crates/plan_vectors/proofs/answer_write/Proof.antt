@@ -1,4 +1,4 @@
--- `plan_vectors::answer_write` is safe: the destination is a part of the buffer. Assumes nothing.
+-- `plan_vectors::answer_write` is safe: the destination is a part of the buffer.
 use borrow.Author.Needs.{needs}
 use mathlib.Core.Path.{sym}
 use lib.Seq.{length-take-le}

@@ -1,4 +1,4 @@
--- `plan_vectors::print_zones` is safe and ends. The measure is the number of places that are left. Assumes nothing.
+-- `plan_vectors::print_zones` is safe and ends. The measure is the number of places that are left.
 use borrow.Author.Needs.{needs}
 use Prim.Native.Nat.{_-_}
 use Rattle.plan_vectors.proofs.print_zones.Statement.{statement}
@@ -13,4 +13,6 @@ abbrev μ-loop : tie.MeasureT-loop
 pub print-zones-spec : {M : Type 1} → statement M
 print-zones-spec =
     tie.close
-    (tie.spec Inv-loop μ-loop (λ c. search needs) (λ c. search needs) (λ c. search needs) (λ c κs. search needs) (λ c. search needs) (λ c. search needs) (λ c. search needs) (λ c. search needs))
+    (tie.spec
+    Inv-loop μ-loop (λ c. search needs) (λ c. search needs) (λ c. search needs) (λ c κs. search needs)
+    (λ c. search needs) (λ c. search needs) (λ c. search needs) (λ c. search needs))

@@ -1,4 +1,4 @@
--- `pusc_dl::address` meets its contract. Assumes nothing.
+-- `pusc_dl::address` meets its contract.
 use native.Mathlib.Omega.{arith}
 use borrow.Author.Needs.{needs}
 use Rattle.pusc_dl.specs.Map.{addressOf}
@@ -20,11 +20,5 @@ pub address-spec : {M : Type 1} → statement M
 address-spec =
     tie.close
     (tie.spec
-    (λ c κs. search needs)
-    (λ c κs. search needs)
-    (λ c. search needs)
-    (λ c. search needs)
-    add-t12
-    (λ c. search needs)
-    (λ c. search needs)
-    returns)
+    (λ c κs. search needs) (λ c κs. search needs) (λ c. search needs) (λ c. search needs) add-t12 (λ c. search needs)
+    (λ c. search needs) returns)

@@ -1,4 +1,4 @@
--- `pusc_dl::cluster_data` meets its contract. Assumes nothing.
+-- `pusc_dl::cluster_data` meets its contract.
 use mathlib.Core.Path.{_≡_}
 use mathlib.Core.Bool.{false}
 use Prim.Native.Nat.{ℕ, _<_}

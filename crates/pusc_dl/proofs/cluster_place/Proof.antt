@@ -1,4 +1,4 @@
--- `pusc_dl::cluster_place` meets its contract. Assumes nothing.
+-- `pusc_dl::cluster_place` meets its contract.
 use borrow.Author.Needs.{needs}
 use Rattle.pusc_dl.specs.Cluster.{clusterPlace}
 use Rattle.pusc_dl.proofs.cluster_place.Statement.{statement}

@@ -1,4 +1,4 @@
--- `pusc_dl::group_address` meets its contract. Assumes nothing.
+-- `pusc_dl::group_address` meets its contract.
 use mathlib.Core.Path.{_≡_}
 use Prim.Native.Nat.{ℕ, _*_, _/_, _<_}
 use native.Mathlib.Nat.{div-lt-iff-lt-mul}
@@ -9,24 +9,12 @@ use Rattle.pusc_dl.proofs.Group.{size-pos, size-le}
 use Rattle.pusc_dl.proofs.group_address.Statement.{statement}
 use Rattle.pusc_dl.proofs.group_address.Tie as tie
 
-size-quotient-requires : tie.Need-size-quotient-requires
-size-quotient-requires c κs = search needs
-
-size-remainder-requires : tie.Need-size-remainder-requires
-size-remainder-requires c κs = search needs
-
 -- the quotient and the remainder are small
 quotient-lt : (g d n : ℕ) → n ≡ d / groupSize g → d < 24 * groupSize g → n < 24
 quotient-lt g d n e h = rw e (div-lt-iff-lt-mul (size-pos g) .1 h)
 
 size-unrotate-requires : tie.Need-size-unrotate-requires
 size-unrotate-requires c κs = omega (arith, c .size-remainder .ensures .1, size-le (c .before .before .args .g))
-
-of-size-requires : tie.Need-of-size-requires
-of-size-requires c κs = search needs
-
-size-unrotate-requires-2 : tie.Need-size-unrotate-requires-2
-size-unrotate-requires-2 c κs = search needs
 
 mul-unrotate : tie.Need-mul-unrotate
 mul-unrotate c = omega (arith, c .size-unrotate2 .ensures .1, size-le (c .before .before .before .before .before .args .g))
@@ -42,11 +30,5 @@ pub group-address-spec : {M : Type 1} → statement M
 group-address-spec =
     tie.close
     (tie.spec
-    size-quotient-requires
-    size-remainder-requires
-    size-unrotate-requires
-    of-size-requires
-    size-unrotate-requires-2
-    mul-unrotate
-    unrotate-requires
-    returns)
+    (λ c κs. search needs) (λ c κs. search needs) size-unrotate-requires (λ c κs. search needs)
+    (λ c κs. search needs) mul-unrotate unrotate-requires returns)

@@ -1,4 +1,4 @@
--- `pusc_dl::group_data` meets its contract. Assumes nothing.
+-- `pusc_dl::group_data` meets its contract.
 use Prim.Native.Nat.{_+_, _*_, _<_}
 use native.Mathlib.Omega.{arith}
 use lib.Arith.{digits-lt}
@@ -7,32 +7,8 @@ use Rattle.pusc_dl.specs.Group.{groupSize, groupData, baseOf}
 use Rattle.pusc_dl.proofs.group_data.Statement.{statement}
 use Rattle.pusc_dl.proofs.group_data.Tie as tie
 
-group-size-requires : tie.Need-group-size-requires
-group-size-requires c κs = search needs
-
-mul-rotate : tie.Need-mul-rotate
-mul-rotate c = search needs
-
-rotate-requires : tie.Need-rotate-requires
-rotate-requires c κs = search needs
-
-add-size-remainder : tie.Need-add-size-remainder
-add-size-remainder c = search needs
-
-size-remainder-requires : tie.Need-size-remainder-requires
-size-remainder-requires c κs = search needs
-
-of-size-requires : tie.Need-of-size-requires
-of-size-requires c κs = search needs
-
 mul-result : tie.Need-mul-result
 mul-result c = omega (arith, digits-lt (c .before .before .rotate .ensures .1) (c .before .before .before .group-size .ensures .1))
-
-add-size-remainder-2 : tie.Need-add-size-remainder-2
-add-size-remainder-2 c = search needs
-
-size-remainder-requires-2 : tie.Need-size-remainder-requires-2
-size-remainder-requires-2 c κs = search needs
 
 -- the data number is small
 data-lt : (c : tie.After-size-remainder2) → c .before .before .before .rotate .result * c .before .before .before .before .group-size .result + c .size-remainder2 .result < 24 * groupSize (c .before .before .before .before .before .args .g)
@@ -49,14 +25,5 @@ pub group-data-spec : {M : Type 1} → statement M
 group-data-spec =
     tie.close
     (tie.spec
-    group-size-requires
-    mul-rotate
-    rotate-requires
-    add-size-remainder
-    size-remainder-requires
-    of-size-requires
-    mul-result
-    add-size-remainder-2
-    size-remainder-requires-2
-    add-result
-    returns)
+    (λ c κs. search needs) (λ c. search needs) (λ c κs. search needs) (λ c. search needs) (λ c κs. search needs)
+    (λ c κs. search needs) mul-result (λ c. search needs) (λ c κs. search needs) add-result returns)

@@ -1,4 +1,4 @@
--- `pusc_dl::group_in` meets its contract: in each arm the tests of the definition are those that led there. Assumes nothing.
+-- `pusc_dl::group_in` meets its contract: in each arm the tests of the definition are those that led there.
 use borrow.Author.Needs.{needs}
 use borrow.Author.Tests.{lt-ltb, le-ltb}
 use Rattle.pusc_dl.specs.Group.{groupIn}
@@ -62,14 +62,5 @@ pub group-in-spec : {M : Type 1} → statement M
 group-in-spec =
     tie.close
     (tie.spec
-    (λ c. search needs)
-    returns
-    (λ c. search needs)
-    returns-2
-    (λ c. search needs)
-    returns-3
-    (λ c. search needs)
-    returns-4
-    (λ c. search needs)
-    returns-5
-    returns-6)
+    (λ c. search needs) returns (λ c. search needs) returns-2 (λ c. search needs) returns-3 (λ c. search needs)
+    returns-4 (λ c. search needs) returns-5 returns-6)

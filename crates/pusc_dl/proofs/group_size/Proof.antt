@@ -1,4 +1,4 @@
--- `pusc_dl::group_size` meets its contract. Assumes nothing.
+-- `pusc_dl::group_size` meets its contract.
 use borrow.Author.Needs.{needs}
 use borrow.Author.Tests.{eq-eqb, ne-eqb}
 use Rattle.pusc_dl.specs.Group.{groupSize}

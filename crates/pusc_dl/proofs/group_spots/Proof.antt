@@ -1,4 +1,4 @@
--- `pusc_dl::group_spots` meets its contract. Assumes nothing.
+-- `pusc_dl::group_spots` meets its contract.
 use mathlib.Core.Path.{_∙_}
 use Prim.Native.Nat.{_+_, _-_}
 use native.Mathlib.Omega.{arith}
@@ -54,30 +54,8 @@ pub group-spots-spec : {M : Type 1} → statement M
 group-spots-spec =
     tie.close
     (tie.spec
-    Inv-loop
-    μ-loop
-    (λ c. search needs)
-    (λ c. search needs)
-    (λ c κs. search needs)
-    (λ c κs. search needs)
-    (λ c. search needs)
-    (λ c. search needs)
-    loop-holds
-    (λ c. search needs)
-    (λ c κs. search needs)
-    mul-spot-numbers
-    (λ c. search needs)
-    (λ c. search needs)
-    element-copy-out-wide16
-    (λ c κs. search needs)
-    add-spot-numbers
-    spot-numbers-requires
-    (λ c. search needs)
-    (λ c. search needs)
-    (λ c. search needs)
-    (λ c. search needs)
-    (λ c. search needs)
-    (λ c. search needs)
-    (λ c. search needs)
-    loop-again
-    returns)
+    Inv-loop μ-loop (λ c. search needs) (λ c. search needs) (λ c κs. search needs) (λ c κs. search needs)
+    (λ c. search needs) (λ c. search needs) loop-holds (λ c. search needs) (λ c κs. search needs) mul-spot-numbers
+    (λ c. search needs) (λ c. search needs) element-copy-out-wide16 (λ c κs. search needs) add-spot-numbers
+    spot-numbers-requires (λ c. search needs) (λ c. search needs) (λ c. search needs) (λ c. search needs)
+    (λ c. search needs) (λ c. search needs) (λ c. search needs) loop-again returns)

@@ -1,4 +1,4 @@
--- `pusc_dl::group_used` meets its contract. Assumes nothing.
+-- `pusc_dl::group_used` meets its contract.
 use Prim.Native.Nat.{_/_}
 use native.Mathlib.Omega.{arith}
 use borrow.Author.Needs.{needs}
@@ -21,11 +21,5 @@ pub group-used-spec : {M : Type 1} → statement M
 group-used-spec =
     tie.close
     (tie.spec
-    (λ c. search needs)
-    (λ c. search needs)
-    add-result
-    unrenumber-requires
-    (λ c. search needs)
-    (λ c κs. search needs)
-    (λ c. search needs)
-    returns)
+    (λ c. search needs) (λ c. search needs) add-result unrenumber-requires (λ c. search needs) (λ c κs. search needs)
+    (λ c. search needs) returns)

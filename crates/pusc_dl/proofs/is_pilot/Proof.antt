@@ -1,4 +1,4 @@
--- `pusc_dl::is_pilot` meets its contract. Assumes nothing.
+-- `pusc_dl::is_pilot` meets its contract.
 use mathlib.Core.Path.{_≡_}
 use mathlib.Core.Bool.{true}
 use Prim.Native.Nat.{ℕ, _%_}

@@ -1,4 +1,4 @@
--- `pusc_dl::of_size` meets its contract. Assumes nothing.
+-- `pusc_dl::of_size` meets its contract.
 use mathlib.Core.Path.{_∙_}
 use native.Mathlib.Omega.{arith}
 use borrow.Author.Needs.{needs}
@@ -20,10 +20,5 @@ pub of-size-spec : {M : Type 1} → statement M
 of-size-spec =
     tie.close
     (tie.spec
-    (λ c κs. search needs)
-    (λ c. search needs)
-    (λ c κs. search needs)
-    array-read-wide-2
-    (λ c κs. search needs)
-    returns
-    returns-2)
+    (λ c κs. search needs) (λ c. search needs) (λ c κs. search needs) array-read-wide-2 (λ c κs. search needs)
+    returns returns-2)

@@ -1,4 +1,4 @@
--- `pusc_dl::pilots` meets its contract. Assumes nothing.
+-- `pusc_dl::pilots` meets its contract.
 use mathlib.Core.Path.{_≡_}
 use Prim.Native.Nat.{ℕ, _%_}
 use borrow.Author.Needs.{needs}

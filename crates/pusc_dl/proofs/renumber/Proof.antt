@@ -1,4 +1,4 @@
--- `pusc_dl::renumber` meets its contract. Assumes nothing.
+-- `pusc_dl::renumber` meets its contract.
 use native.Mathlib.Omega.{arith}
 use borrow.Author.Needs.{needs}
 use Rattle.pusc_dl.specs.Cluster.{renumber}

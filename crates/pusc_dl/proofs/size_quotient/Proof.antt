@@ -1,12 +1,9 @@
--- `pusc_dl::size_quotient` meets its contract. Assumes nothing.
+-- `pusc_dl::size_quotient` meets its contract.
 use mathlib.Core.Path.{sym, _∙_}
 use borrow.Author.Needs.{needs}
 use Rattle.pusc_dl.proofs.Group.{size-8}
 use Rattle.pusc_dl.proofs.size_quotient.Statement.{statement}
 use Rattle.pusc_dl.proofs.size_quotient.Tie as tie
-
-group-size-requires : tie.Need-group-size-requires
-group-size-requires c κs = search needs
 
 returns : tie.Need-returns
 returns c = rw (sym (c .before .group-size .ensures .0) ∙ c .if1 .taken)
@@ -15,4 +12,4 @@ returns-2 : tie.Need-returns-2
 returns-2 c = rw (size-8 _ (λ e. c .if1 .left (c .before .group-size .ensures .0 ∙ e)))
 
 pub size-quotient-spec : {M : Type 1} → statement M
-size-quotient-spec = tie.close (tie.spec group-size-requires returns returns-2)
+size-quotient-spec = tie.close (tie.spec (λ c κs. search needs) returns returns-2)

@@ -1,13 +1,10 @@
--- `pusc_dl::size_remainder` meets its contract. Assumes nothing.
+-- `pusc_dl::size_remainder` meets its contract.
 use mathlib.Core.Path.{refl, sym, _∙_}
 use native.Mathlib.Omega.{arith}
 use borrow.Author.Needs.{needs}
 use Rattle.pusc_dl.proofs.Group.{size-8}
 use Rattle.pusc_dl.proofs.size_remainder.Statement.{statement}
 use Rattle.pusc_dl.proofs.size_remainder.Tie as tie
-
-group-size-requires : tie.Need-group-size-requires
-group-size-requires c κs = search needs
 
 returns : tie.Need-returns
 returns c = rw (sym (c .before .group-size .ensures .0) ∙ c .if1 .taken) (refl, omega arith)
@@ -16,4 +13,4 @@ returns-2 : tie.Need-returns-2
 returns-2 c = rw (size-8 _ (λ e. c .if1 .left (c .before .group-size .ensures .0 ∙ e))) (refl, omega arith)
 
 pub size-remainder-spec : {M : Type 1} → statement M
-size-remainder-spec = tie.close (tie.spec group-size-requires returns returns-2)
+size-remainder-spec = tie.close (tie.spec (λ c κs. search needs) returns returns-2)

@@ -1,4 +1,4 @@
--- `pusc_dl::spot` meets its contract. Assumes nothing.
+-- `pusc_dl::spot` meets its contract.
 use native.Mathlib.Omega.{arith}
 use borrow.Author.Needs.{needs}
 use Rattle.pusc_dl.specs.Map.{spotOf}
@@ -20,10 +20,5 @@ pub spot-spec : {M : Type 1} → statement M
 spot-spec =
     tie.close
     (tie.spec
-    (λ c κs. search needs)
-    (λ c. search needs)
-    (λ c. search needs)
-    sub-s
-    group-data-requires
-    (λ c κs. search needs)
+    (λ c κs. search needs) (λ c. search needs) (λ c. search needs) sub-s group-data-requires (λ c κs. search needs)
     returns)

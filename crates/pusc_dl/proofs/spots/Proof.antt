@@ -1,4 +1,4 @@
--- `pusc_dl::spots` meets its contract. Assumes nothing.
+-- `pusc_dl::spots` meets its contract.
 use native.Mathlib.Omega.{arith}
 use borrow.Author.Needs.{needs}
 use Rattle.pusc_dl.specs.Map.{spotOf}
@@ -21,9 +21,4 @@ pub spots-spec : {M : Type 1} → statement M
 spots-spec =
     tie.close
     (tie.spec
-    (λ c κs. search needs)
-    (λ c. search needs)
-    (λ c. search needs)
-    sub-group-spots
-    group-spots-requires
-    returns)
+    (λ c κs. search needs) (λ c. search needs) (λ c. search needs) sub-group-spots group-spots-requires returns)

@@ -1,4 +1,4 @@
--- `pusc_dl::unrenumber` meets its contract. Assumes nothing.
+-- `pusc_dl::unrenumber` meets its contract.
 use mathlib.Core.Path.{refl}
 use borrow.Author.Needs.{needs}
 use Rattle.pusc_dl.proofs.unrenumber.Statement.{statement}

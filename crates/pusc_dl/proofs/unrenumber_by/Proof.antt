@@ -1,4 +1,4 @@
--- `pusc_dl::unrenumber_by` meets its contract. Assumes nothing.
+-- `pusc_dl::unrenumber_by` meets its contract.
 use borrow.Author.Needs.{needs}
 use Rattle.pusc_dl.specs.Cluster.{unrenumber}
 use Rattle.pusc_dl.proofs.unrenumber_by.Statement.{statement}

@@ -1,4 +1,4 @@
--- `pusc_dl::used_data` meets its contract. Assumes nothing.
+-- `pusc_dl::used_data` meets its contract.
 use mathlib.Core.Path.{_≡_}
 use mathlib.Core.Bool.{false}
 use Prim.Native.Nat.{ℕ, _*_, _<_}
@@ -33,12 +33,5 @@ pub used-data-spec : {M : Type 1} → statement M
 used-data-spec =
     tie.close
     (tie.spec
-    (λ c κs. search needs)
-    (λ c κs. search needs)
-    (λ c. search needs)
-    (λ c. search needs)
-    sub-t14
-    (λ c. search needs)
-    cluster-data-requires
-    (λ c. search needs)
-    returns)
+    (λ c κs. search needs) (λ c κs. search needs) (λ c. search needs) (λ c. search needs) sub-t14 (λ c. search needs)
+    cluster-data-requires (λ c. search needs) returns)

@@ -1,4 +1,4 @@
--- `pusc_ul::address` meets its contract. Assumes nothing.
+-- `pusc_ul::address` meets its contract.
 use borrow.Author.Needs.{needs}
 use Rattle.pusc_ul.specs.Map.{addressOf}
 use Rattle.pusc_ul.proofs.Law.{pilot-carrier}
@@ -15,4 +15,5 @@ returns c = rw (c .data-place .ensures .0, c .before .tile-subchannel .ensures .
 pub address-spec : {M : Type 1} → statement M
 address-spec =
     tie.close
-    (tie.spec (λ c κs. search needs) data-place-requires (λ c. search needs) (λ c. search needs) (λ c. search needs) returns)
+    (tie.spec
+    (λ c κs. search needs) data-place-requires (λ c. search needs) (λ c. search needs) (λ c. search needs) returns)

@@ -1,4 +1,4 @@
--- `pusc_ul::carrier_row` meets its contract. Assumes nothing.
+-- `pusc_ul::carrier_row` meets its contract.
 use mathlib.Core.Path.{_≡_, refl}
 use Prim.Native.Nat.{_+_, _-_, _<_}
 use native.Mathlib.Omega.{arith}

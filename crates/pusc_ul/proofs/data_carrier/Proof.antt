@@ -1,4 +1,4 @@
--- `pusc_ul::data_carrier` meets its contract: in each arm the tests of the definition are those that led there. Assumes nothing.
+-- `pusc_ul::data_carrier` meets its contract: in each arm the tests of the definition are those that led there.
 use borrow.Author.Needs.{needs}
 use borrow.Author.Tests.{lt-ltb, le-ltb}
 use Rattle.pusc_ul.specs.Tile.{placeSymbol, placeTile, placeCarrier}

@@ -1,4 +1,4 @@
--- `pusc_ul::data_place` meets its contract: outside the middle symbol carriers 0 and 3 are pilots, so a data carrier is 1 or 2. Assumes nothing.
+-- `pusc_ul::data_place` meets its contract: outside the middle symbol carriers 0 and 3 are pilots, so a data carrier is 1 or 2.
 use mathlib.Core.Path.{_≡_}
 use mathlib.Core.Bool.{false}
 use Prim.Native.Nat.{ℕ, _≤_, _<_, _%_}
@@ -43,16 +43,5 @@ pub data-place-spec : {M : Type 1} → statement M
 data-place-spec =
     tie.close
     (tie.spec
-    (λ c. search needs)
-    sub-result
-    (λ c. search needs)
-    (λ c. search needs)
-    (λ c. search needs)
-    (λ c. search needs)
-    (λ c. search needs)
-    sub-result-2
-    (λ c. search needs)
-    (λ c. search needs)
-    returns
-    returns-2
-    returns-3)
+    (λ c. search needs) sub-result (λ c. search needs) (λ c. search needs) (λ c. search needs) (λ c. search needs)
+    (λ c. search needs) sub-result-2 (λ c. search needs) (λ c. search needs) returns returns-2 returns-3)

@@ -1,4 +1,4 @@
--- `pusc_ul::is_pilot` meets its contract. Assumes nothing.
+-- `pusc_ul::is_pilot` meets its contract.
 use borrow.Author.Tests.{eq-eqb, ne-eqb}
 use Rattle.pusc_ul.specs.Tile.{isTilePilot}
 use Rattle.pusc_ul.proofs.is_pilot.Statement.{statement}

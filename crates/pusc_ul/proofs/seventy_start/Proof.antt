@@ -1,16 +1,10 @@
--- `pusc_ul::seventy_start` meets its contract. Assumes nothing.
+-- `pusc_ul::seventy_start` meets its contract.
 use mathlib.Core.Path.{refl}
 use native.Mathlib.Omega.{arith}
 use borrow.Author.Needs.{needs}
 use Rattle.pusc_ul.proofs.Row.{start-lt}
 use Rattle.pusc_ul.proofs.seventy_start.Statement.{statement}
 use Rattle.pusc_ul.proofs.seventy_start.Tie as tie
-
-pusc-band-requires : tie.Need-pusc-band-requires
-pusc-band-requires c κs = search needs
-
-mul-carrier : tie.Need-mul-carrier
-mul-carrier c = search needs
 
 carrier-requires : tie.Need-carrier-requires
 carrier-requires c κs = rw (c .pusc-band .ensures) (omega arith)
@@ -23,4 +17,4 @@ returns c = rw (c .carrier .ensures, c .before .pusc-band .ensures) (refl, start
 
 pub seventy-start-spec : {M : Type 1} → statement M
 seventy-start-spec =
-    tie.close (tie.spec pusc-band-requires mul-carrier carrier-requires cast-result returns)
+    tie.close (tie.spec (λ c κs. search needs) (λ c. search needs) carrier-requires cast-result returns)

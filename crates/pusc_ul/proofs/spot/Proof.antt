@@ -1,4 +1,4 @@
--- `pusc_ul::spot` meets its contract. Assumes nothing.
+-- `pusc_ul::spot` meets its contract.
 use borrow.Author.Needs.{needs}
 use Rattle.pusc_ul.specs.Map.{spotOf}
 use Rattle.pusc_ul.proofs.spot.Statement.{statement}
@@ -13,4 +13,6 @@ returns c =
 pub spot-spec : {M : Type 1} → statement M
 spot-spec =
     tie.close
-    (tie.spec (λ c. search needs) (λ c. search needs) (λ c. search needs) (λ c. search needs) (λ c. search needs) (λ c. search needs) returns)
+    (tie.spec
+    (λ c. search needs) (λ c. search needs) (λ c. search needs) (λ c. search needs) (λ c. search needs)
+    (λ c. search needs) returns)

@@ -1,4 +1,4 @@
--- `pusc_ul::tile` meets its contract. Assumes nothing.
+-- `pusc_ul::tile` meets its contract.
 use borrow.Author.Needs.{needs}
 use Rattle.pusc_ul.specs.Tile.{tileOf}
 use Rattle.pusc_ul.proofs.tile.Statement.{statement}
@@ -12,10 +12,5 @@ pub tile-spec : {M : Type 1} → statement M
 tile-spec =
     tie.close
     (tie.spec
-    (λ c. search needs)
-    (λ c. search needs)
-    (λ c. search needs)
-    (λ c κs. search needs)
-    (λ c. search needs)
-    (λ c. search needs)
-    returns)
+    (λ c. search needs) (λ c. search needs) (λ c. search needs) (λ c κs. search needs) (λ c. search needs)
+    (λ c. search needs) returns)

@@ -1,5 +1,4 @@
 -- `text::put_digits` meets its contract: the call of itself writes all digits but the last. The measure is the number.
--- Assumes nothing.
 use borrow.Author.Needs.{needs}
 use native.Mathlib.Omega.{arith}
 use Rattle.text.proofs.Laws.{one-digit, more-digits, room-one, room-more, length-more}

@@ -1,20 +1,11 @@
--- `text::put_byte` meets its contract. Assumes nothing.
+-- `text::put_byte` meets its contract.
 use borrow.Author.Needs.{needs}
 use Rattle.text.proofs.Laws.{one-byte}
 use Rattle.text.proofs.put_byte.Statement.{statement}
 use Rattle.text.proofs.put_byte.Tie as tie
 
-slice-write-dest : tie.Need-slice-write-dest
-slice-write-dest c = search needs
-
-add-result : tie.Need-add-result
-add-result c = search needs
-
-same-length : tie.Need-same-length
-same-length c = search needs
-
 returns : tie.Need-returns
 returns c = one-byte _ _ _ (c .pre)
 
 pub put-byte-spec : {M : Type 1} → statement M
-put-byte-spec = tie.close (tie.spec slice-write-dest add-result same-length returns)
+put-byte-spec = tie.close (tie.spec (λ c. search needs) (λ c. search needs) (λ c. search needs) returns)

@@ -1,5 +1,4 @@
 -- `text::put_bytes` meets its contract. The loop's invariant: the first i bytes are put, and `dest` is as long as it was.
--- Assumes nothing.
 use borrow.Author.Needs.{needs}
 use mathlib.Core.Path.{_≡_, refl, sym}
 use Prim.Native.Nat.{_≤_, _-_}
@@ -18,21 +17,6 @@ abbrev μ-loop : tie.MeasureT-loop
 loop-holds : tie.Need-loop-holds Inv-loop μ-loop
 loop-holds c = (search needs, sym (put-none _ _), refl)
 
-shared-slice-read-dest : tie.Need-shared-slice-read-dest Inv-loop μ-loop
-shared-slice-read-dest c = search needs
-
-add-dest : tie.Need-add-dest Inv-loop μ-loop
-add-dest c = search needs
-
-slice-write-dest : tie.Need-slice-write-dest Inv-loop μ-loop
-slice-write-dest c = search needs
-
-add-i : tie.Need-add-i Inv-loop μ-loop
-add-i c = search needs
-
-loop-less : tie.Need-loop-less Inv-loop μ-loop
-loop-less c = search needs
-
 loop-again : tie.Need-loop-again Inv-loop μ-loop
 loop-again c =
     let inv = c .before .before .loop .inv in (
@@ -40,9 +24,6 @@ loop-again c =
       rw (inv .1) (put-next _ _ _ _ (c .before .before .before .pre) (c .before .loop-test .taken)),
       simp length-set (inv .2),
     )
-
-add-result : tie.Need-add-result Inv-loop μ-loop
-add-result c = search needs
 
 same-length : tie.Need-same-length Inv-loop μ-loop
 same-length c = c .before .loop .inv .2
@@ -54,15 +35,5 @@ pub put-bytes-spec : {M : Type 1} → statement M
 put-bytes-spec =
     tie.close
     (tie.spec
-    Inv-loop
-    μ-loop
-    loop-holds
-    shared-slice-read-dest
-    add-dest
-    slice-write-dest
-    add-i
-    loop-less
-    loop-again
-    add-result
-    same-length
-    returns)
+    Inv-loop μ-loop loop-holds (λ c. search needs) (λ c. search needs) (λ c. search needs) (λ c. search needs)
+    (λ c. search needs) loop-again (λ c. search needs) same-length returns)

@@ -1,4 +1,4 @@
--- `text::put_number` meets its contract: 20 digits are enough for any number. Assumes nothing.
+-- `text::put_number` meets its contract: 20 digits are enough for any number.
 use borrow.Author.Needs.{needs}
 use native.Mathlib.Omega.{arith}
 use Rattle.text.proofs.Laws.{decimal-fits}
@@ -10,11 +10,5 @@ put-digits-requires c κs =
     let at-start = c .before .before in
     omega (arith, decimal-fits (at-start .args .x) (omega arith))
 
-same-length : tie.Need-same-length
-same-length c = search needs
-
-returns : tie.Need-returns
-returns c = search needs
-
 pub put-number-spec : {M : Type 1} → statement M
-put-number-spec = tie.close (tie.spec put-digits-requires same-length returns)
+put-number-spec = tie.close (tie.spec put-digits-requires (λ c. search needs) (λ c. search needs))

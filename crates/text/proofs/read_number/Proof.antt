@@ -1,5 +1,4 @@
 -- `text::read_number` meets its contract. The loop's invariant: what is left gives the answer. The measure is what is left of the source.
--- Assumes nothing.
 use borrow.Author.Needs.{needs}
 use Prim.Native.Nat.{ℕ, _-_, _<_}
 use native.Mathlib.Omega.{arith}
@@ -20,26 +19,14 @@ abbrev μ-loop : tie.MeasureT-loop
 inside : (c : tie.In-loop Inv-loop μ-loop) → c .before .loop .next < length (c .before .before .before .before .before .args .src .now)
 inside c = within (c .before .before .before .before .before .args .src .now) (c .before .loop .next) (c .before .loop .digit) (c .before .loop .inv .1) (c .loop-test .taken)
 
-past-spaces-requires : tie.Need-past-spaces-requires Inv-loop μ-loop
-past-spaces-requires c κs = search needs
-
-digit-at-requires : tie.Need-digit-at-requires Inv-loop μ-loop
-digit-at-requires c κs = search needs
-
 loop-holds : tie.Need-loop-holds Inv-loop μ-loop
 unfolding numberAt
 loop-holds c =
     let src = c .before .before .before .args .src .now in
     (ap (λ (k : ℕ). readOn 0 k (drop k src)) (c .before .past-spaces .ensures), c .digit-at .ensures)
 
-with-digit-requires : tie.Need-with-digit-requires Inv-loop μ-loop
-with-digit-requires c κs = search needs
-
 add-next : tie.Need-add-next Inv-loop μ-loop
 add-next c = omega (arith, inside (c .before))
-
-digit-at-requires-2 : tie.Need-digit-at-requires-2 Inv-loop μ-loop
-digit-at-requires-2 c κs = search needs
 
 loop-less : tie.Need-loop-less Inv-loop μ-loop
 loop-less c = omega (arith, inside (c .before .before))
@@ -62,14 +49,5 @@ pub read-number-spec : {M : Type 1} → statement M
 read-number-spec =
     tie.close
     (tie.spec
-    Inv-loop
-    μ-loop
-    past-spaces-requires
-    digit-at-requires
-    loop-holds
-    with-digit-requires
-    add-next
-    digit-at-requires-2
-    loop-less
-    loop-again
-    returns)
+    Inv-loop μ-loop (λ c κs. search needs) (λ c κs. search needs) loop-holds (λ c κs. search needs) add-next
+    (λ c κs. search needs) loop-less loop-again returns)

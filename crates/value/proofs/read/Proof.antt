@@ -1,4 +1,4 @@
--- `value::read` meets its contract: what each answer says is the value of the bytes from the place on. Assumes nothing.
+-- `value::read` meets its contract: what each answer says is the value of the bytes from the place on.
 use mathlib.Core.Path.{_≡_, sym, ap, _∙_}
 use mathlib.Core.List.{List}
 use Prim.Native.Nat.{ℕ, suc, _<_, _≤_}
@@ -79,28 +79,7 @@ pub read-spec : {M : Type 1} → statement M
 read-spec =
     tie.close
     (tie.spec
-    returns
-    (λ c. search needs)
-    (λ c κs. search needs)
-    returns-2
-    (λ c. search needs)
-    returns-3
-    (λ c. search needs)
-    (λ c. search needs)
-    (λ c κs. search needs)
-    returns-4
-    (λ c. search needs)
-    (λ c. search needs)
-    returns-5
-    (λ c. search needs)
-    returns-6
-    (λ c. search needs)
-    (λ c. search needs)
-    (λ c κs. search needs)
-    returns-7
-    (λ c. search needs)
-    (λ c. search needs)
-    (λ c. search needs)
-    (λ c. search needs)
-    returns-8
-    returns-9)
+    returns (λ c. search needs) (λ c κs. search needs) returns-2 (λ c. search needs) returns-3 (λ c. search needs)
+    (λ c. search needs) (λ c κs. search needs) returns-4 (λ c. search needs) (λ c. search needs) returns-5
+    (λ c. search needs) returns-6 (λ c. search needs) (λ c. search needs) (λ c κs. search needs) returns-7
+    (λ c. search needs) (λ c. search needs) (λ c. search needs) (λ c. search needs) returns-8 returns-9)

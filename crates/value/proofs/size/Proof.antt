@@ -1,4 +1,4 @@
--- `value::size` meets its contract. Assumes nothing.
+-- `value::size` meets its contract.
 use Rattle.value.proofs.Laws.{size-1, size-2, size-3}
 use borrow.Author.Needs.{needs}
 use Rattle.value.proofs.size.Statement.{statement}

@@ -1,4 +1,4 @@
--- `value::write` meets its contract: the stores put the value's bytes. Assumes nothing.
+-- `value::write` meets its contract: the stores put the value's bytes.
 use mathlib.Core.Path.{_≡_, refl}
 use mathlib.Core.List.{List, [], _∷_}
 use Prim.Native.Nat.{ℕ, suc, _+_, _/_, _%_, _<_, _≤_}
@@ -80,27 +80,8 @@ pub write-spec : {M : Type 1} → statement M
 write-spec =
     tie.close
     (tie.spec
-    (λ c. search needs)
-    slice-write-dest
-    (λ c. search needs)
-    (λ c. search needs)
-    returns
-    (λ c. search needs)
-    (λ c. search needs)
-    slice-write-dest-2
-    (λ c. search needs)
-    (λ c. search needs)
-    slice-write-dest-3
-    (λ c. search needs)
-    (λ c. search needs)
-    returns-2
-    (λ c. search needs)
-    (λ c. search needs)
-    (λ c. search needs)
-    slice-write-dest-4
-    (λ c. search needs)
-    (λ c. search needs)
-    slice-write-dest-5
-    (λ c. search needs)
-    (λ c. search needs)
-    returns-3)
+    (λ c. search needs) slice-write-dest (λ c. search needs) (λ c. search needs) returns (λ c. search needs)
+    (λ c. search needs) slice-write-dest-2 (λ c. search needs) (λ c. search needs) slice-write-dest-3
+    (λ c. search needs) (λ c. search needs) returns-2 (λ c. search needs) (λ c. search needs) (λ c. search needs)
+    slice-write-dest-4 (λ c. search needs) (λ c. search needs) slice-write-dest-5 (λ c. search needs)
+    (λ c. search needs) returns-3)

@@ -1,4 +1,4 @@
--- `vector_lines::print_number` is safe: the mark is one byte and the number at most 20. Assumes nothing.
+-- `vector_lines::print_number` is safe: the mark is one byte and the number at most 20.
 use borrow.Author.Needs.{needs}
 use mathlib.Core.Path.{sym}
 use native.Mathlib.Omega.{arith}
@@ -6,15 +6,6 @@ use lib.Seq.{length-take-le}
 use Rattle.text.proofs.Laws.{wrote-next, decimal-fits}
 use Rattle.vector_lines.proofs.print_number.Statement.{statement}
 use Rattle.vector_lines.proofs.print_number.Tie as tie
-
-slice-aggregate-put-byte : tie.Need-slice-aggregate-put-byte
-slice-aggregate-put-byte c = search needs
-
-put-byte-requires : tie.Need-put-byte-requires
-put-byte-requires c κs = search needs
-
-slice-aggregate-put-number : tie.Need-slice-aggregate-put-number
-slice-aggregate-put-number c = search needs
 
 put-number-requires : tie.Need-put-number-requires
 put-number-requires c κs =
@@ -38,21 +29,9 @@ array-share-prefix-out c =
 slice-aggregate-print : tie.Need-slice-aggregate-print
 slice-aggregate-print c = sym (length-take-le _ _ (array-share-prefix-out (c .before)))
 
-print-requires : tie.Need-print-requires
-print-requires c κs = search needs
-
-returns : tie.Need-returns
-returns c = search needs
-
 pub print-number-spec : {M : Type 1} → statement M
 print-number-spec =
     tie.close
     (tie.spec
-    slice-aggregate-put-byte
-    put-byte-requires
-    slice-aggregate-put-number
-    put-number-requires
-    array-share-prefix-out
-    slice-aggregate-print
-    print-requires
-    returns)
+    (λ c. search needs) (λ c κs. search needs) (λ c. search needs) put-number-requires array-share-prefix-out
+    slice-aggregate-print (λ c κs. search needs) (λ c. search needs))

@@ -1,4 +1,4 @@
--- `zones::print` is safe: the text ends within the buffer. Assumes nothing.
+-- `zones::print` is safe: the text ends within the buffer.
 use borrow.Author.Needs.{needs}
 use mathlib.Core.Path.{sym}
 use native.Mathlib.Omega.{arith}
@@ -18,4 +18,6 @@ slice-aggregate-write-all c = sym (length-take-le _ _ (array-share-prefix-out (c
 pub print-spec : {M : Type 1} → statement M
 print-spec =
     tie.close
-    (tie.spec (λ c. search needs) (λ c κs. search needs) array-share-prefix-out slice-aggregate-write-all (λ c κs. search needs) (λ c. search needs))
+    (tie.spec
+    (λ c. search needs) (λ c κs. search needs) array-share-prefix-out slice-aggregate-write-all
+    (λ c κs. search needs) (λ c. search needs))
