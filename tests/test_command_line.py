@@ -25,23 +25,6 @@ from bellpulsar import command_line  # noqa: E402
 COMMAND = os.path.join(ROOT, "bellpulsar")
 SVG = "{http://www.w3.org/2000/svg}"
 
-QUESTION = {
-    1: "Is the mode listed (in a plan: 0, 2 or 3)?",
-    2: "Is the size that mode's (of a plan: 256, 512, 1024 or 2048)?",
-    3: "Is the cell in range?",
-    4: "Is the slot below 512, the zone's symbol below 512 times the slot length?",
-    5: "Is the subchannel in range?",
-    6: "Is the index below 48?",
-    7: "Is the carrier below the size?",
-    10: "Do the bytes reach to the value's end or its third group?",
-    11: "Does the value end by its third group, in shortest form?",
-    12: "Is the count 1 to 8, and in writing every place past it zero?",
-    13: "Are the slots 1 to 512?",
-    14: "At 2048, is the first zone mode 0 with cell 0, and does nothing but mode 3 follow mode 3?",
-    15: "Are the bytes used up?",
-}
-
-
 # As a user has it: buffered output, and the library of this tree.
 ENV = {name: value for name, value in os.environ.items() if name not in ("PYTHONUNBUFFERED", "BELLPULSAR_LIBRARY")}
 
@@ -61,10 +44,14 @@ class Case(unittest.TestCase):
         done = run(*shlex.split(line), **options)
         self.assertEqual((done.stdout.decode(), done.stderr, done.returncode), (text, b"", 0), line)
 
-    def refused(self, number, line, **options):
+    def refused(self, number, line, words=None, **options):
+        """With these words, or with any that are not the question alone."""
         done = run(*shlex.split(line), **options)
-        text = "refused %d: %s\n" % (number, QUESTION[number])
-        self.assertEqual((done.stdout.decode(), done.stderr, done.returncode), (text, b"", 1), line)
+        start, told = done.stdout.decode().split(": ", 1)
+        self.assertEqual((start, done.stderr, done.returncode), ("refused %d" % number, b"", 1), line)
+        self.assertRegex(told, r"^[^?\n]+\n$", line)
+        if words:
+            self.assertEqual(told, words + "\n", line)
 
     def not_understood(self, *arguments):
         """In this process, since there are many such."""
@@ -129,6 +116,33 @@ class Map(Case):
         self.refused(3, "place 2 1024 -1 -1 -1 -1")
         self.refused(2, "place 2 -1 -1 -1 -1 -1")
         self.refused(4, "locate 2 1024 0 512 1024")
+
+
+class Words(Case):
+    """A refusal says what was asked, the value given and what would be accepted."""
+
+    def test_of_fields(self):
+        self.refused(1, "place 4 1024 256 0 0 0", "mode 4 is not one of the map's: 0, 1, 2, 3")
+        self.refused(2, "place 0 1024 0 0 0 0", "size 1024 is not one of mode 0's: 2048")
+        self.refused(3, "place 2 1024 256 0 0 0", "cell 256 is not one of mode 2's at size 1024: 0 to 255")
+        self.refused(4, "locate 1 2048 0 1536 0", "symbol 1536 is not one of mode 1's: 0 to 1535")
+        self.refused(6, "place 2 1024 0 0 0 -1", "index -1 is not one of a subchannel's: 0 to 47")
+        self.refused(7, "locate 3 256 0 0 256", "carrier 256 is not one of size 256's: 0 to 255")
+        self.refused(3, "collisions amc 0 2352", "cell_b 2352 is not one of mode 3's: 0 to 2351")
+        self.refused(5, "show 0 2048 0 0 --subchannel 60", "subchannel 60 is not one of mode 0's: 0 to 59")
+        self.refused(5, "picture slot 3 512 0 0 --subchannel 8", "subchannel 8 is not one of mode 3's at size 512: 0 to 7")
+
+    def test_of_any_size(self):
+        self.refused(1, "place %d 0 0 0 0 0" % 2**64, "mode %d is not one of the map's: 0, 1, 2, 3" % 2**64)
+        words = "cell of more than 20 digits is not one of mode 0's: 0 to 31"
+        self.refused(3, "place 0 2048 %s 0 0 0" % ("9" * 6000), words)
+
+    def test_of_plans(self):
+        self.refused(10, "plan read 01 80 08 02", "4 bytes end within zone 1's cell, and more must follow")
+        self.refused(11, "plan read 81 00", "the count is 81 00, which is not its shortest form")
+        self.refused(12, "plan write 1024", "count 0 is not one of a plan's: 1 to 8")
+        self.refused(14, "plan write 1024 3,0,1 2,0,1", "zone 2: mode 2 follows mode 3, after which only mode 3 is accepted")
+        self.refused(15, "plan read %s 00" % EXAMPLE, "11 bytes are given, and the plan ends after 10")
 
 
 class Collisions(Case):

@@ -26,6 +26,8 @@ mod c {
             mode: u32, size: u32, cell: u32, symbol: u32, carrier: u32,
             kind: *mut u32, slot: *mut u32, subchannel: *mut u32, index: *mut u32,
         ) -> u32;
+        pub fn bp_points_len(mode: u32, size: u32) -> usize;
+        pub fn bp_grid_len(mode: u32, size: u32) -> usize;
         pub fn bp_fill(
             mode: u32, size: u32, cell: u32, slot: u32, pilot: *const f32,
             points: *const f32, points_len: usize, grid: *mut f32, grid_len: usize,
@@ -208,6 +210,19 @@ pub fn locate(setup: Setup, at: Place) -> Result<Content, Refusal> {
         3 => Content::Data(of),
         _ => unreachable!("the header has no kind {kind}"),
     })
+}
+
+/// The floats of a slot's points, 96 for each subchannel; 0 for a mode and size that the map does not have.
+pub fn points_len(mode: u32, size: u32) -> usize {
+    // Safety: no pointer is given.
+    unsafe { c::bp_points_len(mode, size) }
+}
+
+/// The floats of a slot's grid, 2 for each carrier of each symbol of a slot; 0 for a mode and size that the map does not
+/// have.
+pub fn grid_len(mode: u32, size: u32) -> usize {
+    // Safety: no pointer is given.
+    unsafe { c::bp_grid_len(mode, size) }
 }
 
 /// Lays a slot's points on its grid; the whole grid is written.

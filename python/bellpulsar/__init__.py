@@ -10,17 +10,17 @@ A first example (`PYTHONPATH=python python3` at the repository's root, after ./b
     >>> bellpulsar.place(mode=2, size=1024, cell=256, slot=0, subchannel=0, index=0)
     Traceback (most recent call last):
         ...
-    bellpulsar.Refusal: refused 3: Is the cell in range?
+    bellpulsar.Refusal: refused 3: cell 256 is not one of mode 2's at size 1024: 0 to 255
 
 A slot's points, laid on its grid and taken off again:
 
     >>> from array import array
-    >>> points = array("f", range(96 * 16))
-    >>> grid = array("f", [0.0]) * (2 * 1024)
+    >>> points = array("f", range(bellpulsar.points_len(2, 1024)))
+    >>> grid = array("f", [0.0]) * bellpulsar.grid_len(2, 1024)
     >>> bellpulsar.fill(2, 1024, 17, 0, (1.0, 0.0), points, grid)
     >>> grid[2 * 87 : 2 * 87 + 2]
     array('f', [0.0, 1.0])
-    >>> again = array("f", [0.0]) * (96 * 16)
+    >>> again = array("f", [0.0]) * len(points)
     >>> bellpulsar.empty(2, 1024, 17, 0, grid, again)
     >>> again == points
     True
@@ -39,7 +39,7 @@ Numbers. Any integer may stand in any field. One that 32 bits do not hold, negat
 2**32 - 1, which no question lets pass, so it is refused in its turn.
 
 Refusals. A request that cannot be met raises Refusal, with the number of the first question of document 01 that is
-answered no. Nothing is written then.
+answered no; its text says what was asked, the value given and what would be accepted. Nothing is written then.
 
 Buffers. Points, grids, plans and destinations are lent: the engine works on the caller's memory and nothing is copied.
 Points and grids are any contiguous buffer of 32-bit floats (array('f'), a memoryview of one, a ctypes array, a numpy
@@ -49,12 +49,16 @@ that is no refusal: TypeError for the wrong kind of element, BufferError where t
 writable, ValueError where it is not aligned or two buffers overlap.
 """
 
+import ctypes
 import enum
 import itertools
+import operator
 from typing import NamedTuple, Optional, Tuple
 
+from . import refusals
 from .buffers import BYTE, FLOAT, apart, lent, pilot_point
 from .library import Hits, Pair, Zones, engine, numbers, uint
+from .refusals import QUESTIONS
 
 __all__ = [
     "PUSC_DL",
@@ -73,6 +77,8 @@ __all__ = [
     "Plan",
     "place",
     "locate",
+    "points_len",
+    "grid_len",
     "fill",
     "empty",
     "look",
@@ -85,42 +91,25 @@ __all__ = [
 
 PUSC_DL, PUSC_UL, OFUSC, AMC = 0, 1, 2, 3
 
-# The questions of document 01, by number.
-QUESTIONS = {
-    1: "Is the mode listed (in a plan: 0, 2 or 3)?",
-    2: "Is the size that mode's (of a plan: 256, 512, 1024 or 2048)?",
-    3: "Is the cell in range?",
-    4: "Is the slot below 512, the zone's symbol below 512 times the slot length?",
-    5: "Is the subchannel in range?",
-    6: "Is the index below 48?",
-    7: "Is the carrier below the size?",
-    8: "Are the points just 96 floats for each subchannel?",
-    9: "Is the grid just 2 * size floats for each symbol of a slot?",
-    10: "Do the bytes reach to the value's end or its third group?",
-    11: "Does the value end by its third group, in shortest form?",
-    12: "Is the count 1 to 8, and in writing every place past it zero?",
-    13: "Are the slots 1 to 512?",
-    14: "At 2048, is the first zone mode 0 with cell 0, and does nothing but mode 3 follow mode 3?",
-    15: "Are the bytes used up?",
-    16: "Is the destination long enough?",
-}
-
 
 class Refusal(Exception):
-    """The engine refused a request: `number` and `question` are those of document 01."""
+    """The engine refused a request: `number` and `question` are those of document 01, `words` say what was asked, the value
+    given and what would be accepted."""
 
-    def __init__(self, number):
-        super().__init__(number)
+    def __init__(self, number, words):
+        super().__init__(number, words)
         self.number = number
         self.question = QUESTIONS[number]
+        self.words = words
 
     def __str__(self):
-        return "refused %d: %s" % (self.number, self.question)
+        return "refused %d: %s" % (self.number, self.words)
 
 
-def _raise_if_refused(refusal):
-    if refusal:
-        raise Refusal(refusal)
+def _refusal(number, **asked):
+    """Of a request's fields as they were given; a length is a pair, that given and the right one."""
+    asked = {name: value if isinstance(value, tuple) else operator.index(value) for name, value in asked.items()}
+    return Refusal(number, refusals.field_words(number, asked))
 
 
 # --- answers ----------------------------------------------------------------------------------
@@ -197,7 +186,9 @@ class Plan(NamedTuple):
 def place(mode, size, cell, slot, subchannel, index):
     """Where point `index` of a subchannel lies, as Place(symbol, carrier). Refusals 1, 2, 3, 4, 5, 6."""
     symbol, carrier = uint(), uint()
-    _raise_if_refused(engine.bp_place(*numbers(mode, size, cell, slot, subchannel, index), symbol, carrier))
+    refused = engine.bp_place(*numbers(mode, size, cell, slot, subchannel, index), symbol, carrier)
+    if refused:
+        raise _refusal(refused, mode=mode, size=size, cell=cell, slot=slot, subchannel=subchannel, index=index)
     return Place(symbol.value, carrier.value)
 
 
@@ -210,7 +201,9 @@ def locate(mode, size, cell, symbol, carrier):
     kind is Kind.GUARD, Kind.DC, Kind.PILOT or Kind.DATA; the other three are None unless it is Kind.DATA.
     """
     kind, slot, subchannel, index = uint(), uint(), uint(), uint()
-    _raise_if_refused(engine.bp_locate(*numbers(mode, size, cell, symbol, carrier), kind, slot, subchannel, index))
+    refused = engine.bp_locate(*numbers(mode, size, cell, symbol, carrier), kind, slot, subchannel, index)
+    if refused:
+        raise _refusal(refused, mode=mode, size=size, cell=cell, symbol=symbol, carrier=carrier)
     what = _KINDS[kind.value]
     if what is Kind.DATA:
         return Located(what, slot.value, subchannel.value, index.value)
@@ -220,6 +213,23 @@ def locate(mode, size, cell, symbol, carrier):
 # --- grids ------------------------------------------------------------------------------------
 
 
+def points_len(mode, size):
+    """The floats of a slot's points, 96 for each subchannel; 0 for a mode and size that the map does not have."""
+    return engine.bp_points_len(*numbers(mode, size))
+
+
+def grid_len(mode, size):
+    """The floats of a slot's grid, 2 for each carrier of each of its symbols; 0 for a mode and size that the map does not
+    have."""
+    return engine.bp_grid_len(*numbers(mode, size))
+
+
+def _buffers_refusal(refused, mode, size, cell, slot, points, grid):
+    """Of fill and empty."""
+    lengths = {"points": (points.length, points_len(mode, size)), "grid": (grid.length, grid_len(mode, size))}
+    return _refusal(refused, mode=mode, size=size, cell=cell, slot=slot, **lengths)
+
+
 def fill(mode, size, cell, slot, pilot, points, grid):
     """Lays a slot's points on its grid. Refusals 1, 2, 3, 4, 8, 9.
 
@@ -227,14 +237,16 @@ def fill(mode, size, cell, slot, pilot, points, grid):
     copied as they are, those of a NaN too.
 
     pilot: a complex number or two numbers (rounded to 32-bit floats), or a buffer of two floats.
-    points: 96 floats for each subchannel, by subchannel and index, in-phase first.
-    grid: 2 * size floats for each symbol of a slot, symbol after symbol, each by rising carrier.
+    points: `points_len(mode, size)` floats, by subchannel and index, in-phase first.
+    grid: `grid_len(mode, size)` floats, symbol after symbol, each by rising carrier.
     """
     fields = numbers(mode, size, cell, slot)
     pilot = pilot_point(pilot)
     with lent(points, "points", FLOAT) as source, lent(grid, "grid", FLOAT, writable=True) as target:
         apart(source, target)
-        _raise_if_refused(engine.bp_fill(*fields, pilot, source.address, source.length, target.address, target.length))
+        refused = engine.bp_fill(*fields, pilot, source.address, source.length, target.address, target.length)
+        if refused:
+            raise _buffers_refusal(refused, mode, size, cell, slot, source, target)
 
 
 def empty(mode, size, cell, slot, grid, points):
@@ -245,7 +257,9 @@ def empty(mode, size, cell, slot, grid, points):
     fields = numbers(mode, size, cell, slot)
     with lent(grid, "grid", FLOAT) as source, lent(points, "points", FLOAT, writable=True) as target:
         apart(target, source)
-        _raise_if_refused(engine.bp_empty(*fields, source.address, source.length, target.address, target.length))
+        refused = engine.bp_empty(*fields, source.address, source.length, target.address, target.length)
+        if refused:
+            raise _buffers_refusal(refused, mode, size, cell, slot, target, source)
 
 
 _SEEN = {0: Kind.NOTHING, 2: Kind.PILOT, 3: Kind.DATA}
@@ -258,14 +272,13 @@ def look(mode, size, cell, symbol, grid, carrier):
     all of it. The point is a pair of Python floats, which hold every 32-bit float; only a signalling NaN comes out as
     a quiet one. Refusals 1, 2, 3, 4, 7, 9.
     """
-    mode, size, cell, symbol, carrier = numbers(mode, size, cell, symbol, carrier)
+    *fields, last = numbers(mode, size, cell, symbol, carrier)
     kind, point, slot, subchannel, index = uint(), Pair(), uint(), uint(), uint()
     with lent(grid, "grid", FLOAT) as memory:
-        _raise_if_refused(
-            engine.bp_look(
-                mode, size, cell, symbol, memory.address, memory.length, carrier, kind, point, slot, subchannel, index
-            )
-        )
+        refused = engine.bp_look(*fields, memory.address, memory.length, last, kind, point, slot, subchannel, index)
+    if refused:
+        lengths = (memory.length, grid_len(mode, size))
+        raise _refusal(refused, mode=mode, size=size, cell=cell, symbol=symbol, carrier=carrier, grid=lengths)
     what = _SEEN[kind.value]
     if what is Kind.NOTHING:
         return Seen(what)
@@ -277,9 +290,11 @@ def look(mode, size, cell, symbol, grid, carrier):
 # --- collisions -------------------------------------------------------------------------------
 
 
-def _collisions(call, *fields):
+def _collisions(call, mode, **fields):
     hits, count = Hits(), uint()
-    _raise_if_refused(call(*numbers(*fields), hits, count))
+    refused = call(*numbers(*fields.values()), hits, count)
+    if refused:
+        raise _refusal(refused, mode=mode, **fields)
     return Collisions(tuple(hit != 0 for hit in hits), count.value)
 
 
@@ -289,7 +304,8 @@ def ofusc_collisions(size, cell_a, subchannel_a, cell_b, subchannel_b):
     hits[k] is group k, the data numbers N*k to N*k+N-1 of a symbol; every symbol has the same answer.
     Refusals 2, 3 (cell_a), 3 (cell_b), 5 (subchannel_a), 5 (subchannel_b), in this order.
     """
-    return _collisions(engine.bp_ofusc_collisions, size, cell_a, subchannel_a, cell_b, subchannel_b)
+    fields = {"cell_a": cell_a, "subchannel_a": subchannel_a, "cell_b": cell_b, "subchannel_b": subchannel_b}
+    return _collisions(engine.bp_ofusc_collisions, OFUSC, size=size, **fields)
 
 
 def amc_collisions(cell_a, cell_b):
@@ -297,12 +313,13 @@ def amc_collisions(cell_a, cell_b):
 
     The answer is the same in every subchannel, slot and size. Refusals 3 (cell_a), 3 (cell_b).
     """
-    return _collisions(engine.bp_amc_collisions, cell_a, cell_b)
+    return _collisions(engine.bp_amc_collisions, AMC, cell_a=cell_a, cell_b=cell_b)
 
 
 # --- zone plans -------------------------------------------------------------------------------
 
 _PLACES = 8  # the zones of a plan
+_DECIDE = 128  # bytes: what follows them changes no answer
 
 
 def plan_read(data):
@@ -312,7 +329,10 @@ def plan_read(data):
     """
     count, size, places = uint(), uint(), Zones()
     with lent(data, "data", BYTE) as memory:
-        _raise_if_refused(engine.bp_plan_read(memory.address, memory.length, count, size, places))
+        refused = engine.bp_plan_read(memory.address, memory.length, count, size, places)
+        if refused:
+            start = ctypes.string_at(memory.address, min(memory.length, _DECIDE))
+            raise Refusal(refused, refusals.read_words(refused, start, memory.length))
     zones = [Zone(*places[at : at + 3]) for at in range(0, 3 * count.value, 3)]
     return Plan(size.value, tuple(zones))
 
@@ -323,7 +343,7 @@ def _zone(zone):
         mode, cell, slots = zone
     except (TypeError, ValueError) as error:
         raise type(error)("zones: three numbers are needed for each, mode, cell and slots, not %r" % (zone,)) from None
-    return numbers(mode, cell, slots)
+    return operator.index(mode), operator.index(cell), operator.index(slots)
 
 
 def plan_write(count, size, zones, dest):
@@ -333,13 +353,15 @@ def plan_write(count, size, zones, dest):
     dest: any writable, contiguous buffer of bytes. Refusals 12, 2, for each zone 1, 2, 3, 13, 14, then 16.
     `plan_bytes` is the same without count, unused places and destination.
     """
-    count, size = numbers(count, size)
+    count, size = operator.index(count), operator.index(size)
     zones = [_zone(zone) for zone in zones]
     if len(zones) != _PLACES:
         raise ValueError("zones: eight places are needed, not %d" % len(zones))
-    places, written = Zones(*itertools.chain(*zones)), uint()
+    places, written = Zones(*numbers(*itertools.chain(*zones))), uint()
     with lent(dest, "dest", BYTE, writable=True) as memory:
-        _raise_if_refused(engine.bp_plan_write(count, size, places, memory.address, memory.length, written))
+        refused = engine.bp_plan_write(*numbers(count, size), places, memory.address, memory.length, written)
+    if refused:
+        raise Refusal(refused, refusals.write_words(refused, count, size, zones, memory.length))
     return written.value
 
 

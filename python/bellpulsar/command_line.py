@@ -44,7 +44,8 @@ OVERVIEW_END = (
     RANGES
     + """
 
-A request that cannot be met prints "refused", the number and the question that is answered no; exit status 1.
+A request that cannot be met prints "refused", the number of the first question that is answered no, the value given
+and what would be accepted; exit status 1.
 What is not understood, read, written or built is told on standard error; exit status 2.
 
 examples:
@@ -87,7 +88,7 @@ def number(text):
     if not re.fullmatch("-?[0-9]+", text):
         raise argparse.ArgumentTypeError("%r is not a number" % text)
     digits = text.lstrip("-").lstrip("0") or "0"
-    value = int(digits) if len(digits) < 20 else 10**20
+    value = int(digits) if len(digits) <= 20 else 10**20
     return -value if "-" in text else value
 
 

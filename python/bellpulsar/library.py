@@ -22,6 +22,8 @@ _length = ctypes.c_size_t
 _PROTOTYPES = {
     "bp_place": [uint] * 6 + [_out] * 2,
     "bp_locate": [uint] * 5 + [_out] * 4,
+    "bp_points_len": [uint] * 2,
+    "bp_grid_len": [uint] * 2,
     "bp_fill": [uint] * 4 + [Pair, _address, _length, _address, _length],
     "bp_empty": [uint] * 4 + [_address, _length, _address, _length],
     "bp_look": [uint] * 4 + [_address, _length, uint, _out, Pair] + [_out] * 3,
@@ -70,7 +72,7 @@ def _load(path):
         raise ImportError("%s is not a Bellpulsar library that can be loaded: %s" % (path, error)) from None
     for name, arguments in _PROTOTYPES.items():
         calls[name].argtypes = arguments
-        calls[name].restype = uint
+        calls[name].restype = _length if name.endswith("_len") else uint
     return calls
 
 

@@ -12,8 +12,7 @@ from typing import NamedTuple
 
 import bellpulsar
 from bellpulsar import Kind
-
-MODE_NAMES = ("PUSC downlink", "PUSC uplink", "optional FUSC", "AMC")
+from bellpulsar.refusals import MODES
 
 LEFT, RIGHT, TOP, BOTTOM = 76, 24, 64, 16  # margins
 WIDTH = 1280  # of a band or panel
@@ -236,7 +235,7 @@ def slot(mode, size, cell, slot, picked=None):
     if picked is None:
         parts.append(group(LEFT, y, legend_scale(style, total), class_="legend"))
         y += 10 + 26 * (1 + (total - 1) // (WIDTH // SWATCH))
-    title = "%s (mode %d), size %d, cell %d, slot %d" % (MODE_NAMES[mode], mode, size, cell, slot)
+    title = "%s (mode %d), size %d, cell %d, slot %d" % (MODES[mode].name, mode, size, cell, slot)
     if picked is not None:
         title += ", subchannel %d picked out" % picked
     return document(y + BOTTOM, title, parts)
@@ -345,5 +344,5 @@ def subchannel(mode, size, cells, slot, subchannel):
     ringed = "" if len(cells) == 1 else RINGED_AMC if mode == bellpulsar.AMC else RINGED
     parts.append(text(LEFT + WIDTH / 2, y - 18, "carrier", text_anchor="middle"))
     parts.append(group(LEFT, y + 6, subchannel_legend(symbols, ringed), class_="legend"))
-    names = (MODE_NAMES[mode], mode, size, slot, subchannel)
+    names = (MODES[mode].name, mode, size, slot, subchannel)
     return document(y + 20 + BOTTOM, "%s (mode %d), size %d, slot %d, subchannel %d" % names, parts)

@@ -100,6 +100,17 @@ fn place_agrees() {
 }
 
 #[test]
+fn lengths_agree() {
+    for row in rows("length", 200) {
+        let [mode, size, points, grid] = row[..] else {
+            panic!("{row:?}")
+        };
+        let lengths = (points_len(mode, size), grid_len(mode, size));
+        assert_eq!(lengths, (points as usize, grid as usize), "{row:?}");
+    }
+}
+
+#[test]
 fn locate_agrees() {
     for row in rows("locate", 6000) {
         let [mode, size, cell, symbol, carrier, refusal, kind, slot, subchannel, index] = row[..]
