@@ -35,18 +35,30 @@ def run(*arguments, env=ENV, **options):
     return subprocess.run(command, capture_output=True, timeout=60, env=env, **options)
 
 
+def asked(*arguments):
+    """The same in this process, which is much faster."""
+    out, err = io.TextIOWrapper(io.BytesIO()), io.TextIOWrapper(io.BytesIO())
+    with contextlib.redirect_stdout(out), contextlib.redirect_stderr(err):
+        try:
+            status = command_line.main([str(word) for word in arguments])
+        except SystemExit as ended:
+            status = ended.code or 0
+        out.flush(), err.flush()
+    return subprocess.CompletedProcess(arguments, status, out.buffer.getvalue(), err.buffer.getvalue())
+
+
 def run_shell(line):
     return subprocess.run(["sh", "-c", line], capture_output=True, timeout=60, env=ENV)
 
 
 class Case(unittest.TestCase):
     def prints(self, line, text, **options):
-        done = run(*shlex.split(line), **options)
+        done = run(*shlex.split(line), **options) if options else asked(*shlex.split(line))
         self.assertEqual((done.stdout.decode(), done.stderr, done.returncode), (text, b"", 0), line)
 
     def refused(self, number, line, words=None, **options):
         """With these words, or with any that are not the question alone."""
-        done = run(*shlex.split(line), **options)
+        done = run(*shlex.split(line), **options) if options else asked(*shlex.split(line))
         start, told = done.stdout.decode().split(": ", 1)
         self.assertEqual((start, done.stderr, done.returncode), ("refused %d" % number, b"", 1), line)
         self.assertRegex(told, r"^[^?\n]+\n$", line)
@@ -54,13 +66,10 @@ class Case(unittest.TestCase):
             self.assertEqual(told, words + "\n", line)
 
     def not_understood(self, *arguments):
-        """In this process, since there are many such."""
-        told = io.StringIO()
-        with self.assertRaises(SystemExit) as ended, contextlib.redirect_stderr(told):
-            command_line.read_arguments([str(word) for word in arguments])
-        self.assertEqual(ended.exception.code, 2, arguments)
-        self.assertRegex(told.getvalue(), r"^usage: bellpulsar[\s\S]*: error: [^\0]*\n$", arguments)
-        self.assertNotIn("x00", told.getvalue())
+        done = asked(*arguments)
+        self.assertEqual((done.stdout, done.returncode), (b"", 2), arguments)
+        self.assertRegex(done.stderr.decode(), r"^usage: bellpulsar[\s\S]*: error: [^\0]*\n$", arguments)
+        self.assertNotIn(b"x00", done.stderr)
 
     def fails(self, message, *arguments, **options):
         done = run(*arguments, **options)
@@ -71,6 +80,12 @@ class Case(unittest.TestCase):
 
 
 class Map(Case):
+    def test_as_a_process(self):
+        done = run("place", 2, 1024, 17, 0, 0, 0)
+        self.assertEqual((done.stdout, done.stderr, done.returncode), (b"symbol 0 carrier 87\n", b"", 0))
+        done = run("place", 2, 1024, 256, 0, 0, 0)
+        self.assertEqual((done.stdout[:11], done.stderr, done.returncode), (b"refused 3: ", b"", 1))
+
     def test_place(self):
         self.prints("place 2 1024 0 0 3 5", "symbol 0 carrier 553\n")
         self.prints("place 2 1024 0 1 3 5", "symbol 1 carrier 552\n")
@@ -247,14 +262,14 @@ class Show(Case):
                 last = ref.cells(mode, size) - 1, ref.subchannels(mode, size) - 1
                 for cell, symbol, picked in ((0, 1, None), (last[0], 511, last[1]), (1, 2, 0)):
                     pick = [] if picked is None else ["--subchannel", picked]
-                    done = run("show", mode, size, cell, symbol, *pick)
+                    done = asked("show", mode, size, cell, symbol, *pick)
                     rows = done.stdout.decode().splitlines()[1:-1]
                     self.assertEqual([int(row[:7]) for row in rows], list(range(0, size, 64)))
                     self.assertEqual({row[7:9] for row in rows}, {"  "})
                     self.assertEqual("".join(row[9:] for row in rows), shown(mode, size, cell, symbol, picked))
 
     def test_legend_without_a_subchannel(self):
-        done = run("show", 3, 256, 0, 0)
+        done = asked("show", 3, 256, 0, 0)
         self.assertEqual(done.stdout.decode().splitlines()[-1], "- guard  D DC  P pilot  . data")
 
     def test_refusals(self):
@@ -273,7 +288,7 @@ CARRIER, SYMBOL, BAND = 5, 20, 256  # how a slot is drawn: width, height, carrie
 
 
 def drawing(*arguments):
-    done = run("picture", *arguments)
+    done = asked("picture", *arguments)
     assert (done.stderr, done.returncode) == (b"", 0), done
     return ElementTree.fromstring(done.stdout)
 
@@ -475,12 +490,12 @@ class Usage(Case):
 
     def test_help_of_each_command(self):
         for name in COMMANDS.split("|"):
-            done = run(*name.split(), "--help")
+            done = asked(*name.split(), "--help")
             self.assertEqual((done.stderr, done.returncode), (b"", 0))
             self.assertTrue(done.stdout.startswith(b"usage: bellpulsar %s" % name.encode()), name)
             self.assertIn(b"example:\n  ./bellpulsar %s" % name.encode(), done.stdout)
         for name in ("collisions", "plan", "picture"):
-            done = run(name, "--help")
+            done = asked(name, "--help")
             self.assertEqual((done.stderr, done.returncode), (b"", 0))
             self.assertIn(b"./bellpulsar %s WHAT --help" % name.encode(), done.stdout)
 
@@ -488,7 +503,7 @@ class Usage(Case):
         """Each example that has its output below it prints that."""
         tried = 0
         for name in COMMANDS.split("|"):
-            text = run(*name.split(), "--help").stdout.decode().split("example:\n")[1].split("\n\n")[0]
+            text = asked(*name.split(), "--help").stdout.decode().split("example:\n")[1].split("\n\n")[0]
             line, *output = [part.strip() for part in text.splitlines()]
             if output:
                 self.prints(line.removeprefix("./bellpulsar "), "".join(part + "\n" for part in output))
@@ -501,7 +516,7 @@ class Usage(Case):
         self.assertGreaterEqual(len(examples), 6)
         for line, output in examples:
             text = "".join(part[4:] + "\n" for part in output.splitlines())
-            self.assertEqual(run(*shlex.split(line)).stdout.decode(), text, line)
+            self.assertEqual(asked(*shlex.split(line)).stdout.decode(), text, line)
 
     def test_not_understood(self):
         lines = ["", "plan", "nothing", "-1", "place 2 1024 17 0 0", "place 2 1024 17 0 0 0 0", "place 2 1024 17 0 0 0 -1"]
@@ -607,4 +622,6 @@ class Failures(Case):
 
 if __name__ == "__main__":
     subprocess.run([os.path.join(ROOT, "build.sh")], check=True)
+    # This process need not ask at each call whether the library is current.
+    os.environ["BELLPULSAR_LIBRARY"] = os.path.join(ROOT, "build", "libbellpulsar.so")
     unittest.main()
