@@ -34,7 +34,11 @@ crates=$(awk -F: '
     }
     { sub(/#.*/, ""); needs[$1] = $2 }
     END { visit("capi") }' crates.txt)
-sources=$(for crate in $crates; do echo "crates/$crate/src" "crates/$crate/specs" "crates/$crate/proofs"; done)
+sources=$(for crate in $crates; do
+    for part in src specs proofs; do
+        [ ! -d "crates/$crate/$part" ] || echo "crates/$crate/$part"
+    done
+done)
 
 # The hash of all that the library is made from.
 content() {

@@ -35,7 +35,15 @@ echo done >>calls
 ENDLESS = "#!/bin/sh\nsleep 600 & echo $! >>calls\necho $$ >>calls\nwait\n"
 FAILS = "#!/bin/sh\necho called >>calls\necho 'rt: map NOT PROVED' >&2\nexit 1\n"
 COMPILER = '#!/bin/sh\necho "$0" "$@" >>words\nexec cc "$@"\n'
-
+# Notes its words, and makes a program that does nothing.
+NO_COMPILER = """\
+#!/bin/sh
+echo "$0" "$@" >>words
+while [ $# -gt 1 ]; do
+    if [ "$1" = -o ]; then ln -sf /bin/true "$2"; fi
+    shift
+done
+"""
 
 CLEARED = ("CC", "CFLAGS", "LDFLAGS", "BELLPULSAR_LIBRARY")
 
@@ -76,8 +84,9 @@ def small_tree(root):
     """A tree whose crates have one small file in each folder."""
     for name in ("build.sh", "bellpulsar", "crates.txt"):
         shutil.copy(os.path.join(ROOT, name), root)
+    ignored = shutil.ignore_patterns("__pycache__")
     for name in ("python", "include", "examples/c"):
-        shutil.copytree(os.path.join(ROOT, name), os.path.join(root, name), ignore=shutil.ignore_patterns("__pycache__"))
+        shutil.copytree(os.path.join(ROOT, name), os.path.join(root, name), ignore=ignored)
     for crate in os.listdir(os.path.join(ROOT, "crates")):
         for part in ("src/lib.rt", "specs/Lib.antt", "proofs/Lib.antt"):
             path = os.path.join(root, "crates", crate, part)
@@ -132,7 +141,8 @@ class Case(unittest.TestCase):
         os.utime(self.path(*names), (10**9, 10**9))
 
     def run_in_tree(self, *command, **env):
-        return subprocess.run(command, cwd=self.tree, env=dict(self.env, **env), capture_output=True, text=True, timeout=60)
+        env = dict(self.env, **env)
+        return subprocess.run(command, cwd=self.tree, env=env, capture_output=True, text=True, timeout=60)
 
     def build(self, *arguments, **env):
         return self.run_in_tree("./build.sh", *arguments, **env)
@@ -272,12 +282,8 @@ class Building(Case):
     def test_two_at_once(self):
         self.stub("rt", PROVES)
         self.edit("crates", "map", "src", "lib.rt")
-        both = [
-            subprocess.Popen(
-                [self.path("build.sh")], env=dict(self.env, PROOF="0.3"), cwd=self.tree, stderr=subprocess.PIPE, text=True
-            )
-            for _ in range(2)
-        ]
+        options = {"env": dict(self.env, PROOF="0.3"), "stderr": subprocess.PIPE, "text": True}
+        both = [subprocess.Popen(["./build.sh"], cwd=self.tree, **options) for _ in range(2)]
         told = [one.communicate(timeout=60)[1] for one in both]
         self.assertEqual(([one.returncode for one in both], len(self.calls())), ([0, 0], 2), told)
         self.assertEqual(sum("waiting" in text for text in told), 1)
@@ -297,6 +303,25 @@ class Building(Case):
             self.assertIn(" -g -DA=1 ", line)
             self.assertIn(" -Wl,-z,now -Wl,-z,relro", line)
 
+    def test_the_compiler_of_the_tests_and_the_benchmark(self):
+        self.stub("mine", NO_COMPILER)
+        self.stub("python3", "#!/bin/sh\n")
+        for name in ("tests/capi", "bench"):
+            shutil.copytree(os.path.join(ROOT, name), self.path(name))
+        os.makedirs(self.path("crates", "plan_vectors"), exist_ok=True)
+        with open(self.path("crates", "plan_vectors", "stdout"), "w"):
+            pass
+        words = {"CC": "env mine", "CFLAGS": "-g -DA=1", "LDFLAGS": "-Wl,-z,now"}
+        for script, compiled in (("tests/capi/run.sh", 4), ("bench/run.sh", 1)):
+            done = self.run_in_tree("sh", script, **words)
+            self.assertEqual(done.returncode, 0, done.stderr)
+            with open(self.path("words")) as file:
+                lines = [line for line in file if " -o " in line and "-x c++" not in line]
+            self.assertEqual(len(lines), compiled, script)
+            for line in lines:
+                self.assertIn(" -g -DA=1 -Wl,-z,now ", line)
+            os.remove(self.path("words"))
+
 
 class Killed(Case):
     """Whoever is killed, no prover runs on, and the next build is not held up."""
@@ -304,7 +329,8 @@ class Killed(Case):
     def prover_ends(self, command, number):
         self.stub("rt", ENDLESS)
         self.edit("crates", "map", "src", "lib.rt")
-        caller = subprocess.Popen(command, cwd=self.tree, env=self.env, stderr=subprocess.DEVNULL, start_new_session=True)
+        options = {"env": self.env, "stderr": subprocess.DEVNULL, "start_new_session": True}
+        caller = subprocess.Popen(command, cwd=self.tree, **options)
         self.assertTrue(until(lambda: len(self.calls()) == 2))
         processes = list(map(int, self.calls()))
         self.assertTrue(all(map(running, processes)))

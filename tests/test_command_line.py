@@ -145,7 +145,8 @@ class Words(Case):
         self.refused(7, "locate 3 256 0 0 256", "carrier 256 is not one of size 256's: 0 to 255")
         self.refused(3, "collisions amc 0 2352", "cell_b 2352 is not one of mode 3's: 0 to 2351")
         self.refused(5, "show 0 2048 0 0 --subchannel 60", "subchannel 60 is not one of mode 0's: 0 to 59")
-        self.refused(5, "picture slot 3 512 0 0 --subchannel 8", "subchannel 8 is not one of mode 3's at size 512: 0 to 7")
+        words = "subchannel 8 is not one of mode 3's at size 512: 0 to 7"
+        self.refused(5, "picture slot 3 512 0 0 --subchannel 8", words)
 
     def test_of_any_size(self):
         self.refused(1, "place %d 0 0 0 0 0" % 2**64, "mode %d is not one of the map's: 0, 1, 2, 3" % 2**64)
@@ -156,7 +157,8 @@ class Words(Case):
         self.refused(10, "plan read 01 80 08 02", "4 bytes end within zone 1's cell, and more must follow")
         self.refused(11, "plan read 81 00", "the count is 81 00, which is not its shortest form")
         self.refused(12, "plan write 1024", "count 0 is not one of a plan's: 1 to 8")
-        self.refused(14, "plan write 1024 3,0,1 2,0,1", "zone 2: mode 2 follows mode 3, after which only mode 3 is accepted")
+        words = "zone 2: mode 2 follows mode 3, after which only mode 3 is accepted"
+        self.refused(14, "plan write 1024 3,0,1 2,0,1", words)
         self.refused(15, "plan read %s 00" % EXAMPLE, "11 bytes are given, and the plan ends after 10")
 
 
@@ -331,6 +333,11 @@ def is_told(title, symbol, carrier, what):
     return int(carriers[0]) == symbol and first <= carrier <= last and content == wanted
 
 
+def reference_places(mode, size, cell, slot, subchannel):
+    """(symbol, carrier) of a subchannel's points."""
+    return [ref.place(mode, size, cell, slot, subchannel, index)[1:] for index in range(48)]
+
+
 def texts(node):
     return [part.text for part in node.iter(SVG + "text")]
 
@@ -375,7 +382,7 @@ class Pictures(Case):
             root = drawing("subchannel", mode, size, ",".join(map(str, cells)), slot, subchannel)
             panels = of_class(root, "g", "panel")
             self.assertEqual(len(panels), len(cells))
-            points = [[ref.place(mode, size, cell, slot, subchannel, index)[1:] for index in range(48)] for cell in cells]
+            points = [reference_places(mode, size, cell, slot, subchannel) for cell in cells]
             for at, (cell, panel, places) in enumerate(zip(cells, panels, points)):
                 marks = of_class(panel, "circle", "point")
                 drawn = [round(float(mark.get("cx")) * size / 1280 - 0.5, 2) for mark in marks]
@@ -391,17 +398,16 @@ class Pictures(Case):
                         if place in its and (mode != ref.AMC or its.index(place) == index)
                     ]
                     self.assertEqual(mark.get("class") == "point shared", others != [], (cell, index))
-                    title = "cell %d, symbol %d, carrier %d: subchannel %d, index %d" % (cell, *place, subchannel, index)
+                    title = "cell %d, symbol %d, carrier %d: " % (cell, *place)
+                    title += "subchannel %d, index %d" % (subchannel, index)
                     title += "".join("; also index %d of cell %d" % (its, other) for other, its in others)
                     self.assertEqual(mark.find(SVG + "title").text, title)
 
     def rings(self, *arguments):
         """The indices that are ringed in each panel."""
         panels = of_class(drawing("subchannel", *arguments), "g", "panel")
-        return [
-            [index for index, mark in enumerate(of_class(panel, "circle", "point")) if mark.get("class") == "point shared"]
-            for panel in panels
-        ]
+        classes = [[mark.get("class") for mark in of_class(panel, "circle", "point")] for panel in panels]
+        return [[index for index, name in enumerate(names) if name == "point shared"] for names in classes]
 
     def test_rings_agree_with_the_collisions(self):
         hits = [j for j, hit in enumerate(ref.amc_collisions(48, 176)[1]) if hit]
@@ -488,6 +494,17 @@ class Usage(Case):
         for words in ("PUSC downlink", "PUSC uplink", "optional FUSC", "AMC", "256 512 1024 2048", "0..2351"):
             self.assertIn(words, text)
 
+    def test_ranges_of_the_help(self):
+        row = r"^  (\d)  ([\w ]+?)  +([\d ]+?)  +0\.\.(\S+) +0\.\.(\S+) +(\d)$"
+        rows = re.findall(row, command_line.RANGES, re.MULTILINE)
+        self.assertEqual([int(row[0]) for row in rows], [0, 1, 2, 3])
+        for row in rows:
+            mode, sizes = int(row[0]), list(map(int, row[2].split()))
+            self.assertEqual((sizes, int(row[5])), (ref.sizes(mode), ref.SLOT_LENGTH[mode]))
+            for size in sizes:
+                last = [eval(formula, {"N": size // 64}) for formula in row[3:5]]
+                self.assertEqual(last, [ref.cells(mode, size) - 1, ref.subchannels(mode, size) - 1])
+
     def test_help_of_each_command(self):
         for name in COMMANDS.split("|"):
             done = asked(*name.split(), "--help")
@@ -519,14 +536,15 @@ class Usage(Case):
             self.assertEqual(asked(*shlex.split(line)).stdout.decode(), text, line)
 
     def test_not_understood(self):
-        lines = ["", "plan", "nothing", "-1", "place 2 1024 17 0 0", "place 2 1024 17 0 0 0 0", "place 2 1024 17 0 0 0 -1"]
-        lines += ["locate 2 1024 17 0 0 --index 3", "collisions 48 176", "plan read", "plan read 01 --file x", "plan write"]
-        lines += ["picture subchannel 0 2048 0 1", "picture subchannel 0 2048 0, 1 1", "picture slot 0 2048 0 1 --output", "show 2 256 0 0 --sub 1"]
+        lines = ["", "nothing", "-1", "place 2 1024 17 0 0", "place 2 1024 17 0 0 0 0", "place 2 1024 17 0 0 0 -1"]
+        lines += ["locate 2 1024 17 0 0 --index 3", "collisions 48 176", "show 2 256 0 0 --sub 1"]
+        lines += ["plan", "plan read", "plan read 01 --file x", "plan write", "picture slot 0 2048 0 1 --output"]
+        lines += ["picture subchannel 0 2048 0 1", "picture subchannel 0 2048 0, 1 1"]
         for line in lines:
             self.not_understood(*line.split())
         done = run("place", 2, 1024, 17, 0, 0, " 1")
         self.assertEqual((done.stdout, done.returncode), (b"", 2))
-        self.assertRegex(done.stderr, rb"^usage: bellpulsar place[\s\S]*: error: argument INDEX: ' 1' is not a number\n$")
+        self.assertRegex(done.stderr, rb"^usage: bellpulsar place[\s\S]*: argument INDEX: ' 1' is not a number\n$")
 
     def test_what_is_no_number(self):
         words = ["x", "1.0", "0x10", "1_000", "", "1 2", "+1", "--1", "-", "1e3", "\u0663", "12\n3x", "-1.svg"]
@@ -568,7 +586,8 @@ class Failures(Case):
     def test_what_cannot_be_told_still_fails(self):
         """Where standard error is closed, full or read by nobody."""
         answer = "place 2 1024 17 0 0 0"
-        for words in ("nothing", "place 2", answer + " >/dev/full", answer + " >&-", "plan read --file /none", "--help >&-"):
+        failures = ["nothing", "place 2", answer + " >/dev/full", answer + " >&-", "plan read --file /none", "--help >&-"]
+        for words in failures:
             for errors in ("2>&-", "2>/dev/full"):
                 done = run_shell("'%s' %s %s" % (COMMAND, words, errors))
                 self.assertEqual(done.returncode, 2, words + errors)

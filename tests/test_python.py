@@ -460,7 +460,8 @@ class Lengths(unittest.TestCase):
         sizes = [*range(0, 4200), 2**16 + 256, 2**31, 2**32 - 1, 2**32 + 256, -256, HUGE]
         for mode in [*range(6), 256, 2**16, 2**32 - 1, 2**32, -1, HUGE]:
             for size in sizes:
-                lengths = ref.points_len(as_engine(mode), as_engine(size)), ref.grid_len(as_engine(mode), as_engine(size))
+                setup = as_engine(mode), as_engine(size)
+                lengths = ref.points_len(*setup), ref.grid_len(*setup)
                 self.assertEqual((bp.points_len(mode, size), bp.grid_len(mode, size)), lengths, (mode, size))
         self.assertEqual(bp.points_len(mode=1, size=2048), 6720)
         for value in (1.0, "1", None):

@@ -93,8 +93,8 @@ PUSC_DL, PUSC_UL, OFUSC, AMC = 0, 1, 2, 3
 
 
 class Refusal(Exception):
-    """The engine refused a request: `number` and `question` are those of document 01, `words` say what was asked, the value
-    given and what would be accepted."""
+    """The engine refused a request: `number` and `question` are those of document 01, `words` say what was asked, the
+    value given and what would be accepted."""
 
     def __init__(self, number, words):
         super().__init__(number, words)
@@ -219,8 +219,8 @@ def points_len(mode, size):
 
 
 def grid_len(mode, size):
-    """The floats of a slot's grid, 2 for each carrier of each of its symbols; 0 for a mode and size that the map does not
-    have."""
+    """The floats of a slot's grid, 2 for each carrier of each of its symbols; 0 for a mode and size that the map does
+    not have."""
     return engine.bp_grid_len(*numbers(mode, size))
 
 

@@ -268,8 +268,9 @@ class Mark(NamedTuple):
 
 
 def marks_of(mode, cells, subchannel, points):
-    """The marks of each panel. A point is shared where another cell of the picture has one on the same symbol and carrier;
-    in AMC, where all cells share a subchannel's carriers, where it has the same index there, as in its collisions."""
+    """The marks of each panel. A point is shared where another cell of the picture has one on the same symbol and
+    carrier. In AMC, where all cells share a subchannel's carriers, that one must have the same index too, as in its
+    collisions."""
     panels = []
     for at, (cell, places) in enumerate(zip(cells, points)):
         others = [(other, its) for number, (other, its) in enumerate(zip(cells, points)) if number != at]
