@@ -4,7 +4,6 @@ The engine alone judges a request. What stands here only explains the number tha
 explain, the words are those of document 01's question.
 """
 
-import operator
 from typing import Callable, NamedTuple, Tuple
 
 # The questions of document 01, by number.
@@ -58,7 +57,6 @@ PLAN_SLOTS = range(1, SLOTS + 1)
 
 
 def shown(value):
-    value = operator.index(value)
     return str(value) if abs(value) < 10**20 else "of more than 20 digits"
 
 
@@ -162,11 +160,13 @@ def zone_words(number, size, zones, at):
     asked = {"mode": mode, "size": size, "cell": cell}
     if number == 1:
         return not_one_of("mode", mode, "a plan's", PLAN_MODES)
-    if number == 14:
-        return order_words(size, zones, at)
+    if number == 2:
+        return size_words("size", asked)
+    if number == 3:
+        return cell_words("cell", asked)
     if number == 13:
         return not_one_of("slots", slots, "a zone's", PLAN_SLOTS)
-    return {2: size_words, 3: cell_words}[number]({2: "size", 3: "cell"}[number], asked)
+    return order_words(size, zones, at)
 
 
 def places_words(count, zones):
@@ -180,13 +180,14 @@ def places_words(count, zones):
 def plan_words(number, count, size, zones):
     """Of a plan's own questions: 12, 2, and for each zone 1, 2, 3, 13, 14."""
     if number == 12:
-        told = not_one_of("count", count, "a plan's", PLAN_COUNTS) or places_words(count, zones)
-    else:
-        told = not_one_of("size", size, "a plan's", SIZES) if number == 2 else None
-        for at in range(len(zones[:count])):
-            found = None if told else zone_words(number, size, zones, at)
-            told = "zone %d: %s" % (at + 1, found) if found else told
-    return told or QUESTIONS[number]
+        return not_one_of("count", count, "a plan's", PLAN_COUNTS) or places_words(count, zones) or QUESTIONS[number]
+    if number == 2 and size not in SIZES:
+        return not_one_of("size", size, "a plan's", SIZES)
+    for at in range(len(zones[:count])):
+        told = zone_words(number, size, zones, at)
+        if told:
+            return "zone %d: %s" % (at + 1, told)
+    return QUESTIONS[number]
 
 
 def value_length(value):
