@@ -1,19 +1,104 @@
 #!/bin/sh
-# Proves the engine and builds its C library, target/lib/libbellpulsar.a and target/lib/libbellpulsar.so; nothing is done
-# where both are there and newer than all they are made from.
-set -eu
+# Proves the engine and builds its C library, build/libbellpulsar.a and build/libbellpulsar.so. Nothing is done where both
+# are made from what the tree has now: that goes by content, whose hash is in build/stamp.
+#
+#     ./build.sh            builds what is missing or old; status 0, or 2 where that fails
+#     ./build.sh --check    builds nothing; status 0 where both are current, 1 where they are not
+#
+# CC (which may be several words), CFLAGS and LDFLAGS are used where the shared library is linked; they are no part of
+# the hash.
+set -euf
+
+# A stream that is closed would become the next pipe or file that is opened.
+(: >&2) || exec 2>/dev/null
+(: >&1) 2>/dev/null || exec >/dev/null
+(: <&0) 2>/dev/null || exec </dev/null
+
 cd "$(dirname "$0")"
-out=target/lib
-if [ -e "$out/libbellpulsar.a" ] && [ -e "$out/libbellpulsar.so" ] &&
-    [ -z "$(find build.sh crates.txt crates/*/src crates/*/specs crates/*/proofs -newer "$out/libbellpulsar.so" -print -quit)" ]; then
-    exit 0
+case $# in
+0) ;;
+*) [ "$*" = --check ] || { echo "usage: build.sh [--check]" >&2; exit 2; } ;;
+esac
+
+# Standard error may be full.
+say() { echo "bellpulsar: $*" >&2 || :; }
+
+# The crates that the library is made from, each after those that it needs.
+crates=$(awk -F: '
+    function visit(name, parts, n, i) {
+        if (name in seen || !(name in needs)) return
+        seen[name] = 1
+        n = split(needs[name], parts, " ")
+        for (i = 1; i <= n; i++) visit(parts[i])
+        print name
+    }
+    { sub(/#.*/, ""); needs[$1] = $2 }
+    END { visit("capi") }' crates.txt)
+sources=$(for crate in $crates; do
+    for part in src specs proofs; do
+        [ ! -d "crates/$crate/$part" ] || echo "crates/$crate/$part"
+    done
+done)
+
+# The hash of all that the library is made from.
+content() {
+    find build.sh crates.txt $sources -type f -print0 | LC_ALL=C sort -z | xargs -0 sha256sum | sha256sum
+}
+
+is_current() {
+    [ -e build/libbellpulsar.a ] && [ -e build/libbellpulsar.so ] && [ -e build/stamp ] &&
+        [ "$(cat build/stamp)" = "$(content)" ]
+}
+
+if is_current; then exit 0; fi
+if [ $# -eq 1 ]; then exit 1; fi
+trap '[ $? -eq 0 ] || exit 2' EXIT
+
+# One build at a time. The prover's processes hold the lock too: it is free when the last of them has ended.
+mkdir -p build
+exec 9>build/lock
+if ! flock -n 9; then
+    say "waiting for another build to end"
+    flock 9
+    if is_current; then exit 0; fi
 fi
-mkdir -p "$out"
-echo "bellpulsar: proving and building the engine (about two minutes the first time)" >&2
-if ! rt staticlib capi >"$out/build.log" 2>&1; then
-    cat "$out/build.log" >&2
-    exit 1
+new=build/new
+rm -rf "$new"
+mkdir "$new"
+now=$(content)
+total=$(echo "$crates" | wc -l)
+say "proving and building the engine, $total crates (about two minutes the first time)"
+
+# The prover has a session of its own, in which a watcher reads from a pipe that only this script can write to. So where
+# this script ends, whatever ends it, the watcher reads the pipe's end and kills the session's processes.
+mkfifo "$new/alive" "$new/said"
+exec 7<>"$new/alive" 8<"$new/alive"
+exec 6>build/log
+setsid --wait sh -c '
+    { read -r nothing <&8; kill -s KILL -- "-$$"; } >/dev/null 2>&1 9>&- &
+    exec rt staticlib capi 8<&-' >"$new/said" 2>&1 6>&- 7>&- &
+prover=$!
+proved=0
+while IFS= read -r line; do
+    printf '%s\n' "$line" >&6
+    case $line in
+    "rt: "*" proved ("*)
+        proved=$((proved + 1)) crate=${line#rt: }
+        say "${crate%% *} proved ($proved of $total)"
+        ;;
+    esac
+done <"$new/said"
+if ! wait "$prover"; then
+    cat build/log >&2 || :
+    exit 2
 fi
-cp target/staticlib/libcapi.a "$out/libbellpulsar.a"
-"${CC:-cc}" -shared -Wl,-soname,libbellpulsar.so -o "$out/libbellpulsar.so.new" -Wl,--whole-archive "$out/libbellpulsar.a" -Wl,--no-whole-archive
-mv "$out/libbellpulsar.so.new" "$out/libbellpulsar.so"
+say "capi proved ($total of $total)"
+
+cp target/staticlib/libcapi.a "$new/libbellpulsar.a"
+${CC:-cc} ${CFLAGS-} ${LDFLAGS-} -shared -Wl,-soname,libbellpulsar.so -o "$new/libbellpulsar.so" \
+    -Wl,--whole-archive "$new/libbellpulsar.a" -Wl,--no-whole-archive
+echo "$now" >"$new/stamp"
+rm -f build/stamp
+mv "$new/libbellpulsar.a" "$new/libbellpulsar.so" build
+mv "$new/stamp" build
+rm -rf "$new"

@@ -4,8 +4,8 @@ set -eu
 cd "$(dirname "$0")/.."
 ./build.sh
 cc=${CC:-cc}
-flags="-std=c11 -O3"
-"$cc" $flags -D_POSIX_C_SOURCE=199309L -Wall -Wextra -Wpedantic -Werror -I include \
-    -DBENCH_FLAGS="\"$flags\"" -DBENCH_COMPILER="\"$("$cc" --version | head -n 1)\"" \
-    bench/bench.c bench/requests.c bench/plain_map.c bench/plain_plan.c target/lib/libbellpulsar.a -o target/bench
-exec target/bench "$@"
+flags="-std=c11 -O3${CFLAGS:+ $CFLAGS}"
+$cc $flags ${LDFLAGS-} -D_POSIX_C_SOURCE=199309L -Wall -Wextra -Wpedantic -Werror -I include \
+    -DBENCH_FLAGS="\"$flags\"" -DBENCH_COMPILER="\"$($cc --version | head -n 1)\"" \
+    bench/bench.c bench/requests.c bench/plain_map.c bench/plain_plan.c build/libbellpulsar.a -o build/bench
+exec build/bench "$@"

@@ -5,8 +5,8 @@
 #
 #     sh examples/expected.sh PREFIX
 #
-# PREFIX and the example's name make the command: "target/" runs target/point, "target/rust_example " runs
-# target/rust_example with point as its first argument.
+# PREFIX and the example's name make the command: "build/" runs build/point, "build/rust_example " runs
+# build/rust_example with point as its first argument.
 set -eu
 prefix=$1
 
@@ -41,9 +41,9 @@ expect 1 "refused 6: Is the index below 48?" point 2 1024 17 0 0 48
 expect 1 "refused 1: Is the mode listed (in a plan: 0, 2 or 3)?" point 4294967298 1024 17 0 0 0
 expect 1 "refused 3: Is the cell in range?" point 2 1024 -1 0 0 0
 expect 1 "refused 6: Is the index below 48?" point 2 1024 17 0 0 340282366920938463463374607431768211456
-expect 2 "" point 2 1024 17 0 0 first
-expect 2 "" point 2 1024 17 0 0 ""
-expect 2 "" point 2 1024 17 0 0 " -18446744073709551615"
+for word in first "" " 3" "3 " "	3" " -18446744073709551615" "- 3" - --3 +3 1_0 0x1 1.0 1e3 "٣"; do
+    expect 2 "" point 2 1024 17 0 0 "$word"
+done
 expect 2 "" point 2 1024 17 0 0
 
 expect 0 "groups 0 1 31 32
@@ -75,7 +75,6 @@ for word in 100 1 0x1 " 1" -1 +1 0g ""; do
     expect 2 "" plan "$word"
 done
 
-expect 2 "" point 2 1024 +17 0 0 0
 expect 2 "" point "$(printf '\377')" 1024 17 0 0 0
 
 # Text that cannot be written is no answer, nor a refusal.

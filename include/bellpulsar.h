@@ -3,9 +3,10 @@
  * Link with libbellpulsar.a or libbellpulsar.so; nothing else is needed but the C library. The engine keeps no state, so
  * calls may run side by side on different buffers.
  *
- * ANSWERS. Every call returns 0, or the number of the first question of document 01 that is answered no. The questions are
- * put in the order in which a call lists its refusals, each only after a yes to all before it. On a refusal nothing is
- * written: every out parameter and buffer keeps its contents. Buffers that are `const` are never written.
+ * ANSWERS. Every call but bp_points_len and bp_grid_len returns 0, or the number of the first question of document 01 that is
+ * answered no (enum bp_refusal). The questions are put in the order in which a call lists its refusals, each only after a yes
+ * to all before it. On a refusal nothing is written: every out parameter and buffer keeps its contents. Buffers that are
+ * `const` are never written.
  *
  * POINTERS are aligned for their type, and what is written overlaps nothing else. They are not null and are valid for
  * their stated length whatever the other fields hold, except that a buffer of length 0 may have any pointer.
@@ -34,24 +35,9 @@
  * The points of a slot stand by subchannel, then index: point `index` of `subchannel` is at 2 * (48 * subchannel + index).
  * The grid of a slot stands symbol after symbol, each by rising carrier: the point on `carrier` in the symbol with this
  * offset in the slot is at 2 * (offset * size + carrier).
- *
- * REFUSALS
- *    1 the mode is none of 0, 1, 2, 3 (in a zone plan: none of 0, 2, 3)
- *    2 the size is not one of that mode's
- *    3 the cell is out of range
- *    4 the slot, or the zone's symbol, is out of range
- *    5 the subchannel is out of range
- *    6 the index is not below 48
- *    7 the carrier is not below the size
- *    8 points_len is not that of the mode and size
- *    9 grid_len is not that of the mode and size
- *   10 a plan's bytes end within a value, before its third group
- *   11 a value goes on after its third group, or is not in its shortest form
- *   12 a plan's count of zones is not 1 to 8, or (writing) a place past the count is not all zero
- *   13 a zone's slots are not 1 to 512
- *   14 a zone is out of order: at size 2048 the first is mode 0 with cell 0; at every size only mode 3 follows mode 3
- *   15 bytes are left over behind a plan
- *   16 the destination is too short for the plan
+ * Complex numbers fit: an array of `float complex` (C) or `std::complex<float>` (C++) is such a buffer, cast to float *, with
+ * two floats for each of its elements, the real part first. Before an inverse FFT that takes DC first, the two halves of a
+ * symbol's carriers change places, since DC stands at size / 2 here.
  */
 #ifndef BELLPULSAR_H
 #define BELLPULSAR_H
@@ -63,6 +49,43 @@
 extern "C" {
 #endif
 
+/* Numbers by name, for fields and answers, which are all uint32_t. */
+enum bp_mode {
+    BP_PUSC_DL = 0, /* PUSC downlink */
+    BP_PUSC_UL = 1, /* PUSC uplink */
+    BP_OFUSC = 2,   /* optional FUSC */
+    BP_AMC = 3      /* AMC */
+};
+
+/* What a carrier holds. bp_look tells guard and DC alike, as BP_NOTHING. */
+enum bp_kind {
+    BP_GUARD = 0,
+    BP_DC = 1,
+    BP_PILOT = 2,
+    BP_DATA = 3,
+    BP_NOTHING = 0
+};
+
+enum bp_refusal {
+    BP_ACCEPTED = 0,
+    BP_REFUSED_MODE = 1,        /* the mode is none of 0, 1, 2, 3 (in a zone plan: none of 0, 2, 3) */
+    BP_REFUSED_SIZE = 2,        /* the size is not one of that mode's (of a plan: none of 256, 512, 1024, 2048) */
+    BP_REFUSED_CELL = 3,        /* the cell is out of range */
+    BP_REFUSED_SLOT = 4,        /* the slot, or the zone's symbol, is out of range */
+    BP_REFUSED_SUBCHANNEL = 5,  /* the subchannel is out of range */
+    BP_REFUSED_INDEX = 6,       /* the index is not below 48 */
+    BP_REFUSED_CARRIER = 7,     /* the carrier is not below the size */
+    BP_REFUSED_POINTS_LEN = 8,  /* points_len is not that of the mode and size */
+    BP_REFUSED_GRID_LEN = 9,    /* grid_len is not that of the mode and size */
+    BP_REFUSED_CUT_SHORT = 10,  /* a plan's bytes end within a value, before its third group */
+    BP_REFUSED_FORM = 11,       /* a value goes on after its third group, or is not in its shortest form */
+    BP_REFUSED_COUNT = 12,      /* a plan's count of zones is not 1 to 8, or (writing) a place past it is not all zero */
+    BP_REFUSED_ZONE_SLOTS = 13, /* a zone's slots are not 1 to 512 */
+    BP_REFUSED_ORDER = 14,      /* at size 2048 the first zone is not mode 0 with cell 0; another mode follows mode 3 */
+    BP_REFUSED_LEFT_OVER = 15,  /* bytes are left over behind a plan */
+    BP_REFUSED_DEST_LEN = 16    /* the destination is too short for the plan */
+};
+
 /* Where point `index` of a subchannel lies in a slot.
  *
  * Written where it is accepted: *symbol, the zone's symbol (in the slot asked for), and *carrier.
@@ -72,11 +95,18 @@ uint32_t bp_place(uint32_t mode, uint32_t size, uint32_t cell, uint32_t slot, ui
 
 /* What a carrier holds in a symbol of the zone: the reverse of bp_place.
  *
- * Written where it is accepted: *kind, 0 guard, 1 DC, 2 pilot, 3 data; and where that is 3 (else they keep their
- * contents) *slot, *subchannel and *index, whose point bp_place puts there.
+ * Written where it is accepted: *kind (enum bp_kind), 0 guard, 1 DC, 2 pilot, 3 data; and where that is 3 (else they keep
+ * their contents) *slot, *subchannel and *index, whose point bp_place puts there.
  * Refusals, in this order: 1 mode, 2 size, 3 cell, 4 symbol, 7 carrier. */
 uint32_t bp_locate(uint32_t mode, uint32_t size, uint32_t cell, uint32_t symbol, uint32_t carrier,
                    uint32_t *kind, uint32_t *slot, uint32_t *subchannel, uint32_t *index);
+
+/* The floats of a slot's points, 96 for each subchannel; 0 for a mode and size that the map does not have. */
+size_t bp_points_len(uint32_t mode, uint32_t size);
+
+/* The floats of a slot's grid, 2 for each carrier of each symbol of a slot; 0 for a mode and size that the map does not
+ * have. */
+size_t bp_grid_len(uint32_t mode, uint32_t size);
 
 /* Lays a slot's points on its grid.
  *
@@ -99,7 +129,7 @@ uint32_t bp_empty(uint32_t mode, uint32_t size, uint32_t cell, uint32_t slot,
 /* The point on a carrier in a symbol of the zone, and whose it is.
  *
  * grid: grid_len floats, the whole grid of the symbol's slot; the point is read from it as it stands.
- * Written where it is accepted: *kind, 0 nothing (a guard or DC, whatever the grid holds there), 2 pilot, 3 data;
+ * Written where it is accepted: *kind (enum bp_kind), 0 nothing (a guard or DC, whatever stands there), 2 pilot, 3 data;
  * point[0] and point[1] where that is 2 or 3; *slot, *subchannel and *index where it is 3. What is not written keeps its
  * contents.
  * Refusals, in this order: 1 mode, 2 size, 3 cell, 4 symbol, 7 carrier, 9 grid_len. */

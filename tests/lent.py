@@ -12,7 +12,7 @@ import struct
 import subprocess
 
 ROOT = os.path.dirname(os.path.dirname(os.path.abspath(__file__)))
-LIBRARY = os.path.join(ROOT, "target", "lib", "libbellpulsar.so")
+LIBRARY = os.path.join(ROOT, "build", "libbellpulsar.so")
 
 FIELD, LENGTH, POINTER = ctypes.c_uint32, ctypes.c_size_t, ctypes.c_void_p
 
@@ -20,6 +20,8 @@ FIELD, LENGTH, POINTER = ctypes.c_uint32, ctypes.c_size_t, ctypes.c_void_p
 SIGNATURES = {
     "bp_place": "ffffffpp",
     "bp_locate": "fffffpppp",
+    "bp_points_len": "ff",
+    "bp_grid_len": "ff",
     "bp_fill": "ffffppnpn",
     "bp_empty": "ffffpnpn",
     "bp_look": "ffffpnfppppp",
@@ -37,7 +39,7 @@ def load():
     for name, signature in SIGNATURES.items():
         call = getattr(library, name)
         call.argtypes = [{"f": FIELD, "p": POINTER, "n": LENGTH}[kind] for kind in signature]
-        call.restype = FIELD
+        call.restype = LENGTH if name.endswith("_len") else FIELD
     return library
 
 

@@ -115,6 +115,22 @@ class Locate:
         return fields + list(map(self.arena.address, range(4))), [], number, written, met
 
 
+class PointsLen:
+    """Its answer is no refusal, but is compared as one; 0 is that of a mode and size which the map does not have."""
+
+    name, arena, length = "bp_points_len", Arena(), staticmethod(ref.points_len)
+    refusals, cases = sorted({ref.points_len(*setup) for setup in SETUPS}), []
+
+    def request(self, dice, noise, mode, size, cell, slot):
+        fields = spoiled(dice, [mode, size], setup_limits(mode, size), {1: other_size})
+        return fields, [], self.length(*fields), [], []
+
+
+class GridLen(PointsLen):
+    name, length = "bp_grid_len", staticmethod(ref.grid_len)
+    refusals = sorted({ref.grid_len(*setup) for setup in SETUPS})
+
+
 @lru_cache(maxsize=64)
 def fill_sources(mode, size, cell, slot):
     """For each float of the filled grid, which of (0, the pilot's two, the points') it is: the reference fills a grid
@@ -326,7 +342,7 @@ class PlanWrite:
         return arguments, [(0, words(numbers[2:]))], number, written, []
 
 
-CALLS = [Place, Locate, Fill, Empty, Look, OfuscCollisions, AmcCollisions, PlanRead, PlanWrite]
+CALLS = [Place, Locate, PointsLen, GridLen, Fill, Empty, Look, OfuscCollisions, AmcCollisions, PlanRead, PlanWrite]
 
 
 # --- the run ----------------------------------------------------------------------------------
@@ -344,9 +360,8 @@ class Tally:
             self.met.update(met)
 
     def text(self):
-        refused = ", ".join("%d: %d" % (n, self.numbers[n]) for n in sorted(self.numbers) if n)
-        total = sum(self.numbers.values())
-        return "%-20s %d requests, %d accepted; refused %s" % (self.call.name, total, self.numbers[0], refused)
+        answers = ", ".join("%d: %d" % (n, self.numbers[n]) for n in sorted(self.numbers))
+        return "%-20s %d requests; answers %s" % (self.call.name, sum(self.numbers.values()), answers)
 
     def missing(self):
         """The answers and the cases that never occurred."""

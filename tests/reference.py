@@ -129,6 +129,15 @@ def grid_floats(mode, size):
     return 2 * size * SLOT_LENGTH[mode]
 
 
+def points_len(mode, size):
+    """As the call answers it: 0 for a mode and size that the map does not have."""
+    return 0 if setup_refusal(mode, size, 0) else 96 * subchannels(mode, size)
+
+
+def grid_len(mode, size):
+    return 0 if setup_refusal(mode, size, 0) else grid_floats(mode, size)
+
+
 # --- carriers ---------------------------------------------------------------------------------
 
 

@@ -4,11 +4,13 @@
     python3 tests/test_command_line.py
 """
 
+import contextlib
+import io
 import os
 import re
 import shlex
-import shutil
 import subprocess
+import sys
 import tempfile
 import unittest
 import xml.etree.ElementTree as ElementTree
@@ -16,25 +18,12 @@ import xml.etree.ElementTree as ElementTree
 import reference as ref
 
 ROOT = os.path.dirname(os.path.dirname(os.path.abspath(__file__)))
+sys.path.insert(0, os.path.join(ROOT, "python"))
+
+from bellpulsar import command_line  # noqa: E402
+
 COMMAND = os.path.join(ROOT, "bellpulsar")
 SVG = "{http://www.w3.org/2000/svg}"
-
-QUESTION = {
-    1: "Is the mode listed (in a plan: 0, 2 or 3)?",
-    2: "Is the size that mode's (of a plan: 256, 512, 1024 or 2048)?",
-    3: "Is the cell in range?",
-    4: "Is the slot below 512, the zone's symbol below 512 times the slot length?",
-    5: "Is the subchannel in range?",
-    6: "Is the index below 48?",
-    7: "Is the carrier below the size?",
-    10: "Do the bytes reach to the value's end or its third group?",
-    11: "Does the value end by its third group, in shortest form?",
-    12: "Is the count 1 to 8, and in writing every place past it zero?",
-    13: "Are the slots 1 to 512?",
-    14: "At 2048, is the first zone mode 0 with cell 0, and does nothing but mode 3 follow mode 3?",
-    15: "Are the bytes used up?",
-}
-
 
 # As a user has it: buffered output, and the library of this tree.
 ENV = {name: value for name, value in os.environ.items() if name not in ("PYTHONUNBUFFERED", "BELLPULSAR_LIBRARY")}
@@ -46,24 +35,41 @@ def run(*arguments, env=ENV, **options):
     return subprocess.run(command, capture_output=True, timeout=60, env=env, **options)
 
 
+def asked(*arguments):
+    """The same in this process, which is much faster."""
+    out, err = io.TextIOWrapper(io.BytesIO()), io.TextIOWrapper(io.BytesIO())
+    with contextlib.redirect_stdout(out), contextlib.redirect_stderr(err):
+        try:
+            status = command_line.main([str(word) for word in arguments])
+        except SystemExit as ended:
+            status = ended.code or 0
+        out.flush(), err.flush()
+    return subprocess.CompletedProcess(arguments, status, out.buffer.getvalue(), err.buffer.getvalue())
+
+
 def run_shell(line):
     return subprocess.run(["sh", "-c", line], capture_output=True, timeout=60, env=ENV)
 
 
 class Case(unittest.TestCase):
     def prints(self, line, text, **options):
-        done = run(*shlex.split(line), **options)
+        done = run(*shlex.split(line), **options) if options else asked(*shlex.split(line))
         self.assertEqual((done.stdout.decode(), done.stderr, done.returncode), (text, b"", 0), line)
 
-    def refused(self, number, line, **options):
-        done = run(*shlex.split(line), **options)
-        text = "refused %d: %s\n" % (number, QUESTION[number])
-        self.assertEqual((done.stdout.decode(), done.stderr, done.returncode), (text, b"", 1), line)
+    def refused(self, number, line, words=None, **options):
+        """With these words, or with any that are not the question alone."""
+        done = run(*shlex.split(line), **options) if options else asked(*shlex.split(line))
+        start, told = done.stdout.decode().split(": ", 1)
+        self.assertEqual((start, done.stderr, done.returncode), ("refused %d" % number, b"", 1), line)
+        self.assertRegex(told, r"^[^?\n]+\n$", line)
+        if words:
+            self.assertEqual(told, words + "\n", line)
 
-    def not_understood(self, line):
-        done = run(*shlex.split(line))
-        self.assertEqual((done.stdout, done.returncode), (b"", 2), line)
-        self.assertRegex(done.stderr.decode(), r"^usage: bellpulsar[\s\S]*: error: ", line)
+    def not_understood(self, *arguments):
+        done = asked(*arguments)
+        self.assertEqual((done.stdout, done.returncode), (b"", 2), arguments)
+        self.assertRegex(done.stderr.decode(), r"^usage: bellpulsar[\s\S]*: error: [^\0]*\n$", arguments)
+        self.assertNotIn(b"x00", done.stderr)
 
     def fails(self, message, *arguments, **options):
         done = run(*arguments, **options)
@@ -74,6 +80,12 @@ class Case(unittest.TestCase):
 
 
 class Map(Case):
+    def test_as_a_process(self):
+        done = run("place", 2, 1024, 17, 0, 0, 0)
+        self.assertEqual((done.stdout, done.stderr, done.returncode), (b"symbol 0 carrier 87\n", b"", 0))
+        done = run("place", 2, 1024, 256, 0, 0, 0)
+        self.assertEqual((done.stdout[:11], done.stderr, done.returncode), (b"refused 3: ", b"", 1))
+
     def test_place(self):
         self.prints("place 2 1024 0 0 3 5", "symbol 0 carrier 553\n")
         self.prints("place 2 1024 0 1 3 5", "symbol 1 carrier 552\n")
@@ -119,6 +131,35 @@ class Map(Case):
         self.refused(3, "place 2 1024 -1 -1 -1 -1")
         self.refused(2, "place 2 -1 -1 -1 -1 -1")
         self.refused(4, "locate 2 1024 0 512 1024")
+
+
+class Words(Case):
+    """A refusal says what was asked, the value given and what would be accepted."""
+
+    def test_of_fields(self):
+        self.refused(1, "place 4 1024 256 0 0 0", "mode 4 is not one of the map's: 0, 1, 2, 3")
+        self.refused(2, "place 0 1024 0 0 0 0", "size 1024 is not one of mode 0's: 2048")
+        self.refused(3, "place 2 1024 256 0 0 0", "cell 256 is not one of mode 2's at size 1024: 0 to 255")
+        self.refused(4, "locate 1 2048 0 1536 0", "symbol 1536 is not one of mode 1's: 0 to 1535")
+        self.refused(6, "place 2 1024 0 0 0 -1", "index -1 is not one of a subchannel's: 0 to 47")
+        self.refused(7, "locate 3 256 0 0 256", "carrier 256 is not one of size 256's: 0 to 255")
+        self.refused(3, "collisions amc 0 2352", "cell_b 2352 is not one of mode 3's: 0 to 2351")
+        self.refused(5, "show 0 2048 0 0 --subchannel 60", "subchannel 60 is not one of mode 0's: 0 to 59")
+        words = "subchannel 8 is not one of mode 3's at size 512: 0 to 7"
+        self.refused(5, "picture slot 3 512 0 0 --subchannel 8", words)
+
+    def test_of_any_size(self):
+        self.refused(1, "place %d 0 0 0 0 0" % 2**64, "mode %d is not one of the map's: 0, 1, 2, 3" % 2**64)
+        words = "cell of more than 20 digits is not one of mode 0's: 0 to 31"
+        self.refused(3, "place 0 2048 %s 0 0 0" % ("9" * 6000), words)
+
+    def test_of_plans(self):
+        self.refused(10, "plan read 01 80 08 02", "4 bytes end within zone 1's cell, and more must follow")
+        self.refused(11, "plan read 81 00", "the count is 81 00, which is not its shortest form")
+        self.refused(12, "plan write 1024", "count 0 is not one of a plan's: 1 to 8")
+        words = "zone 2: mode 2 follows mode 3, after which only mode 3 is accepted"
+        self.refused(14, "plan write 1024 3,0,1 2,0,1", words)
+        self.refused(15, "plan read %s 00" % EXAMPLE, "11 bytes are given, and the plan ends after 10")
 
 
 class Collisions(Case):
@@ -175,6 +216,8 @@ class Plans(Case):
             with open(path, "wb") as file:
                 file.write(data)
             self.prints("plan read --file '%s'" % path, EXAMPLE_TEXT)
+            os.rename(path, os.path.join(directory, "-1"))
+            self.prints("plan read --file -1", EXAMPLE_TEXT, cwd=directory)
 
     def test_write(self):
         self.prints("plan write 1024 2,17,3 3,176,1", EXAMPLE + "\n")
@@ -221,14 +264,14 @@ class Show(Case):
                 last = ref.cells(mode, size) - 1, ref.subchannels(mode, size) - 1
                 for cell, symbol, picked in ((0, 1, None), (last[0], 511, last[1]), (1, 2, 0)):
                     pick = [] if picked is None else ["--subchannel", picked]
-                    done = run("show", mode, size, cell, symbol, *pick)
+                    done = asked("show", mode, size, cell, symbol, *pick)
                     rows = done.stdout.decode().splitlines()[1:-1]
                     self.assertEqual([int(row[:7]) for row in rows], list(range(0, size, 64)))
                     self.assertEqual({row[7:9] for row in rows}, {"  "})
                     self.assertEqual("".join(row[9:] for row in rows), shown(mode, size, cell, symbol, picked))
 
     def test_legend_without_a_subchannel(self):
-        done = run("show", 3, 256, 0, 0)
+        done = asked("show", 3, 256, 0, 0)
         self.assertEqual(done.stdout.decode().splitlines()[-1], "- guard  D DC  P pilot  . data")
 
     def test_refusals(self):
@@ -247,7 +290,7 @@ CARRIER, SYMBOL, BAND = 5, 20, 256  # how a slot is drawn: width, height, carrie
 
 
 def drawing(*arguments):
-    done = run("picture", *arguments)
+    done = asked("picture", *arguments)
     assert (done.stderr, done.returncode) == (b"", 0), done
     return ElementTree.fromstring(done.stdout)
 
@@ -257,17 +300,17 @@ def of_class(root, tag, name):
 
 
 def drawn_slot(root):
-    """The class of each (symbol in the slot, carrier), from the outlines of the paths."""
-    found = {}
+    """The class of each (symbol in the slot, carrier), and what one is told who points at it, from the outlines."""
+    found, told = {}, {}
     for number, band in enumerate(of_class(root, "g", "band")):
-        for path in band.iter(SVG + "path"):
-            outline = re.findall(r"M(\d+) (\d+)h(\d+)v20h-\3z", path.get("d"))
-            for x, y, width in (map(int, part) for part in outline if path.get("class")):
+        for part in band.iter(SVG + "g"):
+            for path in part.iter(SVG + "path") if part is not band else ():
+                x, y, width = map(int, re.fullmatch(r"M(\d+) (\d+)h(\d+)v20h-\3z", path.get("d")).groups())
                 for carrier in range(x // CARRIER, (x + width) // CARRIER):
                     place = (y // SYMBOL, BAND * number + carrier)
                     assert place not in found
-                    found[place] = path.get("class")
-    return found
+                    found[place], told[place] = part.get("class"), path.find(SVG + "title").text
+    return found, told
 
 
 def slot_as_drawn(mode, size, cell, slot, picked):
@@ -281,6 +324,20 @@ def slot_as_drawn(mode, size, cell, slot, picked):
     return found
 
 
+def is_told(title, symbol, carrier, what):
+    """Whether a title says of this symbol and carrier what the reference has there."""
+    where, content = title.split(": ")
+    carriers = re.fullmatch(r"symbol (\d+), carriers? (\d+)(?: to (\d+))?", where).groups()
+    first, last = int(carriers[1]), int(carriers[2] or carriers[1])
+    wanted = "subchannel %d, index %d" % what[2:] if what[0] == ref.DATA else {ref.DC: "DC"}.get(what[0], what[0])
+    return int(carriers[0]) == symbol and first <= carrier <= last and content == wanted
+
+
+def reference_places(mode, size, cell, slot, subchannel):
+    """(symbol, carrier) of a subchannel's points."""
+    return [ref.place(mode, size, cell, slot, subchannel, index)[1:] for index in range(48)]
+
+
 def texts(node):
     return [part.text for part in node.iter(SVG + "text")]
 
@@ -289,9 +346,14 @@ class Pictures(Case):
     def test_every_carrier_of_a_slot(self):
         for mode, size, cell, slot in ((0, 2048, 5, 3), (1, 2048, 69, 511), (2, 256, 15, 2), (3, 1024, 2351, 1)):
             root = drawing("slot", mode, size, cell, slot)
-            self.assertEqual(drawn_slot(root), slot_as_drawn(mode, size, cell, slot, None))
+            found, told = drawn_slot(root)
+            self.assertEqual(found, slot_as_drawn(mode, size, cell, slot, None))
+            for (offset, carrier), title in told.items():
+                symbol = slot * ref.SLOT_LENGTH[mode] + offset
+                what = ref.locate(mode, size, cell, symbol, carrier)[1]
+                self.assertTrue(is_told(title, symbol, carrier, what), title)
             self.assertEqual(len(of_class(root, "g", "band")), size // BAND)
-            fills = {path.get("class"): path.get("fill") for path in root.iter(SVG + "path") if path.get("class")}
+            fills = {part.get("class"): part.get("fill") for part in root.iter(SVG + "g") if part.get("fill")}
             self.assertEqual(len(set(fills.values())), 3 + ref.subchannels(mode, size))
             words = texts(root)
             for word in ("guard", "DC", "pilot", "carrier", "symbol", str(size - 1)):
@@ -302,26 +364,26 @@ class Pictures(Case):
 
     def test_the_legend_has_the_colours_of_the_paths(self):
         root = drawing("slot", 0, 2048, 5, 3)
-        fills = {path.get("class"): path.get("fill") for path in root.iter(SVG + "path")}
+        fills = {part.get("class"): part.get("fill") for part in root.iter(SVG + "g")}
         swatches = [box.get("fill") for box in of_class(root, "g", "legend")[1].iter(SVG + "rect")]
         self.assertEqual(swatches, [fills["subchannel-%d" % number] for number in range(60)])
 
     def test_a_subchannel_picked_out(self):
         root = drawing("slot", 2, 1024, 17, 0, "--subchannel", 3)
-        found = drawn_slot(root)
+        found, told = drawn_slot(root)
         self.assertEqual(found, slot_as_drawn(2, 1024, 17, 0, 3))
+        self.assertEqual(told[0, 87], "symbol 0, carrier 87: subchannel 0, index 0")
         self.assertEqual(list(found.values()).count("subchannel-3"), 48)
         self.assertIn("data of subchannel 3", texts(root))
 
     def test_subchannels(self):
-        cases = [(0, 2048, 3, 1, [0, 1, 31]), (1, 2048, 0, 69, [7]), (2, 512, 4, 7, [9, 9])]
-        for mode, size, slot, subchannel, cells in cases:
-            root = drawing("subchannel", mode, size, slot, subchannel, *cells)
+        cases = [(0, 2048, [0, 1, 31], 3, 1), (1, 2048, [7], 0, 69), (2, 512, [9, 9], 4, 7), (3, 1024, [48, 176], 5, 2)]
+        for mode, size, cells, slot, subchannel in cases:
+            root = drawing("subchannel", mode, size, ",".join(map(str, cells)), slot, subchannel)
             panels = of_class(root, "g", "panel")
             self.assertEqual(len(panels), len(cells))
-            all_places = []
-            for cell, panel in zip(cells, panels):
-                places = [ref.place(mode, size, cell, slot, subchannel, index)[1:] for index in range(48)]
+            points = [reference_places(mode, size, cell, slot, subchannel) for cell in cells]
+            for at, (cell, panel, places) in enumerate(zip(cells, panels, points)):
                 marks = of_class(panel, "circle", "point")
                 drawn = [round(float(mark.get("cx")) * size / 1280 - 0.5, 2) for mark in marks]
                 self.assertEqual([round(carrier) for carrier in drawn], [carrier for _, carrier in places])
@@ -329,9 +391,32 @@ class Pictures(Case):
                 self.assertEqual(heights, sorted(heights, reverse=True))
                 self.assertEqual(len({mark.get("fill") for mark in marks}), ref.SLOT_LENGTH[mode])
                 self.assertIn("cell %d" % cell, texts(panel))
-                all_places += places
-            shared = [mark for mark in root.iter(SVG + "circle") if mark.get("class") == "point shared"]
-            self.assertEqual(len(shared), sum(all_places.count(place) > 1 for place in all_places))
+                for index, (mark, place) in enumerate(zip(marks, places)):
+                    others = [
+                        (other, its.index(place))
+                        for other, its in zip(cells[:at] + cells[at + 1 :], points[:at] + points[at + 1 :])
+                        if place in its and (mode != ref.AMC or its.index(place) == index)
+                    ]
+                    self.assertEqual(mark.get("class") == "point shared", others != [], (cell, index))
+                    title = "cell %d, symbol %d, carrier %d: " % (cell, *place)
+                    title += "subchannel %d, index %d" % (subchannel, index)
+                    title += "".join("; also index %d of cell %d" % (its, other) for other, its in others)
+                    self.assertEqual(mark.find(SVG + "title").text, title)
+
+    def rings(self, *arguments):
+        """The indices that are ringed in each panel."""
+        panels = of_class(drawing("subchannel", *arguments), "g", "panel")
+        classes = [[mark.get("class") for mark in of_class(panel, "circle", "point")] for panel in panels]
+        return [[index for index, name in enumerate(names) if name == "point shared"] for names in classes]
+
+    def test_rings_agree_with_the_collisions(self):
+        hits = [j for j, hit in enumerate(ref.amc_collisions(48, 176)[1]) if hit]
+        self.assertEqual(hits, [8, 24, 32])
+        self.assertEqual(self.rings(3, 256, "48,176", 0, 3), [hits, hits])
+        self.assertEqual(self.rings(3, 2048, "7,7", 511, 31), [list(range(48))] * 2)
+        for cells in ((0, 244), (0, 17)):
+            count = ref.ofusc_collisions(1024, cells[0], 2, cells[1], 2)[2]
+            self.assertEqual([len(ringed) for ringed in self.rings(2, 1024, "%d,%d" % cells, 3, 2)], [count] * 2)
 
     def test_output(self):
         with tempfile.TemporaryDirectory() as directory:
@@ -343,14 +428,43 @@ class Pictures(Case):
             self.assertGreater(os.path.getsize(path), 1000)
             os.remove(path)
             self.refused(3, "picture slot 2 256 16 0 --output %s" % path)
-            self.assertFalse(os.path.exists(path))
+            self.assertEqual(os.listdir(directory), [])
+
+    def test_output_of_any_name(self):
+        picture = run("picture", "slot", 2, 256, 0, 0).stdout
+        self.prints("picture slot 2 256 0 0 --output -", picture.decode())
+        for name in ("-1.svg", "-x", "--help", " a b", "-1", "=", "\udcff"):
+            with tempfile.TemporaryDirectory() as directory:
+                for words in (["--output", name], ["--output=" + name]):
+                    done = run("picture", "slot", 2, 256, 0, 0, *words, cwd=directory)
+                    self.assertEqual((done.stdout, done.stderr, done.returncode), (b"", b"", 0))
+                    self.assertEqual(os.listdir(directory), [name])
+                    with open(os.path.join(directory, name), "rb") as file:
+                        self.assertEqual(file.read(), picture)
+
+    def test_output_over_what_is_there(self):
+        with tempfile.TemporaryDirectory() as directory:
+            real, link = os.path.join(directory, "real"), os.path.join(directory, "link")
+            with open(real, "w"):
+                os.chmod(real, 0o640)
+            os.symlink("real", link)
+            self.prints("picture slot 2 256 0 0 --output %s" % link, "")
+            self.assertTrue(os.path.islink(link))
+            self.assertGreater(os.path.getsize(real), 1000)
+            self.assertEqual(os.stat(real).st_mode & 0o777, 0o640)
+            pipe = os.path.join(directory, "pipe")
+            os.mkfifo(pipe)
+            done = run_shell("'%s' picture slot 2 256 0 0 --output '%s' & cat '%s'; wait $!" % (COMMAND, pipe, pipe))
+            self.assertEqual((done.stdout, done.returncode), (run("picture", "slot", 2, 256, 0, 0).stdout, 0))
 
     def test_refusals(self):
         self.refused(1, "picture slot 4 2048 0 0")
         self.refused(4, "picture slot 0 2048 0 -1 --subchannel -1")
         self.refused(5, "picture slot 0 2048 0 0 --subchannel 60")
-        self.refused(3, "picture subchannel 0 2048 0 1 0 32")
-        self.refused(5, "picture subchannel 0 2048 511 60 0")
+        self.refused(3, "picture subchannel 0 2048 0,32 0 1")
+        self.refused(3, "picture subchannel 0 2048 -1,0 0 1")
+        self.refused(4, "picture subchannel 0 2048 0 512 60")
+        self.refused(5, "picture subchannel 0 2048 0 511 60")
 
     def test_the_pictures_of_the_documentation(self):
         with open(os.path.join(ROOT, "docs", "pictures", "README.md")) as file:
@@ -360,7 +474,7 @@ class Pictures(Case):
             with open(os.path.join(ROOT, path)) as file:
                 text = file.read()
             self.prints(line, text)
-            self.assertLess(len(text), 300000)
+            self.assertLess(len(text), 400000)
 
 
 def numbered(count):
@@ -380,14 +494,25 @@ class Usage(Case):
         for words in ("PUSC downlink", "PUSC uplink", "optional FUSC", "AMC", "256 512 1024 2048", "0..2351"):
             self.assertIn(words, text)
 
+    def test_ranges_of_the_help(self):
+        row = r"^  (\d)  ([\w ]+?)  +([\d ]+?)  +0\.\.(\S+) +0\.\.(\S+) +(\d)$"
+        rows = re.findall(row, command_line.RANGES, re.MULTILINE)
+        self.assertEqual([int(row[0]) for row in rows], [0, 1, 2, 3])
+        for row in rows:
+            mode, sizes = int(row[0]), list(map(int, row[2].split()))
+            self.assertEqual((sizes, int(row[5])), (ref.sizes(mode), ref.SLOT_LENGTH[mode]))
+            for size in sizes:
+                last = [eval(formula, {"N": size // 64}) for formula in row[3:5]]
+                self.assertEqual(last, [ref.cells(mode, size) - 1, ref.subchannels(mode, size) - 1])
+
     def test_help_of_each_command(self):
         for name in COMMANDS.split("|"):
-            done = run(*name.split(), "--help")
+            done = asked(*name.split(), "--help")
             self.assertEqual((done.stderr, done.returncode), (b"", 0))
             self.assertTrue(done.stdout.startswith(b"usage: bellpulsar %s" % name.encode()), name)
             self.assertIn(b"example:\n  ./bellpulsar %s" % name.encode(), done.stdout)
         for name in ("collisions", "plan", "picture"):
-            done = run(name, "--help")
+            done = asked(name, "--help")
             self.assertEqual((done.stderr, done.returncode), (b"", 0))
             self.assertIn(b"./bellpulsar %s WHAT --help" % name.encode(), done.stdout)
 
@@ -395,7 +520,7 @@ class Usage(Case):
         """Each example that has its output below it prints that."""
         tried = 0
         for name in COMMANDS.split("|"):
-            text = run(*name.split(), "--help").stdout.decode().split("example:\n")[1].split("\n\n")[0]
+            text = asked(*name.split(), "--help").stdout.decode().split("example:\n")[1].split("\n\n")[0]
             line, *output = [part.strip() for part in text.splitlines()]
             if output:
                 self.prints(line.removeprefix("./bellpulsar "), "".join(part + "\n" for part in output))
@@ -408,28 +533,29 @@ class Usage(Case):
         self.assertGreaterEqual(len(examples), 6)
         for line, output in examples:
             text = "".join(part[4:] + "\n" for part in output.splitlines())
-            self.assertEqual(run(*shlex.split(line)).stdout.decode(), text, line)
+            self.assertEqual(asked(*shlex.split(line)).stdout.decode(), text, line)
 
     def test_not_understood(self):
-        self.not_understood("")
-        self.not_understood("plan")
-        self.not_understood("nothing")
-        self.not_understood("place 2 1024 17 0 0")
-        self.not_understood("place 2 1024 17 0 0 0 0")
-        self.not_understood("locate 2 1024 17 0 0 --index 3")
-        self.not_understood("collisions 48 176")
-        self.not_understood("plan read")
-        self.not_understood("plan read 01 --file x")
-        self.not_understood("plan write")
-        self.not_understood("picture subchannel 0 2048 0 1")
+        lines = ["", "nothing", "-1", "place 2 1024 17 0 0", "place 2 1024 17 0 0 0 0", "place 2 1024 17 0 0 0 -1"]
+        lines += ["locate 2 1024 17 0 0 --index 3", "collisions 48 176", "show 2 256 0 0 --sub 1"]
+        lines += ["plan", "plan read", "plan read 01 --file x", "plan write", "picture slot 0 2048 0 1 --output"]
+        lines += ["picture subchannel 0 2048 0 1", "picture subchannel 0 2048 0, 1 1"]
+        for line in lines:
+            self.not_understood(*line.split())
+        done = run("place", 2, 1024, 17, 0, 0, " 1")
+        self.assertEqual((done.stdout, done.returncode), (b"", 2))
+        self.assertRegex(done.stderr, rb"^usage: bellpulsar place[\s\S]*: argument INDEX: ' 1' is not a number\n$")
 
     def test_what_is_no_number(self):
-        for word in ("x", "1.0", "0x10", "1_000", "''", "'1 2'", "+1", "--1", "-", "1e3", "\u0663", "12\\\n3x"):
-            self.not_understood("place 2 1024 17 0 0 %s" % word)
-        for word in ("1,2", "1,2,3,4", "1,2,x", "2;3;4", "1,,2"):
-            self.not_understood("plan write 1024 %s" % word)
-        for word in ("8", "0g", "0x01", "-1", "1 2"):
-            self.not_understood("plan read 01 '%s'" % word)
+        words = ["x", "1.0", "0x10", "1_000", "", "1 2", "+1", "--1", "-", "1e3", "\u0663", "12\n3x", "-1.svg"]
+        for word in words + [" 1", "1 ", "\t1", "1\n", " -1", "- 1", "-1 ", "-\u0663"]:
+            self.not_understood("place", 2, 1024, 17, 0, 0, word)
+            self.not_understood("show", 2, 1024, 17, 0, "--subchannel", word)
+            self.not_understood("plan", "write", 1024, "2,%s,1" % word)
+        for word in ("1,2", "1,2,3,4", "1,2,x", "2;3;4", "1,,2", " 1,2,3", "1,2,3 ", "-1, 2,3"):
+            self.not_understood("plan", "write", 1024, word)
+        for word in ("8", "0g", "0x01", "-1", "1 2", " 01", "01 "):
+            self.not_understood("plan", "read", "01", word)
 
 
 class Failures(Case):
@@ -440,7 +566,46 @@ class Failures(Case):
     def test_output_that_cannot_be_written(self):
         arguments = ("picture", "slot", 2, 256, 0, 0, "--output")
         self.fails("bellpulsar: /none/slot.svg: No such file or directory\n", *arguments, "/none/slot.svg")
-        self.fails("bellpulsar: No space left on device\n", *arguments, "/dev/full")
+        self.fails("bellpulsar: /dev/full: No space left on device\n", *arguments, "/dev/full")
+
+    def test_a_picture_that_is_not_whole_is_not_there(self):
+        with tempfile.TemporaryDirectory() as directory:
+            path = os.path.join(directory, "slot.svg")
+            line = "ulimit -f 8; exec '%s' picture slot 2 256 0 0 --output '%s'" % (COMMAND, path)
+            for kept in (None, b"kept"):
+                if kept:
+                    with open(path, "wb") as file:
+                        file.write(kept)
+                done = run_shell(line)
+                self.assertEqual((done.stdout, done.returncode), (b"", 2))
+                self.assertEqual(done.stderr.decode(), "bellpulsar: %s: File too large\n" % path)
+                self.assertEqual(os.listdir(directory), ["slot.svg"] if kept else [])
+            with open(path, "rb") as file:
+                self.assertEqual(file.read(), kept)
+
+    def test_what_cannot_be_told_still_fails(self):
+        """Where standard error is closed, full or read by nobody."""
+        answer = "place 2 1024 17 0 0 0"
+        failures = ["nothing", "place 2", answer + " >/dev/full", answer + " >&-", "plan read --file /none", "--help >&-"]
+        for words in failures:
+            for errors in ("2>&-", "2>/dev/full"):
+                done = run_shell("'%s' %s %s" % (COMMAND, words, errors))
+                self.assertEqual(done.returncode, 2, words + errors)
+            with tempfile.NamedTemporaryFile() as file:
+                run_shell("{ sleep 0.1; '%s' %s; echo $? >'%s'; } 2>&1 >/dev/null | true" % (COMMAND, words, file.name))
+                self.assertEqual(file.read(), b"2\n", words)
+        done = run_shell("BELLPULSAR_LIBRARY=/none '%s' %s 2>&-" % (COMMAND, answer))
+        self.assertEqual((done.stdout, done.returncode), (b"", 2))
+        done = run_shell("'%s' place 9 0 0 0 0 0 2>&-" % COMMAND)
+        self.assertEqual((done.stdout[:10], done.returncode), (b"refused 1:", 1))
+
+    def test_help_that_cannot_be_written(self):
+        for words in ("--help", "place --help", "plan --help"):
+            for target in ("/dev/full", "&-"):
+                for buffered in ("", "PYTHONUNBUFFERED=1 "):
+                    done = run_shell("%s'%s' %s >%s" % (buffered, COMMAND, words, target))
+                    self.assertEqual(done.returncode, 2, words)
+                    self.assertRegex(done.stderr, b"^bellpulsar: .*\n$")
 
     def test_standard_output_that_is_full_or_closed(self):
         for target, message in (("/dev/full", "No space left on device"), ("&-", "standard output is closed")):
@@ -461,28 +626,6 @@ class Failures(Case):
         self.assertEqual((done.stdout, done.returncode), (b"", 2))
         self.assertRegex(done.stderr.decode(), r"^bellpulsar: no Bellpulsar library at /none: run ./build.sh.*\n$")
 
-    def run_with_builder(self, script):
-        """In a tree of its own, where build.sh is the script."""
-        with tempfile.TemporaryDirectory() as tree:
-            shutil.copy(COMMAND, tree)
-            shutil.copytree(os.path.join(ROOT, "python"), os.path.join(tree, "python"))
-            builder = os.path.join(tree, "build.sh")
-            with open(builder, "w") as file:
-                file.write("#!/bin/sh\n" + script)
-            os.chmod(builder, 0o755)
-            command = [os.path.join(tree, "bellpulsar"), "place", "2", "1024", "17", "0", "0", "0"]
-            done = subprocess.run(command, capture_output=True, text=True, timeout=60, env=ENV)
-            return done.stdout, done.stderr, done.returncode
-
-    def test_the_library_is_built_on_first_use(self):
-        library = os.path.join(ROOT, "target", "lib", "libbellpulsar.so")
-        script = 'cd "$(dirname "$0")" && mkdir -p target/lib && cp %s target/lib; echo made; echo told >&2\n' % library
-        self.assertEqual(self.run_with_builder(script), ("symbol 0 carrier 87\n", "made\ntold\n", 0))
-
-    def test_a_build_that_fails(self):
-        message = "why\nbellpulsar: the engine could not be built\n"
-        self.assertEqual(self.run_with_builder("echo why >&2; exit 3\n"), ("", message, 2))
-
     def test_help_needs_no_library(self):
         env = dict(ENV, BELLPULSAR_LIBRARY="/none")
         self.assertEqual(run("--help", env=env).returncode, 0)
@@ -498,4 +641,6 @@ class Failures(Case):
 
 if __name__ == "__main__":
     subprocess.run([os.path.join(ROOT, "build.sh")], check=True)
+    # This process need not ask at each call whether the library is current.
+    os.environ["BELLPULSAR_LIBRARY"] = os.path.join(ROOT, "build", "libbellpulsar.so")
     unittest.main()

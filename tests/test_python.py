@@ -25,7 +25,7 @@ ROOT = os.path.dirname(os.path.dirname(os.path.abspath(__file__)))
 sys.path.insert(0, os.path.join(ROOT, "python"))
 
 import bellpulsar as bp  # noqa: E402
-from bellpulsar import Kind  # noqa: E402
+from bellpulsar import Kind, refusals  # noqa: E402
 
 try:
     import numpy
@@ -45,12 +45,23 @@ def as_engine(value):
 
 
 def refusal(call, *fields):
-    """The number, or 0."""
+    """The number, or 0. Its words are never the question alone: they tell of this request."""
     try:
         call(*fields)
     except bp.Refusal as refused:
+        assert refused.words != refused.question, refused
         return refused.number
     return 0
+
+
+def words(call, *fields):
+    """What a refusal says behind its number."""
+    try:
+        call(*fields)
+    except bp.Refusal as refused:
+        assert str(refused) == "refused %d: %s" % (refused.number, refused.words)
+        return refused.words
+    return None
 
 
 def some_cells(mode, size, seed, more=3):
@@ -266,9 +277,75 @@ class Refusals(unittest.TestCase):
             bp.place(2, 1024, 256, 0, 0, 0)
         refused = caught.exception
         self.assertEqual((refused.number, refused.question), (3, "Is the cell in range?"))
-        self.assertEqual(str(refused), "refused 3: Is the cell in range?")
+        self.assertEqual(str(refused), "refused 3: cell 256 is not one of mode 2's at size 1024: 0 to 255")
         self.assertEqual(str(pickle.loads(pickle.dumps(refused))), str(refused))
         self.assertFalse(isinstance(refused, (TypeError, ValueError, BufferError)))
+
+    def test_the_value_given_and_what_would_be_accepted(self):
+        """Each field out of range: the words have its name, its value, and the range that the reference has."""
+        names = {
+            bp.place: "mode size cell slot subchannel index",
+            bp.locate: "mode size cell symbol carrier",
+            look_with: "mode size cell symbol grid carrier",
+            bp.ofusc_collisions: "size cell_a subchannel_a cell_b subchannel_b",
+            bp.amc_collisions: "cell_a cell_b",
+        }
+        buffers = "mode size cell slot points grid"
+        for call, _, good, past in all_calls():
+            mode = {bp.ofusc_collisions: 2, bp.amc_collisions: 3}.get(call, good[0])
+            for at, name in enumerate(names.get(call, buffers).split()):
+                told = words(call, *good[:at], past[at], *good[at + 1 :])
+                if name in ("points", "grid"):
+                    self.assertEqual(told, "%s of %d floats, not %d" % (name, past[at], good[at]))
+                    continue
+                self.assertTrue(told.startswith("%s %d is not one of " % (name, past[at])), told)
+                accepted = {"mode": "0, 1, 2, 3", "size": ", ".join(map(str, ref.sizes(mode)))}
+                self.assertEqual(told.split(": ")[1], accepted.get(name, "0 to %d" % good[at]))
+
+    def test_words_of_both_lengths(self):
+        self.assertEqual(words(fill_with, 2, 1024, 0, 0, 95, 2048), "points of 95 floats, not 1536")
+        self.assertEqual(words(empty_with, 2, 1024, 0, 0, 1536, 0), "grid of 0 floats, not 2048")
+        self.assertEqual(words(look_with, 0, 2048, 0, 0, 5, 0), "grid of 5 floats, not 8192")
+
+    def test_words_of_plans(self):
+        def read(text):
+            return words(bp.plan_read, bytes.fromhex(text))
+
+        def write(count, size, *zones, room=99):
+            return words(bp.plan_write, count, size, list(zones) + [UNUSED] * (8 - len(zones)), bytearray(room))
+
+        self.assertEqual(read(""), "0 bytes end within the count, and more must follow")
+        self.assertEqual(read("0180"), "2 bytes end within the size, and more must follow")
+        self.assertEqual(read("028008020001030001"[:-2]), "8 bytes end within zone 2's slots, and more must follow")
+        self.assertEqual(read("018000"), "the size is 80 00, which is not its shortest form")
+        self.assertEqual(read("018008 02 808000"), "zone 1's cell is 80 80 00, which is not its shortest form")
+        self.assertEqual(read("018008 02 8080808001"), "zone 1's cell is 80 80 80, and a fourth group is not accepted")
+        self.assertEqual(read("09"), "count 9 is not one of a plan's: 1 to 8")
+        self.assertEqual(read("018001"), "size 128 is not one of a plan's: 256, 512, 1024, 2048")
+        self.assertEqual(read("028008 020001 000001"), "zone 2: size 1024 is not one of mode 0's: 2048")
+        self.assertEqual(read("028008 020001 010001"), "zone 2: mode 1 is not one of a plan's: 0, 2, 3")
+        self.assertEqual(read("018008 02 8002 01"), "zone 1: cell 256 is not one of mode 2's at size 1024: 0 to 255")
+        self.assertEqual(read("018008 02 00 8104"), "zone 1: slots 513 is not one of a zone's: 1 to 512")
+        first = "zone 1: mode %d with cell %d is first at size 2048, where only mode 0 with cell 0 is accepted"
+        self.assertEqual(read("018010 020001"), first % (2, 0))
+        self.assertEqual(write(1, 2048, (0, 5, 1)), first % (0, 5))
+        third = "zone 3: mode 2 follows mode 3, after which only mode 3 is accepted"
+        self.assertEqual(write(3, 1024, (2, 0, 1), (3, 0, 1), (2, 0, 1)), third)
+        self.assertEqual(read(EXAMPLE.hex() + "00" * 500), "510 bytes are given, and the plan ends after 10")
+        self.assertEqual(write(-1, 1024), "count -1 is not one of a plan's: 1 to 8")
+        place = "place 3 is 0,%s,1, where past the count of 1 only zeros are accepted"
+        self.assertEqual(write(1, 1024, (2, 0, 1), UNUSED, (0, -7, 1)), place % -7)
+        self.assertEqual(write(1, 1024, (2, 0, 1), UNUSED, (0, HUGE, 1)), place % "of more than 20 digits")
+        self.assertEqual(write(1, 1024, (2, 200, 1), room=3), "dest of 3 bytes, not 7 or more")
+        self.assertEqual(words(bp.plan_bytes, 1024, [(2, 0, 1)] * 9), "count 9 is not one of a plan's: 1 to 8")
+
+    def test_the_ranges_that_words_are_made_of(self):
+        for mode, size in SETUPS:
+            told = refusals.MODES[mode]
+            self.assertEqual(list(told.sizes), ref.sizes(mode))
+            n = ref.n_of(size)
+            self.assertEqual((told.cells(n), told.subchannels(n)), (ref.cells(mode, size), ref.subchannels(mode, size)))
+            self.assertEqual(told.symbols, ref.SLOT_LENGTH[mode])
 
     def test_sixteen_questions(self):
         self.assertEqual(sorted(bp.QUESTIONS), list(range(1, 17)))
@@ -362,6 +439,7 @@ class Grids(unittest.TestCase):
         points = points_for(2, 256)
         pilots = [(0.5, -2), [0.5, -2.0], array("f", [0.5, -2]), (ctypes.c_float * 2)(0.5, -2)]
         pilots += [memoryview(array("f", [0.5, -2])), memoryview(array("f", [9, 0.5, -2]))[1:]]
+        pilots += [0.5 - 2j, complex(0.5, -2.0)]
         for pilot in pilots:
             grid = grid_for(2, 256)
             bp.fill(2, 256, 0, 0, pilot, points, grid)
@@ -375,6 +453,21 @@ class Grids(unittest.TestCase):
         bp.fill(2, 256, 0, 0, memoryview(grid)[:2], points, grid)
         self.assertEqual(bp.look(2, 256, 0, 0, grid, 21).point, (3.0, 3.0))
         self.assertEqual(grid[0], 0.0)
+
+
+class Lengths(unittest.TestCase):
+    def test_as_the_reference(self):
+        sizes = [*range(0, 4200), 2**16 + 256, 2**31, 2**32 - 1, 2**32 + 256, -256, HUGE]
+        for mode in [*range(6), 256, 2**16, 2**32 - 1, 2**32, -1, HUGE]:
+            for size in sizes:
+                setup = as_engine(mode), as_engine(size)
+                lengths = ref.points_len(*setup), ref.grid_len(*setup)
+                self.assertEqual((bp.points_len(mode, size), bp.grid_len(mode, size)), lengths, (mode, size))
+        self.assertEqual(bp.points_len(mode=1, size=2048), 6720)
+        for value in (1.0, "1", None):
+            for call in (bp.points_len, bp.grid_len):
+                self.assertRaises(TypeError, call, value, 2048)
+                self.assertRaises(TypeError, call, 0, value)
 
 
 class Lending(unittest.TestCase):
@@ -528,10 +621,18 @@ class NoRefusal(unittest.TestCase):
     def test_pilot(self):
         for pilot in ((), (1,), (1, 2, 3), [1.0] * 3, floats(0), floats(1), floats(3), (ctypes.c_float * 4)()):
             self.fails(ValueError, bp.fill, 2, 256, 0, 0, pilot, self.points, self.grid)
-        for pilot in (1.0, 1 + 2j, None, "12", array("d", [1, 2]), bytes(8), iter((1, 2))):
+        for pilot in (1, 1.0, None, "12", array("d", [1, 2]), bytes(8), iter((1, 2)), ("1", "2"), (1j, 0), (None, 0)):
             self.fails(TypeError, bp.fill, 2, 256, 0, 0, pilot, self.points, self.grid)
-        self.assertRaises(TypeError, bp.fill, 2, 256, 0, 0, ("1", "2"), self.points, self.grid)
         self.fails(BufferError, bp.fill, 2, 256, 0, 0, memoryview(floats(4))[::2], self.points, self.grid)
+
+    def test_a_pilot_that_no_float_holds(self):
+        for number in (3.5e38, -3.5e38, 1e308, 2**128, -(10**400)):
+            for pilot in ((number, 0), [0, number]):
+                self.fails(OverflowError, bp.fill, 2, 256, 0, 0, pilot, self.points, self.grid)
+        for pilot in (3.5e38 + 0j, 3.5e38j):
+            self.fails(OverflowError, bp.fill, 2, 256, 0, 0, pilot, self.points, self.grid)
+        for number in (3.4028234663852886e38, -3.4028234663852886e38, float("inf"), 1e-60):
+            bp.fill(2, 256, 0, 0, (number, 0), points_for(2, 256), grid_for(2, 256))
 
     def test_points_and_grid_overlap(self):
         for at in (0, 1, 128, 383, 511):
@@ -696,7 +797,7 @@ class Loading(unittest.TestCase):
         self.assertEqual(imported_with("").stdout, "Place(symbol=0, carrier=87)\n")
 
     def test_another_library_by_the_environment(self):
-        built = os.path.join(ROOT, "target", "lib", "libbellpulsar.so")
+        built = os.path.join(ROOT, "build", "libbellpulsar.so")
         self.assertEqual(imported_with(built).stdout, "Place(symbol=0, carrier=87)\n")
 
     def test_no_library(self):
@@ -710,6 +811,30 @@ class Loading(unittest.TestCase):
         for other in (os.path.join(ROOT, "README.md"), "/"):
             last = imported_with(other).stderr.splitlines()[-1]
             self.assertTrue(last.startswith("ImportError: %s is not a Bellpulsar library" % other), last)
+
+    def test_the_command_line(self):
+        for words, status, text in (("2 1024 17 0 0 0", 0, "symbol 0 carrier 87\n"), ("2 1024 17 0 0 x", 2, "")):
+            command = [sys.executable, "-m", "bellpulsar", "place", *words.split()]
+            env = dict(os.environ, PYTHONPATH=os.path.join(ROOT, "python"))
+            done = subprocess.run(command, env=env, cwd="/", capture_output=True, text=True, timeout=60)
+            self.assertEqual((done.stdout, done.returncode), (text, status), done.stderr)
+
+    def test_names(self):
+        """What `from bellpulsar import *` gives is all that the module has for its users."""
+        found = {}
+        exec("from bellpulsar import *", found)
+        calls = [name for name, thing in vars(bp).items() if getattr(thing, "__module__", "") == "bellpulsar"]
+        public = {name for name in calls if not name.startswith("_")}
+        modes = {"PUSC_DL", "PUSC_UL", "OFUSC", "AMC"}
+        self.assertEqual(set(found) - {"__builtins__"}, public | modes | {"QUESTIONS"})
+        self.assertEqual(len(bp.__all__), len(set(bp.__all__)))
+
+    def test_what_is_said_of_numpy(self):
+        command = [sys.executable, os.path.abspath(__file__), "Numpy"]
+        done = subprocess.run(command, capture_output=True, text=True, timeout=60)
+        last = "with numpy" if numpy else "numpy not here: 2 skipped"
+        self.assertEqual(done.returncode, 0, done.stderr)
+        self.assertRegex(done.stdout, r"^python: \d tests, %s\n$" % last)
 
     def test_the_examples_of_the_module_and_the_readme(self):
         readme = os.path.join(ROOT, "README.md")
@@ -744,4 +869,7 @@ class Numpy(unittest.TestCase):
 
 
 if __name__ == "__main__":
-    unittest.main()
+    tests = unittest.main(exit=False).result
+    skipped = "with numpy" if numpy else "numpy not here: %d skipped" % len(tests.skipped)
+    print("python: %d tests, %s" % (tests.testsRun, skipped))
+    sys.exit(not tests.wasSuccessful())

@@ -4,8 +4,8 @@ set -eu
 cd "$(dirname "$0")/../.."
 ./build.sh
 for example in point collisions slot plan; do
-    "${CC:-cc}" -std=c11 -O2 -Wall -Wextra -Werror -I include "examples/c/$example.c" target/lib/libbellpulsar.a \
-        -o "target/$example"
+    ${CC:-cc} -std=c11 -O2 -Wall -Wextra -Werror ${CFLAGS-} ${LDFLAGS-} -I include "examples/c/$example.c" \
+        build/libbellpulsar.a -o "build/$example"
 done
-sh examples/expected.sh target/
+sh examples/expected.sh build/
 echo "examples: each in C prints what it should"

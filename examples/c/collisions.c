@@ -20,7 +20,7 @@ int main(int argc, char **argv)
         refused = bp_ofusc_collisions(f[0], f[1], f[2], f[3], f[4], hits, &count);
     else
         refused = bp_amc_collisions(f[0], f[1], hits, &count);
-    if (refused != 0)
+    if (refused != BP_ACCEPTED)
         return print_refusal(refused);
     printf("%s", argc == 6 ? "groups" : "indices");
     for (int k = 0; k < 48; k++)

@@ -28,9 +28,9 @@ int main(int argc, char **argv)
     }
 
     uint32_t refused = bp_plan_read(bytes, len, &count, &size, zones);
-    if (refused == 0)
+    if (refused == BP_ACCEPTED)
         refused = bp_plan_write(count, size, zones, again, sizeof again, &written);
-    if (refused != 0)
+    if (refused != BP_ACCEPTED)
         return print_refusal(refused);
     printf("size %u\n", size);
     for (uint32_t k = 0; k < count; k++)

@@ -1,5 +1,6 @@
 #!/bin/sh
 # Builds and runs an example: run.sh point|collisions|slot|plan ARGUMENTS
+# The status is the example's, or 2 where it cannot be built.
 set -eu
 cd "$(dirname "$0")/../.."
 case ${1-} in
@@ -11,6 +12,7 @@ point | collisions | slot | plan) ;;
 esac
 example=$1
 shift
-./build.sh
-"${CC:-cc}" -std=c11 -O2 -Wall -Wextra -I include "examples/c/$example.c" target/lib/libbellpulsar.a -o "target/$example"
-exec "target/$example" "$@"
+./build.sh || exit 2
+${CC:-cc} -std=c11 -O2 -Wall -Wextra ${CFLAGS-} ${LDFLAGS-} -I include "examples/c/$example.c" build/libbellpulsar.a \
+    -o "build/$example" || exit 2
+exec "build/$example" "$@"

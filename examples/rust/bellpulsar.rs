@@ -2,7 +2,9 @@
 //!
 //! Put this file beside your program, write `mod bellpulsar;`, and link the static library:
 //!
-//!     rustc --edition 2021 -O yours.rs -L native=target/lib -l static=bellpulsar
+//!     rustc --edition 2024 -O yours.rs -L native=build -l static=bellpulsar
+//!
+//! Edition 2021 or 2024, rustc 1.82 or later.
 //!
 //! Any number may stand in any field, and a slice may have any length: what is out of range is refused by the engine
 //! itself, with the number of the first question of document 01 that is answered no. On a refusal no lent slice is
@@ -15,7 +17,7 @@ use std::fmt;
 
 #[rustfmt::skip] // As the header has them.
 mod c {
-    extern "C" {
+    unsafe extern "C" {
         pub fn bp_place(
             mode: u32, size: u32, cell: u32, slot: u32, subchannel: u32, index: u32,
             symbol: *mut u32, carrier: *mut u32,
@@ -24,6 +26,8 @@ mod c {
             mode: u32, size: u32, cell: u32, symbol: u32, carrier: u32,
             kind: *mut u32, slot: *mut u32, subchannel: *mut u32, index: *mut u32,
         ) -> u32;
+        pub fn bp_points_len(mode: u32, size: u32) -> usize;
+        pub fn bp_grid_len(mode: u32, size: u32) -> usize;
         pub fn bp_fill(
             mode: u32, size: u32, cell: u32, slot: u32, pilot: *const f32,
             points: *const f32, points_len: usize, grid: *mut f32, grid_len: usize,
@@ -206,6 +210,19 @@ pub fn locate(setup: Setup, at: Place) -> Result<Content, Refusal> {
         3 => Content::Data(of),
         _ => unreachable!("the header has no kind {kind}"),
     })
+}
+
+/// The floats of a slot's points, 96 for each subchannel; 0 for a mode and size that the map does not have.
+pub fn points_len(mode: u32, size: u32) -> usize {
+    // Safety: no pointer is given.
+    unsafe { c::bp_points_len(mode, size) }
+}
+
+/// The floats of a slot's grid, 2 for each carrier of each symbol of a slot; 0 for a mode and size that the map does not
+/// have.
+pub fn grid_len(mode: u32, size: u32) -> usize {
+    // Safety: no pointer is given.
+    unsafe { c::bp_grid_len(mode, size) }
 }
 
 /// Lays a slot's points on its grid; the whole grid is written.

@@ -79,26 +79,16 @@ fn collisions(what: &str, found: Result<Collisions, Refusal>) -> Result<String, 
     Ok(format!("{what}{hit}\ncount {}\n", found.count))
 }
 
-/// How many points a slot has, and how many symbols.
-fn slot_shape(setup: Setup) -> (usize, usize) {
-    match setup.mode {
-        0 => (48 * 60, 2),
-        1 => (48 * 70, 3),
-        _ => (48 * (setup.size as usize / 64), 1),
-    }
-}
-
 fn slot(setup: Setup, slot: u32) -> Result<String, Refusal> {
-    // Asked first: only numbers that are in range make buffers.
     let address = Address {
         slot,
         subchannel: 1,
         index: 0,
     };
     let Place { symbol, carrier } = bellpulsar::place(setup, address)?;
-    let (count, symbols) = slot_shape(setup);
+    let count = bellpulsar::points_len(setup.mode, setup.size) / 2;
     let points: Vec<f32> = (0..count).flat_map(|n| [n as f32, -(n as f32)]).collect();
-    let mut grid = vec![0.0; 2 * setup.size as usize * symbols];
+    let mut grid = vec![0.0; bellpulsar::grid_len(setup.mode, setup.size)];
     let mut back = vec![0.0; points.len()];
     bellpulsar::fill(setup, slot, [1.0, 0.0], &points, &mut grid)?;
     let seen = bellpulsar::look(setup, symbol, &grid, carrier)?;

@@ -1,7 +1,9 @@
 #!/bin/sh
 # Builds and runs the example: run.sh point|collisions|slot|plan ARGUMENTS
+# The status is the example's, or 2 where it cannot be built.
 set -eu
 cd "$(dirname "$0")/../.."
-./build.sh
-rustc --edition 2021 -O examples/rust/example.rs -L native=target/lib -l static=bellpulsar -o target/rust_example
-exec target/rust_example "$@"
+./build.sh || exit 2
+rustc --edition 2021 -O examples/rust/example.rs -L native=build -l static=bellpulsar -o build/rust_example ||
+    exit 2
+exec build/rust_example "$@"

@@ -37,11 +37,14 @@ struct amc_row {
     struct met met;
 };
 
+struct length_row {
+    uint32_t mode, size;
+    size_t points_len, grid_len;
+};
+
 #include "table.h"
 
 #define COUNT(rows) (sizeof(rows) / sizeof((rows)[0]))
-
-enum { KIND_DATA = 3 };
 
 /* An out parameter between two guard words. */
 struct out {
@@ -79,7 +82,7 @@ static int locate_agrees(const struct locate_row *row, uint32_t fill)
     uint32_t refusal = bp_locate(row->mode, row->size, row->cell, row->symbol, row->carrier,
                                  &kind.value, &slot.value, &subchannel.value, &index.value);
     int accepted = row->refusal == 0;
-    int data = accepted && row->kind == KIND_DATA;
+    int data = accepted && row->kind == BP_DATA;
     return refusal == row->refusal && holds(&kind, fill, accepted ? row->kind : fill) &&
            holds(&slot, fill, data ? row->slot : fill) &&
            holds(&subchannel, fill, data ? row->subchannel : fill) &&
@@ -188,10 +191,23 @@ static int test_amc_collisions(void)
     return wrong;
 }
 
+static int test_lengths(void)
+{
+    int wrong = 0;
+    for (size_t i = 0; i < COUNT(length_rows); i++) {
+        const struct length_row *row = &length_rows[i];
+        if (bp_points_len(row->mode, row->size) == row->points_len && bp_grid_len(row->mode, row->size) == row->grid_len)
+            continue;
+        wrong = 1;
+        printf("bp_points_len or bp_grid_len differs: mode %" PRIu32 " size %" PRIu32 "\n", row->mode, row->size);
+    }
+    return wrong;
+}
+
 int main(void)
 {
-    int wrong = test_place() | test_locate() | test_ofusc_collisions() | test_amc_collisions();
+    int wrong = test_place() | test_locate() | test_ofusc_collisions() | test_amc_collisions() | test_lengths();
     if (!wrong)
-        puts("capi: place, locate and both collision calls agree with the reference");
+        puts("capi: place, locate, both collision calls and both lengths agree with the reference");
     return wrong;
 }

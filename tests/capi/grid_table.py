@@ -1,6 +1,6 @@
 """Prints the grids that grid_test.c includes, one for each mode and size, from a fixed seed. Floats are bit patterns.
 
-    python3 tests/capi/grid_table.py > target/capi/grid_table.h
+    python3 tests/capi/grid_table.py > build/capi/grid_table.h
 """
 
 import os

@@ -1,36 +1,97 @@
 /* The header from C and from C++: this file is compiled and run as either. One accepted use of each call, with an
-   answer that document 01 knows where it knows one. Run by header.sh. */
+   answer that document 01 knows where it knows one; each refusal by its name. The buffers are each language's own complex
+   numbers. Run by header.sh. */
 #include "bellpulsar.h"
 
 #include <stdio.h>
 
-static float points[384], back[384], grid[512];
+#ifdef __cplusplus
+#include <complex>
+typedef std::complex<float> complex_float;
+#else
+#include <complex.h>
+typedef float complex complex_float;
+#endif
+
+static complex_float points[192], back[192], grid[256];
+
+static float *floats(complex_float *numbers) { return (float *)numbers; }
 
 static int map_is_right(void)
 {
     uint32_t symbol, carrier, kind, slot, subchannel, index;
-    if (bp_place(2, 1024, 0, 1, 3, 5, &symbol, &carrier) != 0 || symbol != 1 || carrier != 552)
+    if (bp_place(BP_OFUSC, 1024, 0, 1, 3, 5, &symbol, &carrier) != BP_ACCEPTED || symbol != 1 || carrier != 552)
         return 0;
-    return bp_locate(2, 1024, 0, symbol, carrier, &kind, &slot, &subchannel, &index) == 0 && kind == 3 && slot == 1 &&
-           subchannel == 3 && index == 5;
+    if (bp_locate(BP_OFUSC, 1024, 0, symbol, 512, &kind, &slot, &subchannel, &index) != BP_ACCEPTED || kind != BP_DC ||
+        bp_locate(BP_PUSC_DL, 2048, 5, 0, 183, &kind, &slot, &subchannel, &index) != BP_ACCEPTED || kind != BP_GUARD ||
+        bp_locate(BP_PUSC_DL, 2048, 5, 1, 184, &kind, &slot, &subchannel, &index) != BP_ACCEPTED || kind != BP_PILOT)
+        return 0;
+    return bp_locate(BP_OFUSC, 1024, 0, symbol, carrier, &kind, &slot, &subchannel, &index) == BP_ACCEPTED && kind == BP_DATA &&
+           slot == 1 && subchannel == 3 && index == 5;
 }
 
-/* Every point of a slot of optional FUSC at 256 goes onto the grid and comes back; one is looked at. */
+/* Every point of a slot of optional FUSC at 256 goes onto the grid and comes back; one is looked at, and nothing at DC. */
 static int grid_is_right(void)
 {
     const float pilot[2] = {-1, 0};
+    const size_t points_len = bp_points_len(BP_OFUSC, 256), grid_len = bp_grid_len(BP_OFUSC, 256);
     float point[2];
     uint32_t symbol, carrier, kind, slot, subchannel, index;
-    for (int n = 0; n < 384; n++)
-        points[n] = (float)n;
-    if (bp_fill(2, 256, 5, 0, pilot, points, 384, grid, 512) != 0 || bp_empty(2, 256, 5, 0, grid, 512, back, 384) != 0)
+    if (points_len != 384 || grid_len != 512 || bp_points_len(BP_PUSC_UL, 2048) != 6720 || bp_grid_len(BP_AMC, 128) != 0)
         return 0;
     for (int n = 0; n < 384; n++)
+        floats(points)[n] = (float)n;
+    if (bp_fill(BP_OFUSC, 256, 5, 0, pilot, floats(points), points_len, floats(grid), grid_len) != BP_ACCEPTED ||
+        bp_empty(BP_OFUSC, 256, 5, 0, floats(grid), grid_len, floats(back), points_len) != BP_ACCEPTED)
+        return 0;
+    for (int n = 0; n < 192; n++)
         if (back[n] != points[n])
             return 0;
-    return bp_place(2, 256, 5, 0, 1, 2, &symbol, &carrier) == 0 &&
-           bp_look(2, 256, 5, symbol, grid, 512, carrier, &kind, point, &slot, &subchannel, &index) == 0 && kind == 3 &&
-           point[0] == 100 && point[1] == 101 && slot == 0 && subchannel == 1 && index == 2;
+    if (bp_look(BP_OFUSC, 256, 5, 0, floats(grid), grid_len, 128, &kind, point, &slot, &subchannel, &index) != BP_ACCEPTED ||
+        kind != BP_NOTHING || bp_place(BP_OFUSC, 256, 5, 0, 1, 2, &symbol, &carrier) != BP_ACCEPTED)
+        return 0;
+    return grid[carrier] == points[48 + 2] &&
+           bp_look(BP_OFUSC, 256, 5, symbol, floats(grid), grid_len, carrier, &kind, point, &slot, &subchannel, &index) ==
+               BP_ACCEPTED &&
+           kind == BP_DATA && point[0] == 100 && point[1] == 101 && slot == 0 && subchannel == 1 && index == 2;
+}
+
+/* Each refusal of a field, of a length and of a plan, in the order of their numbers. */
+static int refusals_are_right(void)
+{
+    uint32_t u[4], zones[24] = {2, 0, 1};
+    float pilot[2] = {0, 0};
+    uint8_t none[1] = {0x80}, form[2] = {0x81, 0}, count[1] = {9}, slots[6] = {1, 0x80, 8, 2, 0, 0};
+    uint8_t order[6] = {1, 0x80, 0x10, 2, 0, 1}, over[7] = {1, 0x80, 8, 2, 0, 1, 0};
+    const uint32_t met[17] = {
+        bp_place(BP_AMC, 256, 2351, 511, 3, 47, &u[0], &u[1]),
+        bp_place(4, 256, 0, 0, 0, 0, &u[0], &u[1]),
+        bp_place(BP_PUSC_DL, 256, 0, 0, 0, 0, &u[0], &u[1]),
+        bp_place(BP_AMC, 256, 2352, 0, 0, 0, &u[0], &u[1]),
+        bp_place(BP_AMC, 256, 0, 512, 0, 0, &u[0], &u[1]),
+        bp_place(BP_AMC, 256, 0, 0, 4, 0, &u[0], &u[1]),
+        bp_place(BP_AMC, 256, 0, 0, 0, 48, &u[0], &u[1]),
+        bp_locate(BP_AMC, 256, 0, 0, 256, &u[0], &u[1], &u[2], &u[3]),
+        bp_fill(BP_OFUSC, 256, 0, 0, pilot, floats(points), 1, floats(grid), 512),
+        bp_fill(BP_OFUSC, 256, 0, 0, pilot, floats(points), 384, floats(grid), 1),
+        bp_plan_read(none, 1, &u[0], &u[1], zones),
+        bp_plan_read(form, 2, &u[0], &u[1], zones),
+        bp_plan_read(count, 1, &u[0], &u[1], zones),
+        bp_plan_read(slots, 6, &u[0], &u[1], zones),
+        bp_plan_read(order, 6, &u[0], &u[1], zones),
+        bp_plan_read(over, 7, &u[0], &u[1], zones),
+        bp_plan_write(1, 256, zones, none, 1, &u[0]),
+    };
+    const uint32_t named[17] = {
+        BP_ACCEPTED,           BP_REFUSED_MODE,       BP_REFUSED_SIZE,     BP_REFUSED_CELL,      BP_REFUSED_SLOT,
+        BP_REFUSED_SUBCHANNEL, BP_REFUSED_INDEX,      BP_REFUSED_CARRIER,  BP_REFUSED_POINTS_LEN, BP_REFUSED_GRID_LEN,
+        BP_REFUSED_CUT_SHORT,  BP_REFUSED_FORM,       BP_REFUSED_COUNT,    BP_REFUSED_ZONE_SLOTS, BP_REFUSED_ORDER,
+        BP_REFUSED_LEFT_OVER,  BP_REFUSED_DEST_LEN,
+    };
+    for (uint32_t n = 0; n < 17; n++)
+        if (met[n] != n || named[n] != n)
+            return 0;
+    return 1;
 }
 
 static int collisions_are_right(void)
@@ -59,7 +120,7 @@ static int plan_is_right(void)
 
 int main(void)
 {
-    if (map_is_right() && grid_is_right() && collisions_are_right() && plan_is_right())
+    if (map_is_right() && grid_is_right() && refusals_are_right() && collisions_are_right() && plan_is_right())
         return 0;
     puts("a call through the header gave a wrong answer");
     return 1;

@@ -2,7 +2,7 @@
 # Builds the C interface and tests it against the reference. Fails where they differ.
 set -eu
 cd "$(dirname "$0")/../.."
-out=target/capi
+out=build/capi
 
 ./build.sh
 mkdir -p "$out"
@@ -11,8 +11,8 @@ python3 tests/capi/header_table.py
 python3 tests/capi/table.py > "$out/table.h"
 python3 tests/capi/grid_table.py > "$out/grid_table.h"
 for test in capi_test grid_test plan_test; do
-    "${CC:-cc}" -std=c11 -O1 -Wall -Wextra -Werror -I include -I "$out" \
-        "tests/capi/$test.c" target/lib/libbellpulsar.a -o "$out/$test"
+    ${CC:-cc} -std=c11 -O1 -Wall -Wextra -Werror ${CFLAGS-} ${LDFLAGS-} -I include -I "$out" \
+        "tests/capi/$test.c" build/libbellpulsar.a -o "$out/$test"
 done
 "$out/capi_test"
 "$out/grid_test"

@@ -1,6 +1,6 @@
 """Prints the table of requests and answers that capi_test.c includes, from a fixed seed.
 
-    python3 tests/capi/table.py > target/capi/table.h
+    python3 tests/capi/table.py > build/capi/table.h
 """
 
 import os
@@ -93,6 +93,14 @@ def amc_rows(dice):
         yield amc_row(spoiled(dice, good, [cells, cells]))
 
 
+def length_rows():
+    """Every mode and size that is listed, those beside, and some that are cut to a listed one."""
+    sizes = [size + off for size in ref.BIN_SIZES for off in (0, -1, 1, 2**16, 2**31)] + [0, 64, 128, 4096, LARGEST]
+    for mode in [0, 1, 2, 3, 4, 5, 2**8, 2**16 + 2, 2**31, LARGEST]:
+        for size in sizes:
+            yield [mode, size, ref.points_len(mode, size), ref.grid_len(mode, size)]
+
+
 def initializer(value):
     """A number, or a list of such values, as C writes it."""
     if isinstance(value, list):
@@ -124,6 +132,7 @@ def main():
     print_table("struct locate_row", "locate_rows", locates)
     print_table("struct ofusc_row", "ofusc_rows", ofuscs)
     print_table("struct amc_row", "amc_rows", amcs)
+    print_table("struct length_row", "length_rows", list(length_rows()))
 
 
 if __name__ == "__main__":

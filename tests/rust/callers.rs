@@ -9,7 +9,7 @@ use std::fs::read_to_string;
 
 /// The rows of this name, of which there are at least so many.
 fn rows(name: &str, least: usize) -> Vec<Vec<u32>> {
-    let text = read_to_string("target/rust/rows.txt").expect("rows.txt, which run.sh writes");
+    let text = read_to_string("build/rust/rows.txt").expect("rows.txt, which run.sh writes");
     let rows: Vec<Vec<u32>> = text
         .lines()
         .filter_map(|line| line.strip_prefix(name)?.strip_prefix(' '))
@@ -96,6 +96,17 @@ fn place_agrees() {
             expected(refusal, Place { symbol, carrier }),
             "{row:?}"
         );
+    }
+}
+
+#[test]
+fn lengths_agree() {
+    for row in rows("length", 200) {
+        let [mode, size, points, grid] = row[..] else {
+            panic!("{row:?}")
+        };
+        let lengths = (points_len(mode, size), grid_len(mode, size));
+        assert_eq!(lengths, (points as usize, grid as usize), "{row:?}");
     }
 }
 

@@ -1,9 +1,10 @@
 """Prints the requests and answers that callers.rs reads, from fixed seeds: one a line, its name and then numbers.
 
-    python3 tests/rust/rows.py > target/rust/rows.txt
+    python3 tests/rust/rows.py > build/rust/rows.txt
 
     place     mode size cell slot subchannel index; refusal symbol carrier
     locate    mode size cell symbol carrier; refusal kind slot subchannel index
+    length    mode size; points_len grid_len
     grid      mode size cell slot pilot(2) points_len; the points, the grid, as bit patterns
     lengths   mode size cell slot points_len grid_len; refusal of fill and empty
     look      the number of a grid above, symbol carrier; kind point(2) slot subchannel index
@@ -104,6 +105,8 @@ def main():
         ]:
             for row in rows(dice, mode, size):
                 line(name, row)
+    for row in table.length_rows():
+        line("length", row)
     print_grids(dice)
     for size in ref.BIN_SIZES:
         print_collisions("ofusc", table.ofusc_rows(dice, size))

@@ -17,6 +17,7 @@ ghost use Rattle.collision.specs.Collision.{ofuscOf, amcOf};
 ghost use Rattle.capi.specs.Map.{PlaceOut, placeOut, LocateOut, locateOut};
 ghost use Rattle.capi.specs.Collision.{CollisionOut, collisionOut};
 ghost use Rattle.grid.specs.Grid.{fillOf, emptyOf, lookOf};
+ghost use Rattle.grid.specs.Length.{pointsLength, gridLength};
 ghost use Rattle.capi.specs.Grid.{pairPoint, lookOut};
 ghost use Rattle.plan.specs.Read.{planOf, answered};
 ghost use Rattle.plan.specs.Write.{writeOf};
@@ -161,6 +162,20 @@ pub extern "C" fn bp_amc_collisions(
 {
     let answer = collision::amc(cell_a as usize, cell_b as usize);
     hand_over(answer, hits, count)
+}
+
+#[no_mangle]
+pub extern "C" fn bp_points_len(mode: u32, size: u32) -> usize
+    ensures { λ r. ⌜ r ≡ pointsLength mode size ⌝ }
+{
+    grid::points_length(mode as usize, size as usize)
+}
+
+#[no_mangle]
+pub extern "C" fn bp_grid_len(mode: u32, size: u32) -> usize
+    ensures { λ r. ⌜ r ≡ gridLength mode size ⌝ }
+{
+    grid::grid_length(mode as usize, size as usize)
 }
 
 #[no_mangle]

@@ -5,6 +5,7 @@ pub mod PilotRows
 pub mod Filled
 pub mod Copy
 pub mod Refusal
+pub mod Length
 pub mod Passes
 pub mod Looked
 pub mod Round

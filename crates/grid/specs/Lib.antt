@@ -1,5 +1,6 @@
 pub mod Points
 pub mod Row
 pub mod Question
+pub mod Length
 pub mod Grid
 pub mod Model

@@ -15,6 +15,7 @@ ghost use Rattle.base.specs.Steps.{entry};
 ghost use Rattle.grid.specs.Points.{zero32, pointAt};
 ghost use Rattle.grid.specs.Row.{gridPoints, position as Position, usedPosition};
 ghost use Rattle.grid.specs.Question.{slotRefusal};
+ghost use Rattle.grid.specs.Length.{pointsLength, gridLength};
 ghost use Rattle.grid.specs.Grid.{fillOf, emptyOf, seen, sightOf, lookOf};
 ghost use Rattle.grid.specs.Model.{putPoint, puts, Within, pilotRow, pilotRows, laidOne, takenOne};
 
@@ -206,6 +207,36 @@ fn grid_points(c: Setup) -> usize
     ensures { λ r. ⌜ (r ≡ gridPoints c) × (r < 65536) ⌝ }
 {
     map::symbols(c) * c.size
+}
+
+// The floats of a slot's points; 0 for a mode and size that the map does not have.
+pub fn points_length(mode: usize, size: usize) -> usize
+    ensures { λ r. ⌜ r ≡ pointsLength mode size ⌝ }
+{
+    let setup = Setup {
+        mode,
+        size,
+        cell: 0,
+    };
+    if map::refusal(setup) != 0 {
+        return 0;
+    }
+    96 * map::subchannels(setup)
+}
+
+// The floats of a slot's grid; 0 likewise.
+pub fn grid_length(mode: usize, size: usize) -> usize
+    ensures { λ r. ⌜ r ≡ gridLength mode size ⌝ }
+{
+    let setup = Setup {
+        mode,
+        size,
+        cell: 0,
+    };
+    if map::refusal(setup) != 0 {
+        return 0;
+    }
+    2 * grid_points(setup)
 }
 
 // Lays a slot's points on its grid, with the pilot point on pilots and 0.0 elsewhere; or the first refusal of 1, 2, 3, 4, 8, 9.

@@ -2,16 +2,17 @@
 
 `slot` draws a slot: carriers along x, in bands under each other, symbols along y, a colour for each subchannel.
 `subchannel` draws one subchannel's points: carriers along x, the index along y, a panel for each cell.
+What one points at has a title: symbol, carrier and what is there.
 """
 
 import collections
 import colorsys
 import itertools
+from typing import NamedTuple
 
 import bellpulsar
 from bellpulsar import Kind
-
-MODE_NAMES = ("PUSC downlink", "PUSC uplink", "optional FUSC", "AMC")
+from bellpulsar.refusals import MODES
 
 LEFT, RIGHT, TOP, BOTTOM = 76, 24, 64, 16  # margins
 WIDTH = 1280  # of a band or panel
@@ -119,24 +120,38 @@ def styles(total, picked):
     return {name: {"fill": fill} for name, fill in fills.items()} | {"dc": {"fill": DC, "stroke": "#000000"}}
 
 
-def runs(classes):
-    """(class, first, length) of each run of one class."""
+def content_of(located):
+    if located.kind is Kind.DATA:
+        return "subchannel %d, index %d" % (located.subchannel, located.index)
+    return located.kind.value
+
+
+def runs(things):
+    """(thing, first, length) of each run of one thing."""
     at = 0
-    for name, members in itertools.groupby(classes):
+    for thing, members in itertools.groupby(things):
         length = len(list(members))
-        yield name, at, length
+        yield thing, at, length
         at += length
 
 
-def band_paths(rows, style):
-    """One path for each class, DC over all others; rows are the classes of the band's carriers, a row a symbol."""
-    outlines = collections.defaultdict(str)
-    for row, classes in enumerate(rows):
-        for name, first, length in runs(classes):
+def titled_path(symbol, carrier, content, outline, length):
+    """What is drawn by itself: a carrier, or guards in a row."""
+    carriers = "carrier %d" % carrier if length == 1 else "carriers %d to %d" % (carrier, carrier + length - 1)
+    return element("path", element("title", "symbol %d, %s: %s" % (symbol, carriers, content)), d=outline)
+
+
+def band_paths(first, rows, symbols, picked, style):
+    """A group for each class, DC over all others; rows are what the band's carriers are, a row a symbol."""
+    paths = collections.defaultdict(list)
+    for number, (symbol, row) in enumerate(zip(symbols, rows)):
+        for located, at, length in runs(row):  # guards are equal, points and pilots stand apart
             width = CARRIER * length
-            outlines[name] += "M%d %dh%dv%dh-%dz" % (CARRIER * first, SYMBOL * row, width, SYMBOL, width)
-    order = sorted(outlines, key=lambda name: (name == "dc", name))
-    return [element("path", class_=name, d=outlines[name], **style[name]) for name in order]
+            outline = "M%d %dh%dv%dh-%dz" % (CARRIER * at, SYMBOL * number, width, SYMBOL, width)
+            path = titled_path(symbol, first + at, content_of(located), outline, length)
+            paths[class_of(located, picked)].append(path)
+    order = sorted(paths, key=lambda name: (name == "dc", name))
+    return [element("g", "\n" + "\n".join(paths[name]) + "\n", class_=name, **style[name]) for name in order]
 
 
 def guard_labels(classes, height):
@@ -158,12 +173,12 @@ def symbol_labels(symbols):
     return [text(-8, "%g" % y, symbol, text_anchor="end") for y, symbol in zip(places, symbols)]
 
 
-def band(first, rows, symbols, style):
-    height = SYMBOL * len(rows)
-    parts = band_paths(rows, style)
+def band(first, rows, symbols, picked, style):
+    height, classes = SYMBOL * len(rows), [class_of(what, picked) for what in rows[0]]
+    parts = band_paths(first, rows, symbols, picked, style)
     parts += [line(0, SYMBOL * row, WIDTH, SYMBOL * row, stroke="#ffffff") for row in range(1, len(rows))]
     parts += [box(0, 0, CARRIER * len(rows[0]), height, fill="none", stroke="#444444")]
-    parts += guard_labels(rows[0], height) + dc_label(rows[0])
+    parts += guard_labels(classes, height) + dc_label(classes)
     parts += symbol_labels(symbols) + [upright(-48, height // 2, "symbol")]
     return parts + carrier_ticks(height, first, first + len(rows[0]) - 1, 16, CARRIER)
 
@@ -211,8 +226,8 @@ def slot(mode, size, cell, slot, picked=None):
     height = SYMBOL * len(symbols) + GAP
     parts, y = [], TOP
     for first in range(0, size, BAND):
-        classes = [[class_of(what, picked) for what in row[first : first + BAND]] for row in rows]
-        parts.append(group(LEFT, y, band(first, classes, symbols, style), class_="band"))
+        part = [row[first : first + BAND] for row in rows]
+        parts.append(group(LEFT, y, band(first, part, symbols, picked, style), class_="band"))
         y += height
     parts.append(text(LEFT + WIDTH / 2, y - 10, "carrier", text_anchor="middle"))
     parts.append(group(LEFT, y + 12, legend_kinds(style, picked), class_="legend"))
@@ -220,7 +235,7 @@ def slot(mode, size, cell, slot, picked=None):
     if picked is None:
         parts.append(group(LEFT, y, legend_scale(style, total), class_="legend"))
         y += 10 + 26 * (1 + (total - 1) // (WIDTH // SWATCH))
-    title = "%s (mode %d), size %d, cell %d, slot %d" % (MODE_NAMES[mode], mode, size, cell, slot)
+    title = "%s (mode %d), size %d, cell %d, slot %d" % (MODES[mode].name, mode, size, cell, slot)
     if picked is not None:
         title += ", subchannel %d picked out" % picked
     return document(y + BOTTOM, title, parts)
@@ -244,17 +259,44 @@ def index_height(index):
     return PANEL - INDEX * index - INDEX / 2
 
 
-def marks(places, scale, first_symbol, shared):
-    """A mark for each point; those that another cell has too are ringed."""
+class Mark(NamedTuple):
+    """A point of a panel: where it is placed, what its title says, and whether it is ringed."""
+
+    place: bellpulsar.Place
+    title: str
+    shared: bool
+
+
+def marks_of(mode, cells, subchannel, points):
+    """The marks of each panel. A point is shared where another cell of the picture has one on the same symbol and
+    carrier. In AMC, where all cells share a subchannel's carriers, that one must have the same index too, as in its
+    collisions."""
+    panels = []
+    for at, (cell, places) in enumerate(zip(cells, points)):
+        others = [(other, its) for number, (other, its) in enumerate(zip(cells, points)) if number != at]
+        marks = []
+        for index, place in enumerate(places):
+            also = [(its.index(place), other) for other, its in others if place in its]
+            if mode == bellpulsar.AMC:
+                also = [(its, other) for its, other in also if its == index]
+            title = "cell %d, symbol %d, carrier %d: subchannel %d, index %d" % (cell, *place, subchannel, index)
+            title += "".join("; also index %d of cell %d" % (its, other) for its, other in also)
+            marks.append(Mark(place, title, also != []))
+        panels.append(marks)
+    return panels
+
+
+def circles(marks, scale, first_symbol):
+    """A circle for each point; those that another cell has too are ringed."""
     parts = []
-    for index, place in enumerate(places):
-        x, y = "%g" % ((place.carrier + 0.5) * scale), "%g" % index_height(index)
-        fill = SYMBOL_COLOURS[place.symbol - first_symbol]
-        if place in shared:
+    for index, mark in enumerate(marks):
+        x, y = "%g" % ((mark.place.carrier + 0.5) * scale), "%g" % index_height(index)
+        fill = SYMBOL_COLOURS[mark.place.symbol - first_symbol]
+        if mark.shared:
             look = {"class_": "point shared", "r": 4, "stroke": "#000000", "stroke_width": 2}
         else:
             look = {"class_": "point", "r": 3}
-        parts.append(element("circle", cx=x, cy=y, fill=fill, **look))
+        parts.append(element("circle", element("title", mark.title), cx=x, cy=y, fill=fill, **look))
     return parts
 
 
@@ -270,35 +312,38 @@ def panel_frame(size, scale):
     return parts + carrier_ticks(PANEL, 0, size - 1, size // 16, scale)
 
 
-def panel(size, cell, places, first_symbol, shared):
+def panel(size, cell, marks, first_symbol):
     scale = WIDTH / size
     parts = panel_frame(size, scale) + [text(0, -6, "cell %d" % cell, font_weight="bold")]
-    return parts + marks(places, scale, first_symbol, shared)
+    return parts + circles(marks, scale, first_symbol)
 
 
-def subchannel_legend(symbols, several):
+RINGED = "on a carrier that another cell of the picture has in the same symbol"
+RINGED_AMC = "on the carrier that another cell of the picture has at the same index"
+
+
+def subchannel_legend(symbols, ringed):
     parts = []
     for at, symbol in enumerate(symbols):
         parts += [element("circle", cx=130 * at + 6, cy=0, r=5, fill=SYMBOL_COLOURS[at])]
         parts += [text(130 * at + 18, 4, "point, symbol %d" % symbol)]
-    if several:
+    if ringed:
         x = 130 * len(symbols)
         parts += [element("circle", cx=x + 6, cy=0, r=5, fill="none", stroke="#000000", stroke_width=2)]
-        parts += [text(x + 18, 4, "on a carrier that another cell of the picture has in the same symbol")]
+        parts += [text(x + 18, 4, ringed)]
     return parts
 
 
-def subchannel(mode, size, slot, subchannel, cells):
+def subchannel(mode, size, cells, slot, subchannel):
     """One subchannel's points under each of the cells. Refusals 1, 2, 3, 4, 5, those of the first cell first."""
     points = [places_of(mode, size, cell, slot, subchannel) for cell in cells]
-    counts = collections.Counter(place for places in points for place in places)
-    shared = {place for place, count in counts.items() if count > 1}
     symbols = sorted({place.symbol for place in points[0]})
     parts, y = [], TOP + 6
-    for cell, places in zip(cells, points):
-        parts.append(group(LEFT, y, panel(size, cell, places, symbols[0], shared), class_="panel"))
+    for cell, marks in zip(cells, marks_of(mode, cells, subchannel, points)):
+        parts.append(group(LEFT, y, panel(size, cell, marks, symbols[0]), class_="panel"))
         y += PANEL + BETWEEN
+    ringed = "" if len(cells) == 1 else RINGED_AMC if mode == bellpulsar.AMC else RINGED
     parts.append(text(LEFT + WIDTH / 2, y - 18, "carrier", text_anchor="middle"))
-    parts.append(group(LEFT, y + 6, subchannel_legend(symbols, len(cells) > 1), class_="legend"))
-    names = (MODE_NAMES[mode], mode, size, slot, subchannel)
+    parts.append(group(LEFT, y + 6, subchannel_legend(symbols, ringed), class_="legend"))
+    names = (MODES[mode].name, mode, size, slot, subchannel)
     return document(y + 20 + BOTTOM, "%s (mode %d), size %d, slot %d, subchannel %d" % names, parts)

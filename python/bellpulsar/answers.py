@@ -3,8 +3,7 @@
 import sys
 
 import bellpulsar
-import picture
-from bellpulsar import Kind
+from bellpulsar import Kind, picture
 
 PLAN_LIMIT = 128  # bytes: no plan is that long, so what follows does not matter
 
@@ -109,4 +108,4 @@ def slot_picture(options):
 
 
 def subchannel_picture(options):
-    return picture.subchannel(options.mode, options.size, options.slot, options.subchannel, options.cells)
+    return picture.subchannel(options.mode, options.size, options.cells, options.slot, options.subchannel)

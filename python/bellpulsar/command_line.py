@@ -4,12 +4,19 @@
 """
 
 import argparse
+import contextlib
+import errno
+import itertools
 import os
 import re
+import shutil
+import signal
 import subprocess
 import sys
+import traceback
 
-ROOT = os.path.dirname(os.path.dirname(os.path.realpath(__file__)))
+from bellpulsar import Refusal, answers, library
+
 ANSWERED, REFUSED, FAILED = 0, 1, 2
 
 RANGES = """\
@@ -37,7 +44,8 @@ OVERVIEW_END = (
     RANGES
     + """
 
-A request that cannot be met prints "refused", the number and the question that is answered no; exit status 1.
+A request that cannot be met prints "refused", the number of the first question that is answered no, the value given
+and what would be accepted; exit status 1.
 What is not understood, read, written or built is told on standard error; exit status 2.
 
 examples:
@@ -57,6 +65,7 @@ FIELDS = {
     "mode": "0 PUSC downlink, 1 PUSC uplink, 2 optional FUSC, 3 AMC",
     "size": "the FFT size",
     "cell": "the permutation base",
+    "cells": "one or more cells",
     "slot": "the slot's number in the zone",
     "subchannel": "the subchannel's number",
     "index": "the point's number in its subchannel and slot",
@@ -69,31 +78,71 @@ FIELDS = {
 }
 
 
+# No argument can have it: before a word, it keeps the argument parser from taking -1 or -1,0,1 for an option.
+SHIELD = "\0"
+
+
 def number(text):
     """A decimal number of any size; what lies far out becomes some number out of every range."""
-    if not re.fullmatch(" ?-?[0-9]+", text):
+    text = text.removeprefix(SHIELD)
+    if not re.fullmatch("-?[0-9]+", text):
         raise argparse.ArgumentTypeError("%r is not a number" % text)
-    digits = text.lstrip(" -").lstrip("0") or "0"
-    value = int(digits) if len(digits) < 20 else 10**20
+    digits = text.lstrip("-").lstrip("0") or "0"
+    value = int(digits) if len(digits) <= 20 else 10**20
     return -value if "-" in text else value
 
 
 def zone(text):
+    text = text.removeprefix(SHIELD)
     parts = text.split(",")
     if len(parts) != 3:
         raise argparse.ArgumentTypeError("%r is not a zone: MODE,CELL,SLOTS is needed" % text)
     return tuple(number(part) for part in parts)
 
 
+def cells(text):
+    return [number(part) for part in text.removeprefix(SHIELD).split(",")]
+
+
 def hex_word(text):
+    text = text.removeprefix(SHIELD)
     if not re.fullmatch("([0-9A-Fa-f]{2})*", text):
         raise argparse.ArgumentTypeError("%r is not bytes in hex, two digits each" % text)
     return bytes.fromhex(text)
 
 
+VALUED = ("--file", "--output", "--subchannel")  # options that take the next word, whatever it looks like
+
+
 def shielded(arguments):
-    """A leading blank keeps the argument parser from taking -1 or -1,0,1 for an option."""
-    return [" " + text if re.match("-[0-9]", text) else text for text in arguments]
+    """As the argument parser takes them: options joined to their values, words that start like a number shielded."""
+    words, rest = [], iter(arguments)
+    for word in rest:
+        if word in VALUED:
+            words.append("=".join([word, *itertools.islice(rest, 1)]))
+        elif re.match("-[0-9]", word):
+            words.append(SHIELD + word)
+        else:
+            words.append(word)
+        if word == "--":
+            words += rest
+    return words
+
+
+class Parser(argparse.ArgumentParser):
+    """Tells what it has to tell by `put` and `tell`, so that no failure is taken for an answer."""
+
+    def __init__(self, **settings):
+        formatter = argparse.RawDescriptionHelpFormatter
+        super().__init__(allow_abbrev=False, formatter_class=formatter, **settings)
+
+    def print_help(self, file=None):
+        put(self.format_help(), None)
+
+    def error(self, message):
+        message = message.replace(SHIELD, "").replace(repr(SHIELD)[1:-1], "")
+        tell("%s%s: error: %s\n" % (self.format_usage(), self.prog, message))
+        sys.exit(FAILED)
 
 
 def sentence(summary):
@@ -101,17 +150,17 @@ def sentence(summary):
 
 
 def command(commands, name, answer, summary, example, fields, notes=RANGES):
-    """A command whose fields are numbers; `answer` names its function in answers.py."""
+    """A command whose fields are numbers, or cells; `answer` names its function in answers.py."""
     parser = commands.add_parser(
         name,
         help=summary,
         description=sentence(summary),
         epilog="example:\n" + example + "\n\n" + notes,
-        formatter_class=argparse.RawDescriptionHelpFormatter,
     )
     parser.set_defaults(answer=answer, output=None)
     for field in fields:
-        parser.add_argument(field, type=number, metavar=field.upper(), help=FIELDS[field])
+        kind, name = (cells, "CELL[,CELL..]") if field == "cells" else (number, field.upper())
+        parser.add_argument(field, type=kind, metavar=name, help=FIELDS[field])
     return parser
 
 
@@ -171,28 +220,25 @@ A row has 64 carriers, each a character; the number at the left is that of the r
     showing.add_argument("--subchannel", type=number, help="pick out the data of this subchannel")
 
 
+def add_output(drawing):
+    drawing.add_argument("--output", metavar="FILE", help="the file to write; without it, or as -, standard output")
+
+
 def add_pictures(commands):
     kinds = branch(commands, "picture", "SVG pictures")
     example = "  ./bellpulsar picture slot 0 2048 5 3 --output slot.svg"
     summary = "a slot: carriers along x, symbols along y, a colour for each subchannel"
     drawing = command(kinds, "slot", "slot_picture", summary, example, ["mode", "size", "cell", "slot"])
     drawing.add_argument("--subchannel", type=number, help="pick out the data of this subchannel")
-    drawing.add_argument("--output", metavar="FILE", help="the file to write; otherwise standard output")
-    example = "  ./bellpulsar picture subchannel 0 2048 0 1 0 1 31 --output subchannel.svg"
+    add_output(drawing)
+    example = "  ./bellpulsar picture subchannel 0 2048 0,1,31 0 1 --output subchannel.svg"
     summary = "a subchannel's points: carriers along x, indices along y, a panel for each cell"
-    fields = ["mode", "size", "slot", "subchannel"]
-    drawing = command(kinds, "subchannel", "subchannel_picture", summary, example, fields)
-    drawing.add_argument("cells", nargs="+", type=number, metavar="CELL", help="one or more cells")
-    drawing.add_argument("--output", metavar="FILE", help="the file to write; otherwise standard output")
+    fields = ["mode", "size", "cells", "slot", "subchannel"]
+    add_output(command(kinds, "subchannel", "subchannel_picture", summary, example, fields))
 
 
 def argument_parser():
-    parser = argparse.ArgumentParser(
-        prog="bellpulsar",
-        description=OVERVIEW,
-        epilog=OVERVIEW_END,
-        formatter_class=argparse.RawDescriptionHelpFormatter,
-    )
+    parser = Parser(prog="bellpulsar", description=OVERVIEW, epilog=OVERVIEW_END)
     commands = parser.add_subparsers(required=True, metavar="COMMAND", dest="command")
     for add in (add_map, add_collisions, add_plans, add_show, add_pictures):
         add(commands)
@@ -209,44 +255,64 @@ def read_arguments(arguments):
 # --- running ----------------------------------------------------------------------------------
 
 
-def build():
-    """Builds the library where it is missing or old; the builder tells so itself, on standard error."""
-    if not os.environ.get("BELLPULSAR_LIBRARY"):
-        subprocess.run([os.path.join(ROOT, "build.sh")], stdout=sys.stderr, check=True)
-
-
 def answer_to(options):
     """(exit status, text)."""
-    import answers  # loads the library, which may not have been there before
-    from bellpulsar import Refusal
-
     try:
         return ANSWERED, getattr(answers, options.answer)(options)
     except Refusal as refused:
         return REFUSED, "%s\n" % refused
 
 
-def put(text, path):
-    """To a file, or to standard output where there is none."""
-    if path is not None:
-        with open(path, "w", encoding="ascii") as file:
+def write_file(text, path):
+    """The whole file, or what stood there before."""
+    real = os.path.realpath(path)
+    there = os.path.exists(real)
+    if there and not os.path.isfile(real):
+        with open(real, "w", encoding="ascii") as file:  # a device or a pipe
             file.write(text)
         return
-    if sys.stdout is None:
-        raise OSError("standard output is closed")
+    if there and not os.access(real, os.W_OK):
+        raise OSError(errno.EACCES, os.strerror(errno.EACCES))
+    part = os.path.join(os.path.dirname(real), ".bellpulsar-%d" % os.getpid())
     try:
-        sys.stdout.write(text)
-        sys.stdout.flush()
+        with open(part, "w", encoding="ascii") as file:
+            file.write(text)
+        if there:
+            shutil.copymode(real, part)
+        os.replace(part, real)
     except OSError:
-        # What could not be written stays in the stream, and would be tried again at the end.
-        os.dup2(os.open(os.devnull, os.O_WRONLY), sys.stdout.fileno())
+        with contextlib.suppress(OSError):
+            os.remove(part)
         raise
 
 
+def put(text, path):
+    """To a file, or to standard output where there is none or its name is -."""
+    if path not in (None, "-"):
+        try:
+            return write_file(text, path)
+        except OSError as error:
+            raise OSError(error.errno, error.strerror, path) from None
+    if sys.stdout is None:
+        raise OSError("standard output is closed")
+    sys.stdout.write(text)
+    sys.stdout.flush()
+
+
+def tell(text):
+    """On standard error, if it can be written at all."""
+    signal.signal(signal.SIGPIPE, signal.SIG_IGN)
+    with contextlib.suppress(OSError):
+        if sys.stderr is not None:
+            sys.stderr.write(text)
+            sys.stderr.flush()
+
+
 def main(arguments):
-    options = read_arguments(arguments)
+    """The exit status, once the answer is written or the failure told."""
     try:
-        build()
+        options = read_arguments(arguments)
+        library.build()
         status, text = answer_to(options)
         put(text, options.output if status == ANSWERED else None)
         return status
@@ -257,5 +323,21 @@ def main(arguments):
         message = "%s: %s" % (error.filename, reason) if error.filename else reason
     except ImportError as error:
         message = str(error)
-    print("bellpulsar: " + message, file=sys.stderr)
+    tell("bellpulsar: %s\n" % message)
     return FAILED
+
+
+def run():
+    """The command itself."""
+    # A closed pipe and an interrupt end it without a word.
+    signal.signal(signal.SIGPIPE, signal.SIG_DFL)
+    signal.signal(signal.SIGINT, signal.SIG_DFL)
+    try:
+        status = main(sys.argv[1:])
+    except SystemExit as ended:  # of the argument parser
+        status = ended.code or ANSWERED
+    except BaseException:
+        tell(traceback.format_exc())
+        status = FAILED
+    # All is written. Python's own end would try again what a stream could not take, and end otherwise.
+    os._exit(status)

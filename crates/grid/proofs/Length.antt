@@ -1,0 +1,76 @@
+-- Cell 0 is a cell of every listed mode and size, so the first refusal tells whether the map has them.
+use mathlib.Core.Path.{_≡_, refl, sym, ap, _∙_}
+use mathlib.Core.Bool.{true}
+use Prim.Native.Nat.{ℕ, _*_, _/_, _<_}
+use native.Mathlib.Nat.{mul-pos}
+use native.Mathlib.Omega.{arith}
+use lib.Dec.{eqb}
+use borrow.Author.Tests.{eqb-true, lt-ltb}
+use Rattle.base.specs.Answer.{ask, accepted}
+use Rattle.base.proofs.Test.{cases}
+use Rattle.base.proofs.Chain.{number-yes}
+use Rattle.map.specs.declared.Setup.{Setup}
+use Rattle.map.specs.Mode.{width, cells, subchannels}
+use Rattle.map.specs.Question.{isMode, isFourSizes, isSize, isCell}
+use Rattle.map.specs.Model.{setupRefusal}
+use Rattle.map.specs.Valid.{setupWith}
+use Rattle.grid.specs.Row.{gridPoints}
+use Rattle.grid.specs.Length.{whereListed, pointsLength, gridLength}
+
+-- the four sizes are no small ones
+wide : (size : ℕ) → isFourSizes size ≡ true → 0 < size / 64
+unfolding isFourSizes
+wide size h =
+    cases (eqb size 256)
+    (λ e. omega (arith, eqb-true size 256 e))
+    (λ e. cases (eqb size 512)
+    (λ e′. omega (arith, eqb-true size 512 e′))
+    (λ e′. cases (eqb size 1024)
+    (λ e″. omega (arith, eqb-true size 1024 e″))
+    (λ e″. omega (arith, eqb-true size 2048 (rw (e, e′, e″) at h)))))
+
+some-cell : (mode size : ℕ) → isSize (setupWith mode size 0) ≡ true → 0 < cells (setupWith mode size 0)
+unfolding isSize cells width
+some-cell mode size h =
+    cases (eqb mode 0)
+    (λ e. rw e (omega arith))
+    (λ e. cases (eqb mode 1)
+    (λ e′. rw (e, e′) (omega arith))
+    (λ e′. cases (eqb mode 2)
+    (λ e″. let n = wide size (rw (eqb-true mode 2 e″) at h) in rw (e, e′, e″) (mul-pos n n))
+    (λ e″. rw (e, e′, e″) (omega arith))))
+
+module _ (mode size k : ℕ) (e : k ≡ setupRefusal (setupWith mode size 0)) where
+  abbrev setup : Setup
+  setup = setupWith mode size 0
+
+  unlisted : (k ≡ 0 → ⊥) → (length : ℕ) → 0 ≡ whereListed setup length
+  unfolding setupRefusal isCell
+  unlisted ne length =
+      cases (isMode setup)
+      (λ a. cases (isSize setup)
+      (λ b. absurd (ne (e ∙ rw (a, b, lt-ltb 0 (cells setup) (some-cell mode size b)))))
+      (λ b. rw (a, b)))
+      (λ a. rw a)
+
+  listed : k ≡ 0 → (length : ℕ) → length ≡ whereListed setup length
+  unfolding setupRefusal
+  listed z length =
+      let q₁ = number-yes (isMode setup) 0 _ (sym e ∙ z) in
+      rw (q₁ .0, number-yes (isSize setup) 1 _ (q₁ .1) .0)
+
+  pub no-points : (k ≡ 0 → ⊥) → 0 ≡ pointsLength mode size
+  unfolding pointsLength
+  no-points ne = unlisted ne _
+
+  pub no-grid : (k ≡ 0 → ⊥) → 0 ≡ gridLength mode size
+  unfolding gridLength
+  no-grid ne = unlisted ne _
+
+  pub some-points : k ≡ 0 → (n : ℕ) → n ≡ subchannels setup → 96 * n ≡ pointsLength mode size
+  unfolding pointsLength
+  some-points z n q = ap (λ (x : ℕ). 96 * x) q ∙ listed z _
+
+  pub some-grid : k ≡ 0 → (n : ℕ) → n ≡ gridPoints setup → 2 * n ≡ gridLength mode size
+  unfolding gridLength
+  some-grid z n q = ap (λ (x : ℕ). 2 * x) q ∙ listed z _

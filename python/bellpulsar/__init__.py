@@ -1,0 +1,381 @@
+"""Bellpulsar from Python: the subcarrier map of IEEE 802.16e OFDMA, proved.
+
+A first example (`PYTHONPATH=python python3` at the repository's root, after ./build.sh):
+
+    >>> import bellpulsar
+    >>> bellpulsar.place(mode=2, size=1024, cell=17, slot=0, subchannel=0, index=0)
+    Place(symbol=0, carrier=87)
+    >>> bellpulsar.locate(mode=2, size=1024, cell=17, symbol=0, carrier=87)
+    Located(kind=<Kind.DATA: 'data'>, slot=0, subchannel=0, index=0)
+    >>> bellpulsar.place(mode=2, size=1024, cell=256, slot=0, subchannel=0, index=0)
+    Traceback (most recent call last):
+        ...
+    bellpulsar.Refusal: refused 3: cell 256 is not one of mode 2's at size 1024: 0 to 255
+
+A slot's points, laid on its grid and taken off again:
+
+    >>> from array import array
+    >>> points = array("f", range(bellpulsar.points_len(2, 1024)))
+    >>> grid = array("f", [0.0]) * bellpulsar.grid_len(2, 1024)
+    >>> bellpulsar.fill(2, 1024, 17, 0, (1.0, 0.0), points, grid)
+    >>> grid[2 * 87 : 2 * 87 + 2]
+    array('f', [0.0, 1.0])
+    >>> again = array("f", [0.0]) * len(points)
+    >>> bellpulsar.empty(2, 1024, 17, 0, grid, again)
+    >>> again == points
+    True
+
+Modes and their ranges; N is size / 64:
+
+    mode                    size                    cell        subchannels  symbols a slot
+    0 PUSC_DL PUSC downlink 2048                    0..31       60           2
+    1 PUSC_UL PUSC uplink   2048                    0..69       70           3
+    2 OFUSC   optional FUSC 256, 512, 1024, 2048    0..N*N-1    N            1
+    3 AMC     AMC           256, 512, 1024, 2048    0..2351     N            1
+
+The cell is the permutation base. Slots are 0..511. A slot has 48 points a subchannel, with the indices 0..47.
+
+Numbers. Any integer may stand in any field. One that 32 bits do not hold, negative ones too, reaches the engine as
+2**32 - 1, which no question lets pass, so it is refused in its turn.
+
+Refusals. A request that cannot be met raises Refusal, with the number of the first question of document 01 that is
+answered no; its text says what was asked, the value given and what would be accepted. Nothing is written then.
+
+Buffers. Points, grids, plans and destinations are lent: the engine works on the caller's memory and nothing is copied.
+Points and grids are any contiguous buffer of 32-bit floats (array('f'), a memoryview of one, a ctypes array, a numpy
+array of float32, or of complex64, which counts as two floats an element), in any number of dimensions. Their lengths
+go to the engine as they are. What the engine cannot see is checked here, before any question is put, and is an error
+that is no refusal: TypeError for the wrong kind of element, BufferError where the buffer is not contiguous or not
+writable, ValueError where it is not aligned or two buffers overlap.
+"""
+
+import ctypes
+import enum
+import itertools
+import operator
+from typing import NamedTuple, Optional, Tuple
+
+from . import refusals
+from .buffers import BYTE, FLOAT, apart, lent, pilot_point
+from .library import Hits, Pair, Zones, engine, numbers, uint
+from .refusals import QUESTIONS
+
+__all__ = [
+    "PUSC_DL",
+    "PUSC_UL",
+    "OFUSC",
+    "AMC",
+    "QUESTIONS",
+    "Refusal",
+    "Kind",
+    "Place",
+    "Located",
+    "Point",
+    "Seen",
+    "Collisions",
+    "Zone",
+    "Plan",
+    "place",
+    "locate",
+    "points_len",
+    "grid_len",
+    "fill",
+    "empty",
+    "look",
+    "ofusc_collisions",
+    "amc_collisions",
+    "plan_read",
+    "plan_write",
+    "plan_bytes",
+]
+
+PUSC_DL, PUSC_UL, OFUSC, AMC = 0, 1, 2, 3
+
+
+class Refusal(Exception):
+    """The engine refused a request: `number` and `question` are those of document 01, `words` say what was asked, the
+    value given and what would be accepted."""
+
+    def __init__(self, number, words):
+        super().__init__(number, words)
+        self.number = number
+        self.question = QUESTIONS[number]
+        self.words = words
+
+    def __str__(self):
+        return "refused %d: %s" % (self.number, self.words)
+
+
+def _refusal(number, **asked):
+    """Of a request's fields as they were given; a length is a pair, that given and the right one."""
+    asked = {name: value if isinstance(value, tuple) else operator.index(value) for name, value in asked.items()}
+    return Refusal(number, refusals.field_words(number, asked))
+
+
+# --- answers ----------------------------------------------------------------------------------
+
+
+class Kind(enum.Enum):
+    """What a carrier holds. `look` says NOTHING for a guard and for DC; `locate` tells them apart."""
+
+    GUARD = "guard"
+    DC = "DC"
+    PILOT = "pilot"
+    DATA = "data"
+    NOTHING = "nothing"
+
+
+class Place(NamedTuple):
+    """The zone's symbol and the carrier."""
+
+    symbol: int
+    carrier: int
+
+
+class Located(NamedTuple):
+    """What a carrier is; slot, subchannel and index are None unless it is Kind.DATA."""
+
+    kind: Kind
+    slot: Optional[int] = None
+    subchannel: Optional[int] = None
+    index: Optional[int] = None
+
+
+class Point(NamedTuple):
+    """In-phase and quadrature."""
+
+    i: float
+    q: float
+
+
+class Seen(NamedTuple):
+    """What a carrier holds; point is None at Kind.NOTHING, the rest is None unless it is Kind.DATA."""
+
+    kind: Kind
+    point: Optional[Point] = None
+    slot: Optional[int] = None
+    subchannel: Optional[int] = None
+    index: Optional[int] = None
+
+
+class Collisions(NamedTuple):
+    """48 marks, True where the two collide, and how many are."""
+
+    hits: Tuple[bool, ...]
+    count: int
+
+
+class Zone(NamedTuple):
+    """A zone of a plan."""
+
+    mode: int
+    cell: int
+    slots: int
+
+
+class Plan(NamedTuple):
+    """A zone plan: the FFT size and its one to eight zones. Unused places, which are all zero, are left out."""
+
+    size: int
+    zones: Tuple[Zone, ...]
+
+
+# --- the map ----------------------------------------------------------------------------------
+
+
+def place(mode, size, cell, slot, subchannel, index):
+    """Where point `index` of a subchannel lies, as Place(symbol, carrier). Refusals 1, 2, 3, 4, 5, 6."""
+    symbol, carrier = uint(), uint()
+    refused = engine.bp_place(*numbers(mode, size, cell, slot, subchannel, index), symbol, carrier)
+    if refused:
+        raise _refusal(refused, mode=mode, size=size, cell=cell, slot=slot, subchannel=subchannel, index=index)
+    return Place(symbol.value, carrier.value)
+
+
+_KINDS = (Kind.GUARD, Kind.DC, Kind.PILOT, Kind.DATA)
+
+
+def locate(mode, size, cell, symbol, carrier):
+    """What a carrier is in a symbol of the zone, as Located(kind, slot, subchannel, index). Refusals 1, 2, 3, 4, 7.
+
+    kind is Kind.GUARD, Kind.DC, Kind.PILOT or Kind.DATA; the other three are None unless it is Kind.DATA.
+    """
+    kind, slot, subchannel, index = uint(), uint(), uint(), uint()
+    refused = engine.bp_locate(*numbers(mode, size, cell, symbol, carrier), kind, slot, subchannel, index)
+    if refused:
+        raise _refusal(refused, mode=mode, size=size, cell=cell, symbol=symbol, carrier=carrier)
+    what = _KINDS[kind.value]
+    if what is Kind.DATA:
+        return Located(what, slot.value, subchannel.value, index.value)
+    return Located(what)
+
+
+# --- grids ------------------------------------------------------------------------------------
+
+
+def points_len(mode, size):
+    """The floats of a slot's points, 96 for each subchannel; 0 for a mode and size that the map does not have."""
+    return engine.bp_points_len(*numbers(mode, size))
+
+
+def grid_len(mode, size):
+    """The floats of a slot's grid, 2 for each carrier of each of its symbols; 0 for a mode and size that the map does
+    not have."""
+    return engine.bp_grid_len(*numbers(mode, size))
+
+
+def _buffers_refusal(refused, mode, size, cell, slot, points, grid):
+    """Of fill and empty."""
+    lengths = {"points": (points.length, points_len(mode, size)), "grid": (grid.length, grid_len(mode, size))}
+    return _refusal(refused, mode=mode, size=size, cell=cell, slot=slot, **lengths)
+
+
+def fill(mode, size, cell, slot, pilot, points, grid):
+    """Lays a slot's points on its grid. Refusals 1, 2, 3, 4, 8, 9.
+
+    The whole grid is written: the points on data carriers, the pilot point on pilots, 0.0 on guards and DC. Bits are
+    copied as they are, those of a NaN too.
+
+    pilot: a complex number or two numbers (rounded to 32-bit floats), or a buffer of two floats.
+    points: `points_len(mode, size)` floats, by subchannel and index, in-phase first.
+    grid: `grid_len(mode, size)` floats, symbol after symbol, each by rising carrier.
+    """
+    fields = numbers(mode, size, cell, slot)
+    pilot = pilot_point(pilot)
+    with lent(points, "points", FLOAT) as source, lent(grid, "grid", FLOAT, writable=True) as target:
+        apart(source, target)
+        refused = engine.bp_fill(*fields, pilot, source.address, source.length, target.address, target.length)
+        if refused:
+            raise _buffers_refusal(refused, mode, size, cell, slot, source, target)
+
+
+def empty(mode, size, cell, slot, grid, points):
+    """Takes a slot's points off its grid, into `points`. Refusals 1, 2, 3, 4, 8, 9.
+
+    All points are written; only data carriers are read. The lengths are those of `fill`.
+    """
+    fields = numbers(mode, size, cell, slot)
+    with lent(grid, "grid", FLOAT) as source, lent(points, "points", FLOAT, writable=True) as target:
+        apart(target, source)
+        refused = engine.bp_empty(*fields, source.address, source.length, target.address, target.length)
+        if refused:
+            raise _buffers_refusal(refused, mode, size, cell, slot, target, source)
+
+
+_SEEN = {0: Kind.NOTHING, 2: Kind.PILOT, 3: Kind.DATA}
+
+
+def look(mode, size, cell, symbol, grid, carrier):
+    """What the grid of the symbol's slot holds on a carrier, as Seen(kind, point, slot, subchannel, index).
+
+    kind is Kind.NOTHING (guard or DC, whatever the grid holds there), Kind.PILOT with its point, or Kind.DATA with
+    all of it. The point is a pair of Python floats, which hold every 32-bit float; only a signalling NaN comes out as
+    a quiet one. Refusals 1, 2, 3, 4, 7, 9.
+    """
+    *fields, last = numbers(mode, size, cell, symbol, carrier)
+    kind, point, slot, subchannel, index = uint(), Pair(), uint(), uint(), uint()
+    with lent(grid, "grid", FLOAT) as memory:
+        refused = engine.bp_look(*fields, memory.address, memory.length, last, kind, point, slot, subchannel, index)
+    if refused:
+        lengths = (memory.length, grid_len(mode, size))
+        raise _refusal(refused, mode=mode, size=size, cell=cell, symbol=symbol, carrier=carrier, grid=lengths)
+    what = _SEEN[kind.value]
+    if what is Kind.NOTHING:
+        return Seen(what)
+    if what is Kind.PILOT:
+        return Seen(what, Point(*point))
+    return Seen(what, Point(*point), slot.value, subchannel.value, index.value)
+
+
+# --- collisions -------------------------------------------------------------------------------
+
+
+def _collisions(call, mode, **fields):
+    hits, count = Hits(), uint()
+    refused = call(*numbers(*fields.values()), hits, count)
+    if refused:
+        raise _refusal(refused, mode=mode, **fields)
+    return Collisions(tuple(hit != 0 for hit in hits), count.value)
+
+
+def ofusc_collisions(size, cell_a, subchannel_a, cell_b, subchannel_b):
+    """Optional FUSC: in which groups the two subchannels are on one carrier, as Collisions(hits, count).
+
+    hits[k] is group k, the data numbers N*k to N*k+N-1 of a symbol; every symbol has the same answer.
+    Refusals 2, 3 (cell_a), 3 (cell_b), 5 (subchannel_a), 5 (subchannel_b), in this order.
+    """
+    fields = {"cell_a": cell_a, "subchannel_a": subchannel_a, "cell_b": cell_b, "subchannel_b": subchannel_b}
+    return _collisions(engine.bp_ofusc_collisions, OFUSC, size=size, **fields)
+
+
+def amc_collisions(cell_a, cell_b):
+    """AMC: which indices both cells put on one carrier, as Collisions(hits, count); hits[j] is index j.
+
+    The answer is the same in every subchannel, slot and size. Refusals 3 (cell_a), 3 (cell_b).
+    """
+    return _collisions(engine.bp_amc_collisions, AMC, cell_a=cell_a, cell_b=cell_b)
+
+
+# --- zone plans -------------------------------------------------------------------------------
+
+_PLACES = 8  # the zones of a plan
+_DECIDE = 128  # bytes: what follows them changes no answer
+
+
+def plan_read(data):
+    """The zone plan that the bytes are, as Plan(size, zones). Refusals 10, 11, 12, 2, 1, 3, 13, 14, 15.
+
+    data: any contiguous buffer of bytes. zones has as many Zone(mode, cell, slots) as the plan counts.
+    """
+    count, size, places = uint(), uint(), Zones()
+    with lent(data, "data", BYTE) as memory:
+        refused = engine.bp_plan_read(memory.address, memory.length, count, size, places)
+        if refused:
+            start = ctypes.string_at(memory.address, min(memory.length, _DECIDE))
+            raise Refusal(refused, refusals.read_words(refused, start, memory.length))
+    zones = [Zone(*places[at : at + 3]) for at in range(0, 3 * count.value, 3)]
+    return Plan(size.value, tuple(zones))
+
+
+def _zone(zone):
+    """The three numbers of a place of a plan."""
+    try:
+        mode, cell, slots = zone
+    except (TypeError, ValueError) as error:
+        raise type(error)("zones: three numbers are needed for each, mode, cell and slots, not %r" % (zone,)) from None
+    return operator.index(mode), operator.index(cell), operator.index(slots)
+
+
+def plan_write(count, size, zones, dest):
+    """Writes a plan's bytes at the start of `dest` and returns how many they are; further bytes stay as they are.
+
+    zones: all eight places of the plan, three numbers each (mode, cell, slots); those past the count are to be zero.
+    dest: any writable, contiguous buffer of bytes. Refusals 12, 2, for each zone 1, 2, 3, 13, 14, then 16.
+    `plan_bytes` is the same without count, unused places and destination.
+    """
+    count, size = operator.index(count), operator.index(size)
+    zones = [_zone(zone) for zone in zones]
+    if len(zones) != _PLACES:
+        raise ValueError("zones: eight places are needed, not %d" % len(zones))
+    places, written = Zones(*numbers(*itertools.chain(*zones))), uint()
+    with lent(dest, "dest", BYTE, writable=True) as memory:
+        refused = engine.bp_plan_write(*numbers(count, size), places, memory.address, memory.length, written)
+    if refused:
+        raise Refusal(refused, refusals.write_words(refused, count, size, zones, memory.length))
+    return written.value
+
+
+_UNUSED = Zone(0, 0, 0)
+_LONGEST = 3 * (2 + 3 * _PLACES)  # bytes: a value takes three at most
+
+
+def plan_bytes(size, zones):
+    """A plan's bytes: `plan_bytes(*plan_read(data))` is data. Refusals 12, 2, for each zone 1, 2, 3, 13, 14.
+
+    zones: Zone(mode, cell, slots), or any three numbers, for each zone; none at all and more than eight are refused
+    (12).
+    """
+    zones = list(zones)
+    dest = bytearray(_LONGEST)
+    written = plan_write(len(zones), size, (zones + [_UNUSED] * _PLACES)[:_PLACES], dest)
+    return bytes(dest[:written])

@@ -1,0 +1,103 @@
+"""The engine's shared library: built where that is asked for, loaded at the first call."""
+
+import ctypes
+import operator
+import os
+import signal
+import subprocess
+import sys
+
+ROOT = os.path.dirname(os.path.dirname(os.path.dirname(os.path.abspath(__file__))))
+BUILDER = os.path.join(ROOT, "build.sh")
+
+uint = ctypes.c_uint32
+Pair = ctypes.c_float * 2
+Hits = ctypes.c_uint8 * 48
+Zones = uint * 24
+
+_out = ctypes.POINTER(uint)
+_address = ctypes.c_void_p
+_length = ctypes.c_size_t
+
+_PROTOTYPES = {
+    "bp_place": [uint] * 6 + [_out] * 2,
+    "bp_locate": [uint] * 5 + [_out] * 4,
+    "bp_points_len": [uint] * 2,
+    "bp_grid_len": [uint] * 2,
+    "bp_fill": [uint] * 4 + [Pair, _address, _length, _address, _length],
+    "bp_empty": [uint] * 4 + [_address, _length, _address, _length],
+    "bp_look": [uint] * 4 + [_address, _length, uint, _out, Pair] + [_out] * 3,
+    "bp_ofusc_collisions": [uint] * 5 + [Hits, _out],
+    "bp_amc_collisions": [uint] * 2 + [Hits, _out],
+    "bp_plan_read": [_address, _length, _out, _out, Zones],
+    "bp_plan_write": [uint, uint, Zones, _address, _length, _out],
+}
+
+
+def _end_with_parent():
+    """In a child: where the parent dies, it is told to end."""
+    ctypes.CDLL(None).prctl(1, signal.SIGTERM)  # 1: PR_SET_PDEATHSIG
+
+
+def build():
+    """Builds the library where it is missing or old; the builder tells so itself, on standard error."""
+    if not os.environ.get("BELLPULSAR_LIBRARY"):
+        subprocess.run([BUILDER], stdout=sys.stderr or subprocess.DEVNULL, check=True, preexec_fn=_end_with_parent)
+        engine.is_current = True
+
+
+def _is_old():
+    return os.path.exists(BUILDER) and subprocess.run([BUILDER, "--check"]).returncode != 0
+
+
+def _path(is_current):
+    """Of the library: named by the environment, or this tree's own, which must not be older than its source."""
+    named = os.environ.get("BELLPULSAR_LIBRARY")
+    path = named or os.path.join(ROOT, "build", "libbellpulsar.so")
+    if not os.path.exists(path):
+        raise ImportError(
+            "no Bellpulsar library at %s: run ./build.sh, or name the library in BELLPULSAR_LIBRARY" % path
+        )
+    if not named and not is_current and _is_old():
+        raise ImportError("%s is old: the engine's source has changed since it was built; run ./build.sh" % path)
+    return path
+
+
+def _load(path):
+    """Each call by its name."""
+    try:
+        library = ctypes.CDLL(os.path.abspath(path))
+        calls = {name: getattr(library, name) for name in _PROTOTYPES}
+    except (OSError, AttributeError) as error:
+        raise ImportError("%s is not a Bellpulsar library that can be loaded: %s" % (path, error)) from None
+    for name, arguments in _PROTOTYPES.items():
+        calls[name].argtypes = arguments
+        calls[name].restype = _length if name.endswith("_len") else uint
+    return calls
+
+
+class _Engine:
+    """Its attributes are the calls; the first that is asked for loads them all."""
+
+    is_current = False  # whether the library is known not to be old
+
+    def __getattr__(self, name):
+        if name not in _PROTOTYPES:
+            raise AttributeError(name)
+        vars(self).update(_load(_path(self.is_current)))
+        return vars(self)[name]
+
+
+engine = _Engine()
+
+_MOST = 2**32 - 1
+
+
+def _number(value):
+    """As the engine takes it: what 32 bits do not hold becomes their largest, which every question refuses."""
+    value = operator.index(value)
+    return value if 0 <= value <= _MOST else _MOST
+
+
+def numbers(*values):
+    return [_number(value) for value in values]

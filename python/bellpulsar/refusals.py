@@ -1,0 +1,244 @@
+"""A refusal in words: what was asked, the value given, and what would be accepted.
+
+The engine alone judges a request. What stands here only explains the number that it gave, and where it finds nothing to
+explain, the words are those of document 01's question.
+"""
+
+from typing import Callable, NamedTuple, Tuple
+
+# The questions of document 01, by number.
+QUESTIONS = {
+    1: "Is the mode listed (in a plan: 0, 2 or 3)?",
+    2: "Is the size that mode's (of a plan: 256, 512, 1024 or 2048)?",
+    3: "Is the cell in range?",
+    4: "Is the slot below 512, the zone's symbol below 512 times the slot length?",
+    5: "Is the subchannel in range?",
+    6: "Is the index below 48?",
+    7: "Is the carrier below the size?",
+    8: "Are the points just 96 floats for each subchannel?",
+    9: "Is the grid just 2 * size floats for each symbol of a slot?",
+    10: "Do the bytes reach to the value's end or its third group?",
+    11: "Does the value end by its third group, in shortest form?",
+    12: "Is the count 1 to 8, and in writing every place past it zero?",
+    13: "Are the slots 1 to 512?",
+    14: "At 2048, is the first zone mode 0 with cell 0, and does nothing but mode 3 follow mode 3?",
+    15: "Are the bytes used up?",
+    16: "Is the destination long enough?",
+}
+
+# --- the ranges of document 01 ----------------------------------------------------------------
+
+SIZES = (256, 512, 1024, 2048)
+SLOTS = 512
+POINTS = 48
+
+
+class Mode(NamedTuple):
+    """Numbers of cells and subchannels are given by N, which is size / 64."""
+
+    name: str
+    sizes: Tuple[int, ...]
+    cells: Callable[[int], int]
+    subchannels: Callable[[int], int]
+    symbols: int  # of a slot
+
+
+MODES = (
+    Mode("PUSC downlink", (2048,), lambda n: 32, lambda n: 60, 2),
+    Mode("PUSC uplink", (2048,), lambda n: 70, lambda n: 70, 3),
+    Mode("optional FUSC", SIZES, lambda n: n * n, lambda n: n, 1),
+    Mode("AMC", SIZES, lambda n: 2352, lambda n: n, 1),
+)
+PLAN_MODES = (0, 2, 3)
+PLAN_COUNTS = range(1, 9)
+PLAN_SLOTS = range(1, SLOTS + 1)
+
+# --- words ------------------------------------------------------------------------------------
+
+
+def shown(value):
+    return str(value) if abs(value) < 10**20 else "of more than 20 digits"
+
+
+def accepted_values(values):
+    if isinstance(values, range):
+        return "%d to %d" % (values[0], values[-1])
+    return ", ".join(map(str, values))
+
+
+def not_one_of(field, value, whose, values):
+    """The words, or nothing where the value would be accepted."""
+    if value not in values:
+        return "%s %s is not one of %s: %s" % (field, shown(value), whose, accepted_values(values))
+
+
+def by_size(mode, size, count):
+    """Whose a range is that goes by the mode, or by its size too."""
+    whose = "mode %d's" % mode
+    return whose if count(4) == count(32) else "%s at size %d" % (whose, size)
+
+
+def mode_words(field, asked):
+    return not_one_of(field, asked[field], "the map's", tuple(range(len(MODES))))
+
+
+def size_words(field, asked):
+    return not_one_of(field, asked[field], "mode %d's" % asked["mode"], MODES[asked["mode"]].sizes)
+
+
+def cell_words(field, asked):
+    mode, size = asked["mode"], asked.get("size", 0)  # AMC's collisions have no size
+    count = MODES[mode].cells
+    return not_one_of(field, asked[field], by_size(mode, size, count), range(count(size // 64)))
+
+
+def slot_words(field, asked):
+    return not_one_of(field, asked[field], "a zone's", range(SLOTS))
+
+
+def symbol_words(field, asked):
+    mode = asked["mode"]
+    return not_one_of(field, asked[field], "mode %d's" % mode, range(SLOTS * MODES[mode].symbols))
+
+
+def subchannel_words(field, asked):
+    mode, size = asked["mode"], asked["size"]
+    count = MODES[mode].subchannels
+    return not_one_of(field, asked[field], by_size(mode, size, count), range(count(size // 64)))
+
+
+def index_words(field, asked):
+    return not_one_of(field, asked[field], "a subchannel's", range(POINTS))
+
+
+def carrier_words(field, asked):
+    return not_one_of(field, asked[field], "size %d's" % asked["size"], range(asked["size"]))
+
+
+def length_words(field, asked):
+    given, right = asked[field]
+    return "%s of %d floats, not %d" % (field, given, right)
+
+
+# By number: the fields that its question is about, each with its words.
+FIELDS = {
+    1: {"mode": mode_words},
+    2: {"size": size_words},
+    3: {"cell": cell_words, "cell_a": cell_words, "cell_b": cell_words},
+    4: {"slot": slot_words, "symbol": symbol_words},
+    5: {"subchannel": subchannel_words, "subchannel_a": subchannel_words, "subchannel_b": subchannel_words},
+    6: {"index": index_words},
+    7: {"carrier": carrier_words},
+    8: {"points": length_words},
+    9: {"grid": length_words},
+}
+
+
+def field_words(number, asked):
+    """Of a request's fields by name, lengths as pairs of what is given and what would be accepted."""
+    for field, words in FIELDS[number].items():
+        told = field in asked and words(field, asked)
+        if told:
+            return told
+    return QUESTIONS[number]
+
+
+# --- plans ------------------------------------------------------------------------------------
+
+
+def order_words(size, zones, at):
+    mode, cell, _ = zones[at]
+    if size == 2048 and at == 0 and (mode, cell) != (0, 0):
+        return "mode %d with cell %d is first at size 2048, where only mode 0 with cell 0 is accepted" % (mode, cell)
+    if at > 0 and zones[at - 1][0] == 3 and mode != 3:
+        return "mode %d follows mode 3, after which only mode 3 is accepted" % mode
+
+
+def zone_words(number, size, zones, at):
+    """What question `number` finds in a zone, or nothing."""
+    mode, cell, slots = zones[at]
+    asked = {"mode": mode, "size": size, "cell": cell}
+    if number == 1:
+        return not_one_of("mode", mode, "a plan's", PLAN_MODES)
+    if number == 2:
+        return size_words("size", asked)
+    if number == 3:
+        return cell_words("cell", asked)
+    if number == 13:
+        return not_one_of("slots", slots, "a zone's", PLAN_SLOTS)
+    return order_words(size, zones, at)
+
+
+def places_words(count, zones):
+    """The first place past the count that is not all zero."""
+    for at, zone in enumerate(zones[count:], count + 1):
+        if any(zone):
+            given = ",".join(map(shown, zone))
+            return "place %d is %s, where past the count of %d only zeros are accepted" % (at, given, count)
+
+
+def plan_words(number, count, size, zones):
+    """Of a plan's own questions: 12, 2, and for each zone 1, 2, 3, 13, 14."""
+    if number == 12:
+        return not_one_of("count", count, "a plan's", PLAN_COUNTS) or places_words(count, zones) or QUESTIONS[number]
+    if number == 2 and size not in SIZES:
+        return not_one_of("size", size, "a plan's", SIZES)
+    for at in range(len(zones[:count])):
+        told = zone_words(number, size, zones, at)
+        if told:
+            return "zone %d: %s" % (at + 1, told)
+    return QUESTIONS[number]
+
+
+def value_length(value):
+    """The bytes that a value takes."""
+    return 1 + (value >= 2**7) + (value >= 2**14)
+
+
+def value_name(at):
+    """What the value of a plan at this place is."""
+    zone, part = divmod(at - 2, 3)
+    return ("the count", "the size")[at] if at < 2 else "zone %d's %s" % (zone + 1, ("mode", "cell", "slots")[part])
+
+
+def values_of(data):
+    """The values that the bytes start with, and the bytes behind the last that is whole and in its shortest form."""
+    values, data = [], bytes(data)
+    while True:
+        length = next((at for at, byte in enumerate(data[:3], 1) if byte < 128), 0)
+        value = sum((byte & 127) << 7 * at for at, byte in enumerate(data[:length]))
+        if length == 0 or length != value_length(value):
+            return values, data
+        values.append(value)
+        data = data[length:]
+
+
+def value_words(number, data):
+    """Of 10 and 11."""
+    values, rest = values_of(data)
+    name = value_name(len(values))
+    if number == 10:
+        return "%d bytes end within %s, and more must follow" % (len(data), name)
+    last = next((at for at, byte in enumerate(rest[:3], 1) if byte < 128), 0)
+    fault = "which is not its shortest form" if last else "and a fourth group is not accepted"
+    return "%s is %s, %s" % (name, rest[: last or 3].hex(" ").upper(), fault)
+
+
+def read_words(number, data, length):
+    """Of a plan's bytes: those that decide, and how many there are."""
+    if number in (10, 11):
+        return value_words(number, data)
+    values, _ = values_of(data)
+    zones = [tuple(values[at : at + 3]) for at in range(2, len(values) - 2, 3)]
+    if number == 15:
+        used = sum(value_length(value) for value in values[: 2 + 3 * values[0]])
+        return "%d bytes are given, and the plan ends after %d" % (length, used)
+    return plan_words(number, values[0], values[1] if values[1:] else 0, zones)
+
+
+def write_words(number, count, size, zones, room):
+    """Of a plan in numbers, and of its destination's bytes."""
+    if number == 16:
+        need = sum(map(value_length, [count, size, *(value for zone in zones[:count] for value in zone)]))
+        return "dest of %d bytes, not %d or more" % (room, need)
+    return plan_words(number, count, size, zones)

@@ -1,0 +1,354 @@
+#!/usr/bin/env python3
+"""Tries build.sh, and what goes by it, in copies of the tree where a stub stands for the prover.
+
+    python3 tests/test_build.py
+"""
+
+import os
+import shutil
+import signal
+import subprocess
+import sys
+import tempfile
+import time
+import unittest
+
+ROOT = os.path.dirname(os.path.dirname(os.path.abspath(__file__)))
+LIBRARY = os.path.join(ROOT, "build", "libbellpulsar.a")
+ASKED = ["place", "2", "1024", "17", "0", "0", "0"]
+ANSWER = "symbol 0 carrier 87\n"
+
+# Each stub notes its process. The first proves at once: its output is that of the prover for two crates.
+PROVES = """\
+#!/bin/sh
+echo $$ >>calls
+[ "$*" = "staticlib capi" ] || exit 9
+sleep ${PROOF:-0}
+echo "rt: base proved (3 s)" >&2
+echo "rt: text proved (unchanged since it was last proved)" >&2
+echo "fn capi::bp_place: proved"
+echo "logic=proved functions=14"
+mkdir -p target/staticlib && cp '%s' target/staticlib/libcapi.a
+echo done >>calls
+""" % LIBRARY
+# The second never ends by itself, nor does its child, whose process it notes too.
+ENDLESS = "#!/bin/sh\nsleep 600 & echo $! >>calls\necho $$ >>calls\nwait\n"
+FAILS = "#!/bin/sh\necho called >>calls\necho 'rt: map NOT PROVED' >&2\nexit 1\n"
+COMPILER = '#!/bin/sh\necho "$0" "$@" >>words\nexec cc "$@"\n'
+# Notes its words, and makes a program that does nothing.
+NO_COMPILER = """\
+#!/bin/sh
+echo "$0" "$@" >>words
+while [ $# -gt 1 ]; do
+    if [ "$1" = -o ]; then ln -sf /bin/true "$2"; fi
+    shift
+done
+"""
+
+CLEARED = ("CC", "CFLAGS", "LDFLAGS", "BELLPULSAR_LIBRARY")
+
+
+def stub(tree, name, text):
+    """A program of the tree's own."""
+    path = os.path.join(tree, "bin", name)
+    with open(path, "w") as file:
+        file.write(text)
+    os.chmod(path, 0o755)
+
+
+def environment(tree):
+    """As a user has it; the tree's own programs come first."""
+    env = {name: value for name, value in os.environ.items() if name not in CLEARED}
+    return dict(env, PATH=os.path.join(tree, "bin") + ":" + env["PATH"])
+
+
+def running(process):
+    """Whether a process runs; one that has ended and was not waited for does not."""
+    try:
+        with open("/proc/%d/stat" % process) as file:
+            return file.read().rsplit(")", 1)[1].split()[0] not in "ZX"
+    except (FileNotFoundError, ProcessLookupError):
+        return False
+
+
+def until(what, seconds=10):
+    end = time.monotonic() + seconds
+    while not what():
+        if time.monotonic() > end:
+            return False
+        time.sleep(0.01)
+    return True
+
+
+def small_tree(root):
+    """A tree whose crates have one small file in each folder."""
+    for name in ("build.sh", "bellpulsar", "crates.txt"):
+        shutil.copy(os.path.join(ROOT, name), root)
+    ignored = shutil.ignore_patterns("__pycache__")
+    for name in ("python", "include", "examples/c"):
+        shutil.copytree(os.path.join(ROOT, name), os.path.join(root, name), ignore=ignored)
+    for crate in os.listdir(os.path.join(ROOT, "crates")):
+        for part in ("src/lib.rt", "specs/Lib.antt", "proofs/Lib.antt"):
+            path = os.path.join(root, "crates", crate, part)
+            os.makedirs(os.path.dirname(path))
+            with open(path, "w") as file:
+                file.write(crate)
+
+
+def reached(crate):
+    """The crates that one needs, itself among them, by crates.txt."""
+    with open(os.path.join(ROOT, "crates.txt")) as file:
+        needs = dict(line.strip().split(":") for line in file if line[0] != "#")
+    names = [crate]
+    for name in names:
+        names += [need for need in needs[name].split() if need in needs and need not in names]
+    return names
+
+
+MODEL = tempfile.mkdtemp()  # the tree that every test copies
+
+
+def setUpModule():
+    unittest.addModuleCleanup(shutil.rmtree, MODEL)
+    small_tree(MODEL)
+    os.mkdir(os.path.join(MODEL, "bin"))
+    stub(MODEL, "rt", PROVES)
+    subprocess.run(["./build.sh"], cwd=MODEL, env=environment(MODEL), check=True, capture_output=True)
+    os.remove(os.path.join(MODEL, "calls"))
+    shutil.rmtree(os.path.join(MODEL, "target"))
+
+
+class Case(unittest.TestCase):
+    """A test has a tree of its own, whose library is current, and a prover that fails."""
+
+    def setUp(self):
+        self.tree = tempfile.mkdtemp()
+        self.addCleanup(shutil.rmtree, self.tree)
+        shutil.copytree(MODEL, self.tree, dirs_exist_ok=True)
+        self.env = environment(self.tree)
+        self.stub("rt", FAILS)
+
+    def path(self, *names):
+        return os.path.join(self.tree, *names)
+
+    def stub(self, name, text):
+        stub(self.tree, name, text)
+
+    def edit(self, *names):
+        """A file is other than it was, though its time says that it is old."""
+        with open(self.path(*names), "a") as file:
+            file.write("\n")
+        os.utime(self.path(*names), (10**9, 10**9))
+
+    def run_in_tree(self, *command, **env):
+        env = dict(self.env, **env)
+        return subprocess.run(command, cwd=self.tree, env=env, capture_output=True, text=True, timeout=60)
+
+    def build(self, *arguments, **env):
+        return self.run_in_tree("./build.sh", *arguments, **env)
+
+    def calls(self):
+        """What the stubs noted."""
+        try:
+            with open(self.path("calls")) as file:
+                return file.read().split()
+        except FileNotFoundError:
+            return []
+
+    def is_current(self):
+        done = self.build()
+        self.assertEqual((done.stdout, done.stderr, done.returncode, self.calls()), ("", "", 0, []))
+
+    def is_made_anew(self):
+        self.stub("rt", PROVES)
+        done = self.build()
+        self.assertEqual((done.returncode, len(self.calls())), (0, 2), done.stderr)
+        os.remove(self.path("calls"))
+
+
+class Current(Case):
+    """What is current goes by content."""
+
+    def test_a_copied_tree_is_current(self):
+        for folder, _, files in os.walk(self.tree):
+            for name in files:
+                os.utime(os.path.join(folder, name))
+        os.utime(self.path("build", "libbellpulsar.so"), (10**9, 10**9))
+        self.is_current()
+
+    def test_without_the_folder_of_the_prover(self):
+        self.assertFalse(os.path.exists(self.path("target")))
+        self.is_current()
+
+    def test_what_is_changed_is_made_anew(self):
+        for names in (["crates", "map", "src", "lib.rt"], ["crates.txt"], ["build.sh"]):
+            self.edit(*names)
+            self.is_made_anew()
+            self.stub("rt", FAILS)
+            self.is_current()
+
+    def test_files_that_come_and_go(self):
+        extra = self.path("crates", "amc", "specs", "More.antt")
+        with open(extra, "w"):
+            pass
+        self.is_made_anew()
+        os.remove(extra)
+        self.is_made_anew()
+        os.remove(self.path("build", "libbellpulsar.a"))
+        self.is_made_anew()
+
+    def test_crates_that_the_library_does_not_have(self):
+        self.edit("crates", "zones", "src", "main.rt")
+        self.is_current()
+
+    def test_whether_it_is(self):
+        self.assertEqual(self.build("--check").returncode, 0)
+        self.edit("crates", "map", "src", "lib.rt")
+        self.assertEqual(self.build("--check").returncode, 1)
+        self.assertEqual(self.calls(), [])
+        self.assertEqual(self.build("--nothing").returncode, 2)
+
+
+class Callers(Case):
+    def imported(self, **env):
+        lines = "import bellpulsar; print(bellpulsar.place(2, 1024, 17, 0, 0, 0))"
+        return self.run_in_tree(sys.executable, "-c", lines, PYTHONPATH=self.path("python"), **env)
+
+    def test_an_old_library_is_not_used(self):
+        self.assertEqual(self.imported().stdout, "Place(symbol=0, carrier=87)\n")
+        self.edit("crates", "map", "src", "lib.rt")
+        done = self.imported()
+        self.assertEqual((done.stdout, done.returncode), ("", 1))
+        last = done.stderr.splitlines()[-1]
+        self.assertRegex(last, "^ImportError: .*libbellpulsar.so is old: .*run ./build.sh")
+        named = self.imported(BELLPULSAR_LIBRARY=self.path("build", "libbellpulsar.so"))
+        self.assertEqual(named.stdout, "Place(symbol=0, carrier=87)\n")
+
+    def test_the_command_line_builds(self):
+        self.stub("rt", PROVES)
+        shutil.rmtree(self.path("build"))
+        done = self.run_in_tree("./bellpulsar", *ASKED)
+        self.assertEqual((done.stdout, done.returncode, len(self.calls())), (ANSWER, 0, 2))
+        self.edit("crates", "map", "src", "lib.rt")
+        done = self.run_in_tree("./bellpulsar", *ASKED)
+        self.assertEqual((done.stdout, done.returncode, len(self.calls())), (ANSWER, 0, 4))
+        self.assertEqual(self.run_in_tree("./bellpulsar", *ASKED).stderr, "")
+
+    def test_the_command_line_where_the_build_fails(self):
+        self.edit("crates", "map", "src", "lib.rt")
+        done = self.run_in_tree("./bellpulsar", *ASKED)
+        self.assertEqual((done.stdout, done.returncode), ("", 2))
+        self.assertIn("rt: map NOT PROVED\nbellpulsar: the engine could not be built\n", done.stderr)
+
+
+class Building(Case):
+    def test_what_is_proved_shows(self):
+        self.stub("rt", PROVES)
+        shutil.rmtree(self.path("build"))
+        done = self.build()
+        self.assertEqual((done.stdout, done.returncode), ("", 0))
+        shown = done.stderr.splitlines()
+        total = len(reached("capi"))
+        self.assertRegex(shown[0], "^bellpulsar: proving and building the engine, %d crates" % total)
+        proved = [("base", 1), ("text", 2), ("capi", total)]
+        self.assertEqual(shown[1:], ["bellpulsar: %s proved (%d of %d)" % (*crate, total) for crate in proved])
+        with open(self.path("build", "log")) as file:
+            self.assertIn("logic=proved functions=14\n", file)
+
+    def test_a_proof_that_fails(self):
+        self.edit("crates", "map", "src", "lib.rt")
+        for _ in range(2):
+            done = self.build()
+            self.assertEqual((done.stdout, done.returncode), ("", 2))
+            self.assertIn("rt: map NOT PROVED\n", done.stderr)
+            self.assertEqual(self.build("--check").returncode, 1)
+        self.assertEqual(self.calls(), ["called"] * 2)
+        self.assertEqual(self.run_in_tree("sh", "examples/c/run.sh", "point", *ASKED[1:]).returncode, 2)
+
+    def test_a_compiler_that_fails(self):
+        self.assertEqual(self.run_in_tree("sh", "examples/c/run.sh", "point", *ASKED[1:], CC="false").returncode, 2)
+        self.stub("rt", PROVES)
+        self.edit("crates", "map", "src", "lib.rt")
+        self.assertEqual(self.build(CC="false").returncode, 2)
+        self.assertEqual(self.build("--check").returncode, 1)
+
+    def test_streams_that_are_closed_or_full(self):
+        self.stub("rt", PROVES)
+        for streams in ("2>&-", "2>/dev/full", "<&- >&- 2>&-"):
+            self.edit("crates", "map", "src", "lib.rt")
+            self.assertEqual(self.run_in_tree("sh", "-c", "./build.sh " + streams).returncode, 0, streams)
+            self.assertEqual(self.run_in_tree("sh", "-c", "./build.sh --check " + streams).returncode, 0, streams)
+
+    def test_two_at_once(self):
+        self.stub("rt", PROVES)
+        self.edit("crates", "map", "src", "lib.rt")
+        options = {"env": dict(self.env, PROOF="0.3"), "stderr": subprocess.PIPE, "text": True}
+        both = [subprocess.Popen(["./build.sh"], cwd=self.tree, **options) for _ in range(2)]
+        told = [one.communicate(timeout=60)[1] for one in both]
+        self.assertEqual(([one.returncode for one in both], len(self.calls())), ([0, 0], 2), told)
+        self.assertEqual(sum("waiting" in text for text in told), 1)
+
+    def test_the_compiler_and_its_words(self):
+        self.stub("rt", PROVES)
+        self.stub("mine", COMPILER)
+        words = {"CC": "env mine", "CFLAGS": "-g -DA=1", "LDFLAGS": "-Wl,-z,now -Wl,-z,relro"}
+        self.edit("crates", "map", "src", "lib.rt")
+        self.assertEqual(self.build(**words).returncode, 0)
+        done = self.run_in_tree("sh", "examples/c/run.sh", "point", *ASKED[1:], **words)
+        self.assertEqual((done.stdout.splitlines()[0] + "\n", done.returncode), (ANSWER, 0), done.stderr)
+        with open(self.path("words")) as file:
+            lines = file.read().splitlines()
+        self.assertEqual(len(lines), 2)
+        for line in lines:
+            self.assertIn(" -g -DA=1 ", line)
+            self.assertIn(" -Wl,-z,now -Wl,-z,relro", line)
+
+    def test_the_compiler_of_the_tests_and_the_benchmark(self):
+        self.stub("mine", NO_COMPILER)
+        self.stub("python3", "#!/bin/sh\n")
+        for name in ("tests/capi", "bench"):
+            shutil.copytree(os.path.join(ROOT, name), self.path(name))
+        os.makedirs(self.path("crates", "plan_vectors"), exist_ok=True)
+        with open(self.path("crates", "plan_vectors", "stdout"), "w"):
+            pass
+        words = {"CC": "env mine", "CFLAGS": "-g -DA=1", "LDFLAGS": "-Wl,-z,now"}
+        for script, compiled in (("tests/capi/run.sh", 4), ("bench/run.sh", 1)):
+            done = self.run_in_tree("sh", script, **words)
+            self.assertEqual(done.returncode, 0, done.stderr)
+            with open(self.path("words")) as file:
+                lines = [line for line in file if " -o " in line and "-x c++" not in line]
+            self.assertEqual(len(lines), compiled, script)
+            for line in lines:
+                self.assertIn(" -g -DA=1 -Wl,-z,now ", line)
+            os.remove(self.path("words"))
+
+
+class Killed(Case):
+    """Whoever is killed, no prover runs on, and the next build is not held up."""
+
+    def prover_ends(self, command, number):
+        self.stub("rt", ENDLESS)
+        self.edit("crates", "map", "src", "lib.rt")
+        options = {"env": self.env, "stderr": subprocess.DEVNULL, "start_new_session": True}
+        caller = subprocess.Popen(command, cwd=self.tree, **options)
+        self.assertTrue(until(lambda: len(self.calls()) == 2))
+        processes = list(map(int, self.calls()))
+        self.assertTrue(all(map(running, processes)))
+        caller.send_signal(number)
+        self.assertEqual(caller.wait(timeout=10), -number)
+        self.assertTrue(until(lambda: not any(map(running, processes))), (command, number))
+        os.remove(self.path("calls"))
+        self.is_made_anew()
+
+    def test_the_builder(self):
+        for number in (signal.SIGINT, signal.SIGTERM, signal.SIGHUP, signal.SIGKILL):
+            self.prover_ends([self.path("build.sh")], number)
+
+    def test_the_command_line(self):
+        for number in (signal.SIGINT, signal.SIGTERM, signal.SIGKILL):
+            self.prover_ends([self.path("bellpulsar"), *ASKED], number)
+
+
+if __name__ == "__main__":
+    subprocess.run([os.path.join(ROOT, "build.sh")], check=True)
+    unittest.main()
