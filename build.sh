@@ -34,6 +34,7 @@ crates=$(awk -F: '
     }
     { sub(/#.*/, ""); needs[$1] = $2 }
     END { visit("capi") }' crates.txt)
+below=$(echo "$crates" | grep -vx capi)
 sources=$(for crate in $crates; do
     for part in src specs proofs; do
         [ ! -d "crates/$crate/$part" ] || echo "crates/$crate/$part"
@@ -69,14 +70,15 @@ now=$(content)
 total=$(echo "$crates" | wc -l)
 say "proving and building the engine, $total crates (about two minutes the first time)"
 
-# The prover has a session of its own, in which a watcher reads from a pipe that only this script can write to. So where
-# this script ends, whatever ends it, the watcher reads the pipe's end and kills the session's processes.
+# First all crates below capi, as many at a time as there are processors, then capi as a static library. The prover's
+# processes are a group of their own, in which a watcher reads from a pipe that only this script can write to. So where
+# this script ends, whatever ends it, the watcher reads the pipe's end and kills the group.
 mkfifo "$new/alive" "$new/said"
 exec 7<>"$new/alive" 8<"$new/alive"
 exec 6>build/log
 setsid --wait sh -c '
     { read -r nothing <&8; kill -s KILL -- "-$$"; } >/dev/null 2>&1 9>&- &
-    exec rt staticlib capi 8<&-' >"$new/said" 2>&1 6>&- 7>&- &
+    rt check "$@" 8<&- && exec rt staticlib capi 8<&-' sh $below >"$new/said" 2>&1 6>&- 7>&- &
 prover=$!
 proved=0
 while IFS= read -r line; do
@@ -84,7 +86,7 @@ while IFS= read -r line; do
     case $line in
     "rt: "*" proved ("*)
         proved=$((proved + 1)) crate=${line#rt: }
-        say "${crate%% *} proved ($proved of $total)"
+        [ "$proved" -ge "$total" ] || say "${crate%% *} proved ($proved of $total)"
         ;;
     esac
 done <"$new/said"

@@ -18,14 +18,20 @@ LIBRARY = os.path.join(ROOT, "build", "libbellpulsar.a")
 ASKED = ["place", "2", "1024", "17", "0", "0", "0"]
 ANSWER = "symbol 0 carrier 87\n"
 
-# Each stub notes its process. The first proves at once: its output is that of the prover for two crates.
+# Each stub notes its process. The first proves at once: it says the crates that it was given one by one, then, at the static
+# library, all of them again, as the prover does.
 PROVES = """\
 #!/bin/sh
 echo $$ >>calls
-[ "$*" = "staticlib capi" ] || exit 9
 sleep ${PROOF:-0}
-echo "rt: base proved (3 s)" >&2
-echo "rt: text proved (unchanged since it was last proved)" >&2
+if [ "$1" = check ]; then
+    shift
+    for crate in "$@"; do echo "rt: $crate proved (3 s)"; echo "$crate" >>checked; done
+    echo "rt: ok, $# crates proved"
+    exit
+fi
+[ "$*" = "staticlib capi" ] || exit 9
+while read -r crate; do echo "rt: $crate proved (unchanged since it was last proved)" >&2; done <checked
 echo "fn capi::bp_place: proved"
 echo "logic=proved functions=14"
 mkdir -p target/staticlib && cp '%s' target/staticlib/libcapi.a
@@ -228,10 +234,10 @@ class Callers(Case):
         self.stub("rt", PROVES)
         shutil.rmtree(self.path("build"))
         done = self.run_in_tree("./bellpulsar", *ASKED)
-        self.assertEqual((done.stdout, done.returncode, len(self.calls())), (ANSWER, 0, 2))
+        self.assertEqual((done.stdout, done.returncode, len(self.calls())), (ANSWER, 0, 3))
         self.edit("crates", "map", "src", "lib.rt")
         done = self.run_in_tree("./bellpulsar", *ASKED)
-        self.assertEqual((done.stdout, done.returncode, len(self.calls())), (ANSWER, 0, 4))
+        self.assertEqual((done.stdout, done.returncode, len(self.calls())), (ANSWER, 0, 6))
         self.assertEqual(self.run_in_tree("./bellpulsar", *ASKED).stderr, "")
 
     def test_the_command_line_where_the_build_fails(self):
@@ -250,8 +256,11 @@ class Building(Case):
         shown = done.stderr.splitlines()
         total = len(reached("capi"))
         self.assertRegex(shown[0], "^bellpulsar: proving and building the engine, %d crates" % total)
-        proved = [("base", 1), ("text", 2), ("capi", total)]
-        self.assertEqual(shown[1:], ["bellpulsar: %s proved (%d of %d)" % (*crate, total) for crate in proved])
+        crates = [line.split()[1] for line in shown[1:]]
+        self.assertEqual((sorted(crates), crates[-1]), (sorted(reached("capi")), "capi"))
+        self.assertEqual(
+            shown[1:], ["bellpulsar: %s proved (%d of %d)" % (name, n, total) for n, name in enumerate(crates, 1)]
+        )
         with open(self.path("build", "log")) as file:
             self.assertIn("logic=proved functions=14\n", file)
 
