@@ -8,11 +8,12 @@ use Rattle.pusc_dl.specs.Table.{renumbering, renumberingInverse}
 use Rattle.pusc_dl.specs.declared.Physical.{Physical}
 use Rattle.pusc_dl.specs.declared.Logical.{Logical}
 
--- Logical = R[(physical + 13·cell) mod 120]. This and its inverse are the only passage between the two numbers.
-unfoldable pub renumber : ℕ → Physical → Logical
+-- Document 01's formula: logical = R[(physical + 13·cell) mod 120]. Placing goes by its inverse, `unrenumber`, below; that each undoes the other is `Renumbering` (Law.antt). They are the only passage between the two numbers.
+unfoldable pub renumber : (cell : ℕ) (p : Physical) → Logical
 renumber cell p = record { 0 = entry renumbering ((p .0 + 13 * cell) % 120) }
 
-unfoldable pub unrenumber : ℕ → Logical → Physical
+-- The reverse: the physical number of a logical one.
+unfoldable pub unrenumber : (cell : ℕ) (l : Logical) → Physical
 unrenumber cell l = record { 0 = (entry renumberingInverse (l .0) + (120 - 13 * cell % 120)) % 120 }
 
 -- In even symbols cluster places 4 and 8 are pilots, in odd ones 0 and 12.
