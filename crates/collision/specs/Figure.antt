@@ -47,7 +47,7 @@ sum (suc n) f = sum n f + f n
 
 -- Demand 3: the count is at most 32, 14, 8 and 4 at sizes 256, 512, 1024 and 2048, which have N = 4, 8, 16 and 32.
 unfoldable pub most : ℕ → ℕ
-most n = pick (eqb n 4) 32 (pick (eqb n 8) 14 (pick (eqb n 16) 8 4))
+most n = pick (eqb n 4) 32 (pick (eqb n 8) 14 (pick (eqb n 16) 8 (pick (eqb n 32) 4 0)))
 
 -- two different cells and subchannels of theirs that reach the 2 in some N-1 groups in a row, and the count
 pub record Reached (n : ℕ) : Type 0 where

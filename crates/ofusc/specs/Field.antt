@@ -5,7 +5,7 @@ use lib.Bits.{bitXor}
 use Rattle.base.specs.Choice.{pick}
 
 unfoldable pub modulus : ℕ → ℕ
-modulus n = pick (eqb n 4) 7 (pick (eqb n 8) 11 (pick (eqb n 16) 19 37))
+modulus n = pick (eqb n 4) 7 (pick (eqb n 8) 11 (pick (eqb n 16) 19 (pick (eqb n 32) 37 0)))
 
 -- the coefficient of degree i of a polynomial
 unfoldable pub coefficient : ℕ → ℕ → ℕ

@@ -11,7 +11,7 @@ use Rattle.base.specs.Steps.{rotate, unrotate, entry}
 use Rattle.base.proofs.Perm.{Perm, rotation, compose}
 use Rattle.base.proofs.Table.{all, all-at}
 use Rattle.base.proofs.Test.{cases}
-use Rattle.pusc_dl.specs.Group.{clusterStarts, subchannelStarts, groupIn, groupSize, baseOf, baseInverse, groupData, groupSubchannel, groupIndex}
+use Rattle.pusc_dl.specs.Group.{clusterStarts, subchannelStarts, groupIn, groupSize, ofSize, baseOf, baseInverse, groupData, groupSubchannel, groupIndex}
 use Rattle.pusc_dl.proofs.Tables.{b12-perm, b8-perm}
 
 pub size-pos : (g : ℕ) → 0 < groupSize g
@@ -22,12 +22,13 @@ pub size-le : (g : ℕ) → groupSize g ≤ 12
 unfolding groupSize
 size-le g = cases (eqb (g % 2) 0) (λ e. rw e (omega arith)) (λ e. rw e (omega arith))
 
-pub size-8 : (g : ℕ) → (groupSize g ≡ 12 → ⊥) → groupSize g ≡ 8
+-- a size that is not 12 is 8
+pub size-8 : (g m : ℕ) → m ≡ groupSize g → (m ≡ 12 → ⊥) → groupSize g ≡ 8
 unfolding groupSize
-size-8 g ne = cases (eqb (g % 2) 0) (λ e. absurd (ne (rw e))) (λ e. rw e)
+size-8 g m s ne = cases (eqb (g % 2) 0) (λ e. absurd (ne (s ∙ rw e))) (λ e. rw e)
 
 base-perm : (g : ℕ) → Perm (groupSize g) (baseOf (groupSize g)) (baseInverse (groupSize g))
-unfolding groupSize baseOf baseInverse
+unfolding groupSize ofSize baseOf baseInverse
 base-perm g = cases (eqb (g % 2) 0) (λ e. rw e b12-perm) (λ e. rw e b8-perm)
 
 -- the points of the subchannels of group g in a symbol, and its data numbers

@@ -25,12 +25,16 @@ groupIn starts x =
 unfoldable pub groupSize : ℕ → ℕ
 groupSize g = pick (eqb (g % 2) 0) 12 8
 
+-- what a group of 12 subchannels has and what one of 8 has; there is no other
+unfoldable pub ofSize : ℕ → List ℕ → List ℕ → List ℕ
+ofSize m twelve eight = pick (eqb m 12) twelve (pick (eqb m 8) eight [])
+
 -- B of a group of M subchannels
 unfoldable pub baseOf : ℕ → ℕ → ℕ
-baseOf m i = entry (pick (eqb m 12) base12 base8) i
+baseOf m i = entry (ofSize m base12 base8) i
 
 unfoldable pub baseInverse : ℕ → ℕ → ℕ
-baseInverse m x = entry (pick (eqb m 12) base12Inverse base8Inverse) x
+baseInverse m x = entry (ofSize m base12Inverse base8Inverse) x
 
 -- With s counted in the group and k = index mod 24: n = (k+13s) mod 24, group data number = M·n + (B[(n+s) mod M] + cell) mod M.
 unfoldable pub groupData : ℕ → ℕ → ℕ → ℕ → ℕ

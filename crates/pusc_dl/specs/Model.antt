@@ -18,7 +18,7 @@ tableEntry cell i =
 
 -- where the base of a group's size starts in the table
 unfoldable pub baseStart : ℕ → ℕ
-baseStart g = pick (eqb (groupSize g) 12) 120 156
+baseStart g = pick (eqb (groupSize g) 12) 120 (pick (eqb (groupSize g) 8) 156 0)
 
 -- the spot of point m of subchannel s, counted in group g, as a number
 unfoldable pub groupSpot : ℕ → ℕ → ℕ → ℕ → ℕ

@@ -10,8 +10,6 @@ use carriers::Spot;
 ghost use mathlib.Core.Path.{_≡_};
 ghost use mathlib.Core.Bool.{false};
 ghost use Prim.Native.Nat.{_+_, _*_, _/_, _%_, _<_, _≤_};
-ghost use lib.Dec.{eqb};
-ghost use Rattle.base.specs.Choice.{pick};
 ghost use Rattle.base.specs.Steps.{entry, unrotate as Unrotate};
 ghost use Rattle.base.specs.Tabulate.{tabulate};
 ghost use Rattle.base.specs.Model.{Starts};
@@ -19,7 +17,7 @@ ghost use Rattle.carriers.specs.Model.{spotNumber};
 ghost use Rattle.pusc_dl.specs.Table.{renumberingInverse, base12, base8};
 ghost use Rattle.pusc_dl.specs.Cluster as cluster;
 ghost use Rattle.pusc_dl.specs.Cluster.{firstPilot, secondPilot, isClusterPilot, clusterPlace, clusterData};
-ghost use Rattle.pusc_dl.specs.Group.{groupIn, groupSize, groupData, groupSubchannel, groupIndex};
+ghost use Rattle.pusc_dl.specs.Group.{groupIn, groupSize, ofSize, groupData, groupSubchannel, groupIndex};
 ghost use Rattle.pusc_dl.specs.Map.{groupUsed, usedGroup, usedData, spotOf, addressOf};
 ghost use Rattle.pusc_dl.specs.Model.{tableEntry, baseStart, groupSpot};
 
@@ -418,7 +416,7 @@ fn size_unrotate(g: usize, c: usize, y: usize) -> usize
 // The entry of the table for a group's size.
 fn of_size(g: usize, twelve: [u8; 12], eight: [u8; 8], i: usize) -> usize
     requires { ⌜ i < groupSize g ⌝ }
-    ensures { λ r. ⌜ (r ≡ entry (pick (eqb (groupSize g) 12) twelve eight) i) × (r < 256) ⌝ }
+    ensures { λ r. ⌜ (r ≡ entry (ofSize (groupSize g) twelve eight) i) × (r < 256) ⌝ }
 {
     if group_size(g) == 12 {
         wide(twelve[i])

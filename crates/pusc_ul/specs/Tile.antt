@@ -31,4 +31,4 @@ placeCarrier q = pick (ltb q 12) (q % 2 + 1) (pick (ltb q 36) ((q - 12) % 4) ((q
 -- the data place of a carrier of tile t in a symbol of the slot, no pilot
 unfoldable pub dataPlace : ℕ → ℕ → ℕ → ℕ
 dataPlace offset t carrier =
-    pick (eqb offset 0) (t * 2 + (carrier - 1)) (pick (eqb offset 1) (12 + (t * 4 + carrier)) (36 + (t * 2 + (carrier - 1))))
+    pick (eqb offset 0) (t * 2 + (carrier - 1)) (pick (eqb offset 1) (12 + (t * 4 + carrier)) (pick (eqb offset 2) (36 + (t * 2 + (carrier - 1))) 48))

@@ -9,7 +9,7 @@ returns : tie.Need-returns
 returns c = rw (sym (c .before .group-size .ensures .0) ∙ c .if1 .taken)
 
 returns-2 : tie.Need-returns-2
-returns-2 c = rw (size-8 _ (λ e. c .if1 .left (c .before .group-size .ensures .0 ∙ e)))
+returns-2 c = rw (size-8 _ _ (c .before .group-size .ensures .0) (c .if1 .left))
 
 pub size-quotient-spec : {M : Type 1} → statement M
 size-quotient-spec = tie.close (tie.spec (λ c κs. search needs) returns returns-2)
