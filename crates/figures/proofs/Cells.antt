@@ -11,7 +11,7 @@ use Rattle.base.proofs.Test.{cases}
 use Rattle.ofusc.specs.Field.{times, power, p1, p2}
 use Rattle.ofusc.specs.Map.{term, mask}
 use Rattle.ofusc.proofs.Sequence.{term-zero, term-entry}
-use Rattle.collision.proofs.Field.{shift, Doubling, xor-swap, xor-zero, shift-lt, shift-sum, shift-add, shift-mod, shift-zero, shift-back, still, still-twice, three}
+use Rattle.figures.proofs.Field.{shift, Doubling, xor-swap, xor-zero, shift-lt, shift-sum, shift-add, shift-mod, shift-zero, shift-back, still, still-twice, three}
 
 power-shift : (n i : ℕ) → power n 2 i ≡ shift n i 1
 unfolding power shift

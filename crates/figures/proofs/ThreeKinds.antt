@@ -18,9 +18,10 @@ use Rattle.amc.proofs.Digit.{same-number, number-digits, add-proper, subtract-a
 use Rattle.amc.proofs.Tables.{powers}
 use Rattle.amc.proofs.ZeroRule.{rule-other}
 use Rattle.amc.proofs.Law.{off-proper, turn-lt, traffic-number}
 use Rattle.collision.specs.Collision.{countOf, amcHit}
-use Rattle.collision.proofs.Count.{one, one-le, no-two-of, count-cover}
-use Rattle.collision.proofs.DifferenceTest.{distance, difference}
+use Rattle.collision.proofs.Count.{one, one-le}
+use Rattle.figures.proofs.Count.{no-two-of, count-cover}
+use Rattle.figures.proofs.DifferenceTest.{distance, difference}
 
 abbrev turned : ℕ → ℕ → ℕ
 turned cell j = (j + cell % 48) % 48

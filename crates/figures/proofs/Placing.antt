@@ -15,9 +15,9 @@ use Rattle.map.specs.Place.{Place, placeAt, placeOf}
 use Rattle.map.specs.Valid.{setupWith, ofusc, amc}
 use Rattle.map.proofs.Accept.{width-is}
 use Rattle.map.proofs.Law.{place-accepts}
 use Rattle.collision.specs.Collision.{indexIn}
-use Rattle.collision.specs.Figure.{InGroup}
+use Rattle.figures.specs.Word.{InGroup}
 use Rattle.collision.proofs.Group.{carrierAt, same-number, element, element-lt, number-in}
 use Rattle.amc.specs.Map as adjacent
 
 -- data number d of symbol y
@@ -39,6 +39,10 @@ module _ {n : ℕ} (w : Width n) (cell slot s m : ℕ) (hy : slot < 512) (hs : s
   amc-placed h =
       place-accepts (setupWith 3 (64 * n) cell) slot s m (amc w h) hy (rw (width-is n) hs) hm
       ∙ rw (width-is n, one-symbol slot)
+
+pub index-lt : (s k : ℕ) → indexIn s k < 48
+unfolding indexIn
+index-lt s k = omega arith
 
 -- subchannel s has index (k-23s) mod 48 in group k, and no other
 module _ {n : ℕ} (w : Width n) (cell slot s k m : ℕ) (hs : s < n) (hk : k < 48) (hm : m < 48) where

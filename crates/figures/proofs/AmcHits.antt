@@ -12,10 +12,10 @@ use Rattle.amc.specs.Map.{traffic, dataNumber}
 use Rattle.amc.proofs.Law.{law}
 use Rattle.map.specs.Place.{Place, placeOf}
 use Rattle.map.specs.Valid.{setupWith}
 use Rattle.collision.specs.Collision.{amcHit}
-use Rattle.collision.specs.Figure.{SamePlace}
+use Rattle.figures.specs.Word.{SamePlace}
 use Rattle.collision.proofs.Group.{same-number}
-use Rattle.collision.proofs.Placing.{at, amc-placed}
+use Rattle.figures.proofs.Placing.{at, amc-placed}
 
 -- the shape of the slot: v decides the data number, and the data number v
 same-v : (s v u : ℕ) → (6 * s + v / 8) * 8 + v % 8 ≡ (6 * s + u / 8) * 8 + u % 8 → v ≡ u

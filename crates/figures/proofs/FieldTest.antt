@@ -9,7 +9,7 @@ use Rattle.base.proofs.Table.{all, all-at}
 use Rattle.ofusc.specs.Width.{Width}
 use Rattle.ofusc.specs.Field.{modulus, coefficient, product, remainder, times}
 use Rattle.ofusc.proofs.Sequence.{at-width, size, sum-lt}
-use Rattle.collision.proofs.Field.{shift, Doubling}
+use Rattle.figures.proofs.Field.{shift, Doubling}
 
 -- N² sums, N doublings, N turns, and N·(N-2) steps
 sums : ℕ → ℕ → ℕ → Bool
