@@ -7,7 +7,7 @@ ghost use Prim.Native.Nat.{_/_, _%_, _<_};
 ghost use Rattle.base.specs.Tabulate.{tabulate};
 ghost use Rattle.base.specs.Model.{Starts};
 ghost use Rattle.amc.specs.Model.{sumPlace, sequencePlace, sequenceNumber};
-ghost use Rattle.amc.specs.Element.{Proper, element, number as Number, digits as Digits, add as Add, subtract as Subtract, sequence as Sequence};
+ghost use Rattle.amc.specs.Element.{Proper, element, baseSeven, digits as Digits, add as Add, subtract as Subtract, sequence as Sequence};
 ghost use Rattle.amc.specs.Map.{off as Off, zeroRule, sumOf, elementOf, traffic as Traffic, indexOf, dataNumber, addressOf};
 
 // The sequence P as document 004 prints it: the digits of 22 are 2 and 2.
@@ -62,7 +62,7 @@ const SEQUENCE: [u8; 48] = [
     10,
 ];
 
-// Where in P an element stands, by its number in base seven.
+// The reverse: where in P an element stands, by its number in base seven.
 const POSITIONS: [u8; 49] = [
     0,
     0,
@@ -121,13 +121,15 @@ pub struct Element {
     pub low: usize,
 }
 
-fn number(e: Element) -> usize
+// An element read in base seven.
+fn base_seven(e: Element) -> usize
     requires { ⌜ Proper e ⌝ }
-    ensures { λ r. ⌜ r ≡ Number e ⌝ }
+    ensures { λ r. ⌜ r ≡ baseSeven e ⌝ }
 {
     e.high * 7 + e.low
 }
 
+// A number below 49 as two base-seven digits.
 fn digits(x: usize) -> Element
     ensures { λ r. ⌜ r ≡ Digits x ⌝ }
 {
@@ -183,16 +185,20 @@ fn zero_rule(o: Element, p: Element) -> Element
     ensures { λ r. ⌜ r ≡ zeroRule o (Add p o) ⌝ }
 {
     let sum = add(p, o);
-    if number(sum) == 0 { o } else { sum }
+    if base_seven(sum) == 0 { o } else { sum }
 }
 
-// The sum that the zero rule made e of.
+// The reverse: the sum that the zero rule made e of.
 fn sum_of(o: Element, e: Element) -> Element
     requires { ⌜ Proper o ⌝ }
     requires { ⌜ Proper e ⌝ }
     ensures { λ r. ⌜ r ≡ sumOf o e ⌝ }
 {
-    if number(e) == number(o) { digits(0) } else { e }
+    if base_seven(e) == base_seven(o) {
+        digits(0)
+    } else {
+        e
+    }
 }
 
 // The place v of index j among the 48 traffic places of a subchannel.
@@ -202,19 +208,21 @@ fn traffic(cell: usize, j: usize) -> usize
 {
     let o = off(cell);
     let p = sequence((j + cell % 48) % 48);
-    number(zero_rule(o, p)) - 1
+    base_seven(zero_rule(o, p)) - 1
 }
 
+// The reverse: the index of v.
 fn index(cell: usize, v: usize) -> usize
     requires { ⌜ (cell < 2352) × (v < 48) ⌝ }
     ensures { λ r. ⌜ r ≡ indexOf cell v ⌝ }
 {
     let o = off(cell);
     let sum = sum_of(o, digits(v + 1));
-    let x = number(subtract(sum, o));
+    let x = base_seven(subtract(sum, o));
     unrotate(48, cell % 48, wide(POSITIONS[x]))
 }
 
+// The data number of a point.
 pub fn data_number(cell: usize, subchannel: usize, index: usize) -> usize
     requires { ⌜ (cell < 2352) × (subchannel < 65536) × (index < 48) ⌝ }
     ensures { λ r. ⌜ r ≡ dataNumber cell subchannel index ⌝ }
@@ -223,6 +231,7 @@ pub fn data_number(cell: usize, subchannel: usize, index: usize) -> usize
     (6 * subchannel + v / 8) * 8 + v % 8
 }
 
+// The reverse: the point of a data number.
 pub fn address(cell: usize, d: usize) -> Address
     requires { ⌜ cell < 2352 ⌝ }
     ensures { λ r. ⌜ r ≡ addressOf cell d ⌝ }

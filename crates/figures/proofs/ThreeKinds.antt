@@ -12,7 +12,7 @@ use Rattle.base.proofs.Test.{cases}
 use Rattle.base.proofs.Perm.{rotation}
 use Rattle.amc.specs.declared.Element.{Element}
 use Rattle.amc.specs.Table.{positions}
-use Rattle.amc.specs.Element.{Proper, element, number, add, subtract, sequence}
+use Rattle.amc.specs.Element.{Proper, element, baseSeven, add, subtract, sequence}
 use Rattle.amc.specs.Map.{off, elementOf, traffic}
 use Rattle.amc.proofs.Digit.{same-number, number-digits, add-proper, subtract-add}
 use Rattle.amc.proofs.Tables.{powers}
@@ -31,14 +31,14 @@ sumAt cell j = add (sequence (turned cell j)) (off cell)
 
 -- each entry of P stands in one place
 same-place : (i j : ℕ) → i < 48 → j < 48 → sequence i ≡ sequence j → i ≡ j
-same-place i j hi hj e = sym (powers i hi .position) ∙ ap (λ (x : Element). entry positions (number x)) e ∙ powers j hj .position
+same-place i j hi hj e = sym (powers i hi .position) ∙ ap (λ (x : Element). entry positions (baseSeven x)) e ∙ powers j hj .position
 
 same-turn : (d i j : ℕ) → i < 48 → j < 48 → (i + d) % 48 ≡ (j + d) % 48 → i ≡ j
 same-turn d i j hi hj e = omega arith
 
 -- the zero rule fires at index j
 fires : ℕ → ℕ → Bool
-fires cell j = eqb (number (sumAt cell j)) 0
+fires cell j = eqb (baseSeven (sumAt cell j)) 0
 
 fires-once : (cell : ℕ) → cell < 2352 → (i j : ℕ) → i < 48 → j < 48 → fires cell i ≡ true → fires cell j ≡ true → i ≡ j
 unfolding fires sumAt
@@ -53,7 +53,7 @@ fires-once cell range i j hi hj p q =
 
 -- both sums are the same at index j
 agree : ℕ → ℕ → ℕ → Bool
-agree a b j = eqb (number (sumAt a j)) (number (sumAt b j))
+agree a b j = eqb (baseSeven (sumAt a j)) (baseSeven (sumAt b j))
 
 -- equal sums: the difference of the entries is that of the offsets
 crossed-digit : (x y o p : ℕ) → x < 7 → p < 7 → (x + o) % 7 ≡ (y + p) % 7 → unrotate 7 y x ≡ unrotate 7 o p
@@ -96,7 +96,7 @@ module _ (a b : ℕ) (ha : a < 2352) (hb : b < 2352) (other : a ≡ b → ⊥) w
   never j same e =
       let o = same-offset (sequence (turned b j)) (off a) (off b) (off-proper a ha) (off-proper b hb)
       (ap (λ (r : ℕ). add (sequence ((j + r) % 48)) (off a)) (sym same) ∙ agreed j e) in
-      let q : a / 48 ≡ b / 48 = sym (number-digits (a / 48)) ∙ ap number o ∙ number-digits (b / 48) in
+      let q : a / 48 ≡ b / 48 = sym (number-digits (a / 48)) ∙ ap baseSeven o ∙ number-digits (b / 48) in
       other (omega arith)
 
   agree-once : (i j : ℕ) → i < 48 → j < 48 → agree a b i ≡ true → agree a b j ≡ true → i ≡ j
@@ -109,9 +109,9 @@ module _ (a b : ℕ) (ha : a < 2352) (hb : b < 2352) (other : a ≡ b → ⊥) w
       d : ℕ
       d = (b % 48 + 47 - a % 48) % 48
 
-      at : (j : ℕ) → agree a b j ≡ true → (a % 48 ≡ b % 48 → ⊥) → entry positions (number (subtract (off b) (off a))) ≡ (turned a j + distance (suc d)) % 48
+      at : (j : ℕ) → agree a b j ≡ true → (a % 48 ≡ b % 48 → ⊥) → entry positions (baseSeven (subtract (off b) (off a))) ≡ (turned a j + distance (suc d)) % 48
       at j e ne =
-          ap (λ (x : Element). entry positions (number x)) (sym (entries j e) ∙ ap (λ (k : ℕ). subtract (sequence (turned a j)) (sequence k)) (onto j))
+          ap (λ (x : Element). entry positions (baseSeven x)) (sym (entries j e) ∙ ap (λ (k : ℕ). subtract (sequence (turned a j)) (sequence k)) (onto j))
           ∙ difference d (turned a j) (short ne) (turn-lt a ha j)
         where
           near : (p q : ℕ) → p < 48 → q < 48 → (p + suc ((q + 47 - p) % 48)) % 48 ≡ q
@@ -135,11 +135,11 @@ module _ (a b : ℕ) (ha : a < 2352) (hb : b < 2352) (other : a ≡ b → ⊥) w
   unfolding amcHit fires agree sumAt elementOf
   agrees j p q e =
       eq-eqb _ _
-      (sym (ap number (rule-other (off a) (sumAt a j) (eqb-false _ 0 p)))
+      (sym (ap baseSeven (rule-other (off a) (sumAt a j) (eqb-false _ 0 p)))
       ∙ sym (traffic-number a ha j)
       ∙ ap (λ (v : ℕ). v + 1) (eqb-true (traffic a j) (traffic b j) e)
       ∙ traffic-number b hb j
-      ∙ ap number (rule-other (off b) (sumAt b j) (eqb-false _ 0 q)))
+      ∙ ap baseSeven (rule-other (off b) (sumAt b j) (eqb-false _ 0 q)))
 
   kinds : (j : ℕ) → one (amcHit a b j) ≤ one (fires a j) + one (fires b j) + one (agree a b j)
   kinds j =

@@ -5,7 +5,7 @@ use lib.Dec.{eqb}
 use Rattle.base.specs.Choice.{pick}
 
 -- P1
-unfoldable pub printed1 : ℕ → List ℕ
+unfoldable pub printed1 : (n : ℕ) → List ℕ
 printed1 n =
     pick (eqb n 4) (1 ∷ 2 ∷ 3 ∷ [])
     (pick (eqb n 8) (1 ∷ 2 ∷ 4 ∷ 3 ∷ 6 ∷ 7 ∷ 5 ∷ [])
@@ -13,7 +13,7 @@ printed1 n =
     (pick (eqb n 32) (1 ∷ 2 ∷ 4 ∷ 8 ∷ 16 ∷ 5 ∷ 10 ∷ 20 ∷ 13 ∷ 26 ∷ 17 ∷ 7 ∷ 14 ∷ 28 ∷ 29 ∷ 31 ∷ 27 ∷ 19 ∷ 3 ∷ 6 ∷ 12 ∷ 24 ∷ 21 ∷ 15 ∷ 30 ∷ 25 ∷ 23 ∷ 11 ∷ 22 ∷ 9 ∷ 18 ∷ []) [])))
 
 -- P2
-unfoldable pub printed2 : ℕ → List ℕ
+unfoldable pub printed2 : (n : ℕ) → List ℕ
 printed2 n =
     pick (eqb n 4) (1 ∷ 3 ∷ 2 ∷ [])
     (pick (eqb n 8) (1 ∷ 4 ∷ 6 ∷ 5 ∷ 2 ∷ 3 ∷ 7 ∷ [])

@@ -287,7 +287,7 @@ const CLUSTER_STARTS: [usize; 6] = [0, 24, 40, 64, 80, 104];
 
 const SUBCHANNEL_STARTS: [usize; 6] = [0, 12, 20, 32, 40, 52];
 
-// The renumbering and its inverse: the only passage between the two numbers of a cluster.
+// The renumbering; with its inverse, below, the only passage between the two numbers of a cluster.
 fn renumber(cell: usize, p: Physical) -> Logical
     requires { ⌜ (cell < 32) × (p .0 < 120) ⌝ }
     ensures { λ r. ⌜ (r ≡ cluster.renumber cell p) × (r .0 < 120) ⌝ }
@@ -296,6 +296,7 @@ fn renumber(cell: usize, p: Physical) -> Logical
     Logical(wide(RENUMBERING[i]))
 }
 
+// The reverse.
 fn unrenumber(cell: usize, l: Logical) -> Physical
     requires { ⌜ (cell < 32) × (l .0 < 120) ⌝ }
     ensures { λ r. ⌜ (r ≡ cluster.unrenumber cell l) × (r .0 < 120) ⌝ }
@@ -346,7 +347,7 @@ pub fn is_pilot(symbol: usize, used: usize) -> bool
     place == p.second
 }
 
-// The place of data number r of a cluster, and the data number of a place that is no pilot.
+// The place of data number r of a cluster.
 fn cluster_place(symbol: usize, r: usize) -> usize
     requires { ⌜ r < 12 ⌝ }
     ensures { λ q. ⌜ (q ≡ clusterPlace symbol r) × (q < 14) ⌝ }
@@ -355,6 +356,7 @@ fn cluster_place(symbol: usize, r: usize) -> usize
     skip(p.second, skip(p.first, r))
 }
 
+// The reverse: the data number of a place that is no pilot.
 fn cluster_data(symbol: usize, place: usize) -> usize
     requires { ⌜ (symbol < 2) × (place < 14) × (isClusterPilot symbol place ≡ false) ⌝ }
     ensures { λ r. ⌜ (r ≡ clusterData symbol place) × (r < 12) ⌝ }
@@ -387,7 +389,7 @@ fn group_in(starts: [usize; 6], x: usize) -> usize
 
 // The number of subchannels of a group.
 fn group_size(g: usize) -> usize
-    ensures { λ m. ⌜ (m ≡ groupSize g) × (0 < m) × (m < 13) ⌝ }
+    ensures { λ size. ⌜ (size ≡ groupSize g) × (0 < size) × (size < 13) ⌝ }
 {
     if g % 2 == 0 { 12 } else { 8 }
 }
@@ -430,10 +432,10 @@ fn group_data(g: usize, cell: usize, s: usize, k: usize) -> usize
     requires { ⌜ (cell < 32) × (s < groupSize g) × (k < 24) ⌝ }
     ensures { λ d. ⌜ (d ≡ groupData (groupSize g) cell s k) × (d < 24 * groupSize g) ⌝ }
 {
-    let m = group_size(g);
+    let size = group_size(g);
     let n = rotate(24, 13 * s, k);
     let base = of_size(g, BASE_12, BASE_8, size_remainder(g, s + n));
-    n * m + size_remainder(g, base + cell)
+    n * size + size_remainder(g, base + cell)
 }
 
 // The reverse: the subchannel, counted in the group, and the index, below 24, of a group data number.
@@ -483,7 +485,7 @@ struct Datum {
     number: usize,
 }
 
-// The group data number of a used number that is no pilot.
+// The reverse: the group data number of a used number that is no pilot.
 fn used_data(cell: usize, symbol: usize, used: usize) -> Datum
     requires { ⌜ (cell < 32) × (symbol < 2) × (used < 1680) × (isClusterPilot symbol used ≡ false) ⌝ }
     ensures { λ r. ⌜ (r .group ≡ usedGroup cell used) × (r .number ≡ usedData cell symbol used) ⌝ }
@@ -498,7 +500,7 @@ fn used_data(cell: usize, symbol: usize, used: usize) -> Datum
     }
 }
 
-// The point that lies on a carrier that is no pilot.
+// The reverse: the point that lies on a carrier that is no pilot.
 pub fn address(cell: usize, offset: usize, used: usize) -> Address
     requires { ⌜ (cell < 32) × (offset < 2) × (used < 1680) × (isClusterPilot offset used ≡ false) ⌝ }
     ensures { λ r. ⌜ r ≡ addressOf cell offset used ⌝ }
@@ -608,7 +610,7 @@ fn group_spots(cell: usize, g: usize, s: usize, table: &[u16; 188]) -> [u16; 48]
 // The spots of a subchannel as numbers, by index.
 pub fn spots(cell: usize, subchannel: usize, table: &[u16; 188]) -> [u16; 48]
     requires { ⌜ (cell < 32) × (subchannel < 60) × Starts 188 (tableEntry cell) (now table) ⌝ }
-    ensures { λ r. ⌜ r ≡ tabulate 48 (λ m. spotNumber (spotOf cell subchannel m)) ⌝ }
+    ensures { λ r. ⌜ r ≡ tabulate 48 (λ index. spotNumber (spotOf cell subchannel index)) ⌝ }
 {
     let g = group_in(SUBCHANNEL_STARTS, subchannel);
     group_spots(cell, g, subchannel - SUBCHANNEL_STARTS[g], table)

@@ -168,7 +168,7 @@ fn tile(cell: usize, subchannel: usize, t: usize) -> usize
     t * 70 + (wide(TILE_PERMUTATION[i]) + cell) % 70
 }
 
-// The subchannel that has a tile.
+// The reverse: the subchannel that has a tile.
 fn tile_subchannel(cell: usize, tile: usize) -> usize
     requires { ⌜ (cell < 70) × (tile < 420) ⌝ }
     ensures { λ r. ⌜ (r ≡ tileSubchannel cell tile) × (r < 70) ⌝ }
@@ -210,7 +210,7 @@ fn data_carrier(q: usize) -> DataCarrier
     }
 }
 
-// The data place of a carrier that is no pilot.
+// The reverse: the data place of a carrier that is no pilot.
 fn data_place(offset: usize, t: usize, carrier: usize) -> usize
     requires { ⌜ (offset < 3) × (t < 6) × (carrier < 4) × (isTilePilot offset carrier ≡ false) ⌝ }
     ensures { λ r. ⌜ (r ≡ dataPlace offset t carrier) × (r < 48) ⌝ }
@@ -251,7 +251,7 @@ pub fn is_pilot(offset: usize, used: usize) -> bool
     carrier == 3
 }
 
-// The point that lies on a carrier that is no pilot.
+// The reverse: the point that lies on a carrier that is no pilot.
 pub fn address(cell: usize, offset: usize, used: usize) -> Address
     requires { ⌜ (cell < 70) × (offset < 3) × (used < 1680) × (isTilePilot offset used ≡ false) ⌝ }
     ensures { λ r. ⌜ r ≡ addressOf cell offset used ⌝ }

@@ -6,14 +6,14 @@ use borrow.Author.Needs.{needs}
 use Rattle.amc.proofs.zero_rule.Statement.{statement}
 use Rattle.amc.proofs.zero_rule.Tie as tie
 
-number-requires : tie.Need-number-requires
-number-requires c κs = rw (c .add .ensures) (add-proper _ _)
+base-seven-requires : tie.Need-base-seven-requires
+base-seven-requires c κs = rw (c .add .ensures) (add-proper _ _)
 
 returns : tie.Need-returns
-returns c = rw (← c .before .before .add .ensures) (sym (rule-zero _ _ (sym (c .before .number .ensures) ∙ c .if1 .taken)))
+returns c = rw (← c .before .before .add .ensures) (sym (rule-zero _ _ (sym (c .before .base-seven .ensures) ∙ c .if1 .taken)))
 
 returns-2 : tie.Need-returns-2
-returns-2 c = rw (← c .before .before .add .ensures) (sym (rule-other _ _ (λ e. c .if1 .left (c .before .number .ensures ∙ e))))
+returns-2 c = rw (← c .before .before .add .ensures) (sym (rule-other _ _ (λ e. c .if1 .left (c .before .base-seven .ensures ∙ e))))
 
 pub zero-rule-spec : {M : Type 1} → statement M
-zero-rule-spec = tie.close (tie.spec (λ c κs. search needs) number-requires returns returns-2)
+zero-rule-spec = tie.close (tie.spec (λ c κs. search needs) base-seven-requires returns returns-2)
