@@ -5,7 +5,8 @@ use native.Mathlib.Omega.{arith}
 use lib.Dec.{lit<}
 use Rattle.base.proofs.Perm.{rotation}
 use Rattle.amc.specs.declared.Element.{Element}
-use Rattle.amc.specs.Element.{Proper, element, baseSeven, digits, add, subtract}
+use Rattle.amc.specs.Element.{element, baseSeven, digits, add, subtract}
+use Rattle.amc.specs.Model.{Proper}
 
 pub number-lt : (e : Element) → Proper e → baseSeven e < 49
 number-lt e p = omega arith

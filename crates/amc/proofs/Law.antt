@@ -8,7 +8,8 @@ use Rattle.base.proofs.Perm.{Perm, rotation}
 use Rattle.carriers.specs.Law.{NumberLaw}
 use Rattle.amc.specs.declared.Element.{Element}
 use Rattle.amc.specs.Table.{positions}
-use Rattle.amc.specs.Element.{Proper, baseSeven, digits, add, subtract, sequence}
+use Rattle.amc.specs.Element.{baseSeven, digits, add, subtract, sequence}
+use Rattle.amc.specs.Model.{Proper}
 use Rattle.amc.specs.Map.{off, zeroRule, sumOf, elementOf, traffic, indexOf, dataNumber, addressOf}
 use Rattle.amc.proofs.Digit.{number-lt, digits-proper, digits-number, add-proper, subtract-proper, subtract-add, add-subtract, added-differs, subtracted-differs}
 use Rattle.amc.proofs.Tables.{powers, position-lt, at-position}

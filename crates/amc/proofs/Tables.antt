@@ -8,7 +8,8 @@ use Rattle.base.specs.Tabulate.{tabulate}
 use Rattle.base.proofs.Table.{all-at}
 use Rattle.amc.specs.declared.Element.{Element}
 use Rattle.amc.specs.Table.{sequenceDigits, positions}
-use Rattle.amc.specs.Element.{Proper, element, baseSeven, times, sequence}
+use Rattle.amc.specs.Element.{element, baseSeven, times, sequence}
+use Rattle.amc.specs.Model.{Proper}
 use Rattle.amc.proofs.Digit.{same-number, number-lt}
 
 -- an entry as document 004 prints it, two digits

@@ -4,7 +4,8 @@ use lib.Dec.{lit<, eqb}
 use borrow.Author.Tests.{eqb-true, eqb-false, eq-eqb, ne-eqb}
 use Rattle.base.proofs.Test.{cases}
 use Rattle.amc.specs.declared.Element.{Element}
-use Rattle.amc.specs.Element.{Proper, element, baseSeven}
+use Rattle.amc.specs.Element.{element, baseSeven}
+use Rattle.amc.specs.Model.{Proper}
 use Rattle.amc.specs.Map.{zeroRule, sumOf}
 use Rattle.amc.proofs.Digit.{same-number, digits-proper}
 

@@ -6,8 +6,8 @@ ghost use mathlib.Core.Path.{_≡_};
 ghost use Prim.Native.Nat.{_/_, _%_, _<_};
 ghost use Rattle.base.specs.Tabulate.{tabulate};
 ghost use Rattle.base.specs.Model.{Starts};
-ghost use Rattle.amc.specs.Model.{sumPlace, sequencePlace, sequenceNumber};
-ghost use Rattle.amc.specs.Element.{Proper, element, baseSeven, digits as Digits, add as Add, subtract as Subtract, sequence as Sequence};
+ghost use Rattle.amc.specs.Model.{sumPlace, sequencePlace, sequenceNumber, Proper};
+ghost use Rattle.amc.specs.Element.{element, baseSeven, digits as Digits, add as Add, subtract as Subtract, sequence as Sequence};
 ghost use Rattle.amc.specs.Map.{off as Off, zeroRule, sumOf, elementOf, traffic as Traffic, indexOf, dataNumber, addressOf};
 
 // The sequence P as document 004 prints it: the digits of 22 are 2 and 2.

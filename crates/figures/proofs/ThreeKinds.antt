@@ -12,7 +12,8 @@ use Rattle.base.proofs.Test.{cases}
 use Rattle.base.proofs.Perm.{rotation}
 use Rattle.amc.specs.declared.Element.{Element}
 use Rattle.amc.specs.Table.{positions}
-use Rattle.amc.specs.Element.{Proper, element, baseSeven, add, subtract, sequence}
+use Rattle.amc.specs.Element.{element, baseSeven, add, subtract, sequence}
+use Rattle.amc.specs.Model.{Proper}
 use Rattle.amc.specs.Map.{off, elementOf, traffic}
 use Rattle.amc.proofs.Digit.{same-number, number-digits, add-proper, subtract-add}
 use Rattle.amc.proofs.Tables.{powers}

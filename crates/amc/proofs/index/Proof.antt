@@ -5,7 +5,8 @@ use native.Mathlib.Omega.{arith}
 use mathlib.Core.Path.{_≡_, subst⁻¹}
 use Rattle.amc.proofs.Law.{off-proper, e-proper, y-proper}
 use Rattle.amc.proofs.Digit.{subtract-proper, number-lt}
-use Rattle.amc.specs.Element.{Proper, baseSeven, digits}
+use Rattle.amc.specs.Element.{baseSeven, digits}
+use Rattle.amc.specs.Model.{Proper}
 use Rattle.amc.specs.Map.{off, sumOf, indexOf}
 use borrow.Author.Needs.{needs}
 use Rattle.amc.proofs.index.Statement.{statement}

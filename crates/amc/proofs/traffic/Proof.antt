@@ -4,7 +4,8 @@ use native.Mathlib.Omega.{arith}
 use mathlib.Core.Path.{_≡_, ap, _∙_, subst⁻¹}
 use Rattle.amc.proofs.Law.{off-proper, turn-lt, element-proper, traffic-number}
 use Rattle.amc.proofs.Tables.{powers}
-use Rattle.amc.specs.Element.{Proper, baseSeven}
+use Rattle.amc.specs.Element.{baseSeven}
+use Rattle.amc.specs.Model.{Proper}
 use Rattle.amc.specs.Map.{off, elementOf, traffic}
 use borrow.Author.Needs.{needs}
 use Rattle.amc.proofs.traffic.Statement.{statement}
