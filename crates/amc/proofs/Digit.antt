@@ -4,9 +4,12 @@ use Prim.Native.Nat.{ℕ, _+_, _/_, _%_, _<_}
 use native.Mathlib.Omega.{arith}
 use lib.Dec.{lit<}
 use Rattle.base.proofs.Perm.{rotation}
-use Rattle.amc.specs.declared.Element.{Element}
-use Rattle.amc.specs.Element.{element, baseSeven, digits, add, subtract}
-use Rattle.amc.specs.Model.{Proper}
+use Rattle.amc.specs.Element.{Element, element, baseSeven, digits, add, subtract}
+
+-- both digits are 0..6
+pub record Proper (e : Element) : Type 0 where
+  pub high-lt : e .high < 7
+  pub low-lt : e .low < 7
 
 pub number-lt : (e : Element) → Proper e → baseSeven e < 49
 number-lt e p = omega arith

@@ -1,17 +1,16 @@
 -- AMC numbers the data carriers of a symbol one for one: index j and v are a rotation, the sequence P, a sum and the zero rule apart.
 use mathlib.Core.Path.{_≡_, ap, _∙_}
 use Prim.Native.Nat.{ℕ, _+_, _-_, _*_, _/_, _%_, _<_}
+use native.Mathlib.Nat.{pos-of-ne-zero}
 use native.Mathlib.Omega.{arith}
 use lib.Dec.{lit<}
 use Rattle.base.specs.Steps.{entry, unrotate}
 use Rattle.base.proofs.Perm.{Perm, rotation}
 use Rattle.carriers.specs.Law.{NumberLaw}
-use Rattle.amc.specs.declared.Element.{Element}
 use Rattle.amc.specs.Table.{positions}
-use Rattle.amc.specs.Element.{baseSeven, digits, add, subtract, sequence}
-use Rattle.amc.specs.Model.{Proper}
+use Rattle.amc.specs.Element.{Element, baseSeven, digits, add, subtract, sequence}
 use Rattle.amc.specs.Map.{off, zeroRule, sumOf, elementOf, traffic, indexOf, dataNumber, addressOf}
-use Rattle.amc.proofs.Digit.{number-lt, digits-proper, digits-number, add-proper, subtract-proper, subtract-add, add-subtract, added-differs, subtracted-differs}
+use Rattle.amc.proofs.Digit.{Proper, number-lt, digits-proper, digits-number, add-proper, subtract-proper, subtract-add, add-subtract, added-differs, subtracted-differs}
 use Rattle.amc.proofs.Tables.{powers, position-lt, at-position}
 use Rattle.amc.proofs.ZeroRule.{sum-back, rule-nonzero, rule-proper, rule-back, sum-not-off, sum-proper}
 
@@ -49,10 +48,7 @@ module _ (cell : ℕ) (range : cell < 2352) where
   -- v + 1 is the element read in base seven
   pub traffic-number : (j : ℕ) → traffic cell j + 1 ≡ baseSeven (elementOf cell j)
   unfolding traffic elementOf sum
-  traffic-number j = let n = rule-nonzero o (sum j) (sum-is-proper j) (sum-differs j) in omega (arith, positive (baseSeven (elementOf cell j)) n)
-    where
-      positive : (x : ℕ) → (x ≡ 0 → ⊥) → 0 < x
-      positive x ne = omega arith
+  traffic-number j = let n = rule-nonzero o (sum j) (sum-is-proper j) (sum-differs j) in omega (arith, pos-of-ne-zero n)
 
   pub element-proper : (j : ℕ) → Proper (elementOf cell j)
   unfolding elementOf sum

@@ -6,11 +6,9 @@ use lib.Dec.{eqb, ltb, eqb→eq, ltb→lt}
 use Rattle.base.specs.Steps.{entry}
 use Rattle.base.specs.Tabulate.{tabulate}
 use Rattle.base.proofs.Table.{all-at}
-use Rattle.amc.specs.declared.Element.{Element}
 use Rattle.amc.specs.Table.{sequenceDigits, positions}
-use Rattle.amc.specs.Element.{element, baseSeven, times, sequence}
-use Rattle.amc.specs.Model.{Proper}
-use Rattle.amc.proofs.Digit.{same-number, number-lt}
+use Rattle.amc.specs.Element.{Element, element, baseSeven, times, sequence}
+use Rattle.amc.proofs.Digit.{Proper, same-number, number-lt}
 
 -- an entry as document 004 prints it, two digits
 abbrev pub printed : ℕ → Element

@@ -3,11 +3,9 @@ use mathlib.Core.Path.{_≡_, refl, sym, ap, _∙_}
 use lib.Dec.{lit<, eqb}
 use borrow.Author.Tests.{eqb-true, eqb-false, eq-eqb, ne-eqb}
 use Rattle.base.proofs.Test.{cases}
-use Rattle.amc.specs.declared.Element.{Element}
-use Rattle.amc.specs.Element.{element, baseSeven}
-use Rattle.amc.specs.Model.{Proper}
+use Rattle.amc.specs.Element.{Element, element, baseSeven}
 use Rattle.amc.specs.Map.{zeroRule, sumOf}
-use Rattle.amc.proofs.Digit.{same-number, digits-proper}
+use Rattle.amc.proofs.Digit.{Proper, same-number, digits-proper}
 
 -- the two values of each
 pub rule-zero : (o sum : Element) → baseSeven sum ≡ 0 → zeroRule o sum ≡ o

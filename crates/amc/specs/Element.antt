@@ -1,7 +1,10 @@
 -- Elements. Document 01, "Adjacent mode": elements are pairs of digits 0..6, added digit by digit modulo 7; digits a, b stand for a·w + b, with w·w = 6w + 4 modulo 7.
 use Prim.Native.Nat.{ℕ, zero, suc, _+_, _*_, _/_, _%_}
 use Rattle.base.specs.Steps.{unrotate}
-use Rattle.amc.specs.declared.Element.{Element}
+
+pub record Element : Type 0 where
+  pub high : ℕ
+  pub low : ℕ
 
 abbrev pub element : (a b : ℕ) → Element
 element a b = record { high = a; low = b }

@@ -4,9 +4,8 @@ use lib.Dec.{eqb}
 use Rattle.base.specs.Choice.{pick}
 use Rattle.base.specs.Steps.{entry, unrotate}
 use Rattle.carriers.specs.declared.Address.{Address}
-use Rattle.amc.specs.declared.Element.{Element}
 use Rattle.amc.specs.Table.{positions}
-use Rattle.amc.specs.Element.{baseSeven, digits, element, add, subtract, sequence}
+use Rattle.amc.specs.Element.{Element, baseSeven, digits, element, add, subtract, sequence}
 
 -- per = cell mod 48, off = cell div 48 as two base-seven digits
 unfoldable pub off : (cell : ℕ) → Element

@@ -1,13 +1,7 @@
--- What the code asks of an element, and how a row of data numbers is found fast. No reader needs this to know what the calls do.
-use Prim.Native.Nat.{ℕ, _+_, _-_, _*_, _<_}
-use Rattle.amc.specs.declared.Element.{Element}
-use Rattle.amc.specs.Element.{baseSeven, add, sequence}
+-- How a row of data numbers is found fast. No reader needs this to know what the calls do.
+use Prim.Native.Nat.{ℕ, _+_, _-_, _*_}
+use Rattle.amc.specs.Element.{Element, baseSeven, add, sequence}
 use Rattle.amc.specs.Map.{off, zeroRule}
-
--- both digits are 0..6
-pub record Proper (e : Element) : Type 0 where
-  pub high-lt : e .high < 7
-  pub low-lt : e .low < 7
 
 -- v of an entry of P under an offset, and of entry i of P under the offset of a cell
 unfoldable pub sumPlace : (o p : Element) → ℕ

@@ -1,7 +1,7 @@
 -- What two cells add in group k, as a polynomial of 2^k: the first sequence goes by 2^k, the second by its square, and different cells have different coefficients.
 use mathlib.Core.Path.{_≡_, refl, sym, ap, ap₂, _∙_}
 use Prim.Native.Nat.{ℕ, zero, suc, _+_, _-_, _*_, _/_, _%_, _<_}
-use native.Mathlib.Nat.{mod-lt, div-add-mod', div-lt-iff-lt-mul}
+use native.Mathlib.Nat.{pos-of-ne-zero, mod-lt, div-add-mod', div-lt-iff-lt-mul}
 use native.Mathlib.Omega.{arith}
 use lib.Bits.{bitXor}
 use lib.Dec.{eqb, ltb}
@@ -78,11 +78,8 @@ module _ {n : ℕ} (F : Doubling n) where
       let e′ = rw (ne-eqb d 0 (λ z. omega arith)) at e in
       cases (eqb c 0)
       (λ z. nonzero d (sym (rw z at e′)))
-      (λ z. moves c (d - c) (omega arith) (let p = positive c (eqb-false c 0 z) in omega arith) ((rw z at e′) ∙ ap r up))
+      (λ z. moves c (d - c) (omega arith) (let p = pos-of-ne-zero (eqb-false c 0 z) in omega arith) ((rw z at e′) ∙ ap r up))
     where
-      positive : (x : ℕ) → (x ≡ 0 → ⊥) → 0 < x
-      positive x ne = omega arith
-
       up : d ≡ c + (d - c)
       up = omega arith
 

@@ -10,12 +10,10 @@ use Rattle.base.specs.Steps.{entry, unrotate}
 use Rattle.base.specs.Tabulate.{tabulate}
 use Rattle.base.proofs.Test.{cases}
 use Rattle.base.proofs.Perm.{rotation}
-use Rattle.amc.specs.declared.Element.{Element}
 use Rattle.amc.specs.Table.{positions}
-use Rattle.amc.specs.Element.{element, baseSeven, add, subtract, sequence}
-use Rattle.amc.specs.Model.{Proper}
+use Rattle.amc.specs.Element.{Element, element, baseSeven, add, subtract, sequence}
 use Rattle.amc.specs.Map.{off, elementOf, traffic}
-use Rattle.amc.proofs.Digit.{same-number, number-digits, add-proper, subtract-add}
+use Rattle.amc.proofs.Digit.{Proper, same-number, number-digits, add-proper, subtract-add}
 use Rattle.amc.proofs.Tables.{powers}
 use Rattle.amc.proofs.ZeroRule.{rule-other}
 use Rattle.amc.proofs.Law.{off-proper, turn-lt, traffic-number}
