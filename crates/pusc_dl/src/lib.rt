@@ -17,7 +17,7 @@ ghost use Rattle.carriers.specs.Model.{spotNumber};
 ghost use Rattle.pusc_dl.specs.Table.{renumberingInverse, base12, base8};
 ghost use Rattle.pusc_dl.specs.Cluster as cluster;
 ghost use Rattle.pusc_dl.specs.Cluster.{firstPilot, secondPilot, isClusterPilot, clusterPlace, clusterData};
-ghost use Rattle.pusc_dl.specs.Group.{groupIn, groupSize, ofSize, groupData, groupSubchannel, groupIndex};
+ghost use Rattle.pusc_dl.specs.Group.{reached as Reached, groupIn, groupSize, ofSize, groupData, groupSubchannel, groupIndex};
 ghost use Rattle.pusc_dl.specs.Map.{groupUsed, usedGroup, usedData, spotOf, addressOf};
 ghost use Rattle.pusc_dl.specs.Model.{tableEntry, baseStart, groupSpot};
 
@@ -296,16 +296,8 @@ fn renumber(cell: usize, p: Physical) -> Logical
     Logical(wide(RENUMBERING[i]))
 }
 
-// The reverse.
-fn unrenumber(cell: usize, l: Logical) -> Physical
-    requires { ⌜ (cell < 32) × (l .0 < 120) ⌝ }
-    ensures { λ r. ⌜ (r ≡ cluster.unrenumber cell l) × (r .0 < 120) ⌝ }
-{
-    unrenumber_by(&RENUMBERING_INVERSE, cell, l)
-}
-
-// The same by a copy of the table, which a loop takes once.
-fn unrenumber_by(inverse: &[u8; 120], cell: usize, l: Logical) -> Physical
+// The reverse, by a copy of its table, which a loop takes once.
+fn unrenumber(inverse: &[u8; 120], cell: usize, l: Logical) -> Physical
     requires { ⌜ (now inverse ≡ renumberingInverse) × (cell < 32) × (l .0 < 120) ⌝ }
     ensures { λ r. ⌜ (r ≡ cluster.unrenumber cell l) × (r .0 < 120) ⌝ }
 {
@@ -365,26 +357,22 @@ fn cluster_data(symbol: usize, place: usize) -> usize
     unskip(p.first, unskip(p.second, place))
 }
 
+// 1 where x is at or after a start, otherwise 0.
+fn reached(start: usize, x: usize) -> usize
+    ensures { λ r. ⌜ (r ≡ Reached start x) × (r ≤ 1) ⌝ }
+{
+    if x < start { 0 } else { 1 }
+}
+
 // The group whose run of numbers holds x.
 fn group_in(starts: [usize; 6], x: usize) -> usize
     ensures { λ g. ⌜ (g ≡ groupIn starts x) × (g < 6) ⌝ }
 {
-    if x < starts[1] {
-        return 0;
-    }
-    if x < starts[2] {
-        return 1;
-    }
-    if x < starts[3] {
-        return 2;
-    }
-    if x < starts[4] {
-        return 3;
-    }
-    if x < starts[5] {
-        return 4;
-    }
-    5
+    reached(starts[1], x)
+        + reached(starts[2], x)
+        + reached(starts[3], x)
+        + reached(starts[4], x)
+        + reached(starts[5], x)
 }
 
 // The number of subchannels of a group.
@@ -396,13 +384,14 @@ fn group_size(g: usize) -> usize
 
 // The quotient and the remainder by a group's size, each by a constant.
 fn size_quotient(g: usize, x: usize) -> usize
-    ensures { λ r. ⌜ r ≡ x / groupSize g ⌝ }
+    requires { ⌜ x < 24 * groupSize g ⌝ }
+    ensures { λ r. ⌜ (r ≡ x / groupSize g) × (r < 24) ⌝ }
 {
     if group_size(g) == 12 { x / 12 } else { x / 8 }
 }
 
 fn size_remainder(g: usize, x: usize) -> usize
-    ensures { λ r. ⌜ (r ≡ x % groupSize g) × (r < groupSize g) ⌝ }
+    ensures { λ r. ⌜ (r ≡ x % groupSize g) × (r < groupSize g) × (r < 12) ⌝ }
 {
     if group_size(g) == 12 { x % 12 } else { x % 8 }
 }
@@ -410,7 +399,7 @@ fn size_remainder(g: usize, x: usize) -> usize
 // y moved back by c, modulo a group's size.
 fn size_unrotate(g: usize, c: usize, y: usize) -> usize
     requires { ⌜ y < 65536 ⌝ }
-    ensures { λ r. ⌜ (r ≡ Unrotate (groupSize g) c y) × (r < groupSize g) ⌝ }
+    ensures { λ r. ⌜ (r ≡ Unrotate (groupSize g) c y) × (r < groupSize g) × (r < 12) ⌝ }
 {
     size_remainder(g, y + (group_size(g) - size_remainder(g, c)))
 }
@@ -460,7 +449,7 @@ fn group_used(cell: usize, symbol: usize, g: usize, d: usize) -> usize
     ensures { λ r. ⌜ r ≡ groupUsed cell symbol g d ⌝ }
 {
     let logical = Logical(CLUSTER_STARTS[g] + d / 12);
-    let physical = unrenumber(cell, logical);
+    let physical = unrenumber(&RENUMBERING_INVERSE, cell, logical);
     physical.0 * 14 + cluster_place(symbol, d % 12)
 }
 
@@ -526,7 +515,7 @@ fn table_entry(
     ensures { λ r. ⌜ r ≡ tableEntry cell i ⌝ }
 {
     if i < 120 {
-        let p = unrenumber_by(inverse, cell, Logical(i));
+        let p = unrenumber(inverse, cell, Logical(i));
         (p.0 * 14) as u16
     } else if i < 156 {
         rotate(12, cell, wide(twelve[(i - 120) % 12])) as u16
