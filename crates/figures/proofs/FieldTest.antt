@@ -30,10 +30,10 @@ field {n} w =
     record {
       above = size w .above;
       closed = sum-lt w;
-      double-lt = λ x h. ltb→lt (times n 2 x) n (all-at (elements n) n (at-width (λ m. all (elements m) m) tt w) x h);
+      double-lt = λ x h. ltb→lt (times n 2 x) n (all-at (elements n) n (at-width (λ m. all (elements m) m) (tt, tt, tt, tt) w) x h);
       additive = λ x y hx hy. eqb→eq (times n 2 (bitXor x y)) (bitXor (times n 2 x) (times n 2 y))
-          (all-at (sums n x) n (all-at (λ z. all (sums n z) n) n (at-width (λ m. all (λ z. all (sums m z) m) m) tt w) x hx) y hy);
-      order = λ x h. eqb→eq (shift n (n - 1) x) x (all-at (turns n) n (at-width (λ m. all (turns m) m) tt w) x h);
+          (all-at (sums n x) n (all-at (λ z. all (sums n z) n) n (at-width (λ m. all (λ z. all (sums m z) m) m) (tt, tt, tt, tt) w) x hx) y hy);
+      order = λ x h. eqb→eq (shift n (n - 1) x) x (all-at (turns n) n (at-width (λ m. all (turns m) m) (tt, tt, tt, tt) w) x h);
       free = λ i x l h e. eqb→eq x 0 (rw (eq-eqb (shift n (suc i) x) x e) at
-          (all-at (steps n x) (n - 2) (all-at (λ z. all (steps n z) (n - 2)) n (at-width (λ m. all (λ z. all (steps m z) (m - 2)) m) tt w) x h) i l));
+          (all-at (steps n x) (n - 2) (all-at (λ z. all (steps n z) (n - 2)) n (at-width (λ m. all (λ z. all (steps m z) (m - 2)) m) (tt, tt, tt, tt) w) x h) i l));
     }
