@@ -4,7 +4,7 @@ use base::wide;
 use base::wide16;
 use carriers::Address;
 ghost use mathlib.Core.Path.{_≡_};
-ghost use Prim.Native.Nat.{_/_, _%_, _<_};
+ghost use Prim.Native.Nat.{_+_, _/_, _%_, _<_};
 ghost use Rattle.base.specs.Tabulate.{tabulate};
 ghost use Rattle.base.specs.Model.{Starts};
 ghost use Rattle.amc.specs.Table.{sequenceDigits};
@@ -117,13 +117,21 @@ const POSITIONS: [u8; 49] = [
     41,
 ];
 
+// The sum of two digits, modulo 7.
+fn digit_sum(a: u16, b: u16) -> u16
+    requires { ⌜ (a < 7) × (b < 7) ⌝ }
+    ensures { λ r. ⌜ (r ≡ (a + b) % 7) × (r < 7) ⌝ }
+{
+    if a + b < 7 { a + b } else { a + b - 7 }
+}
+
 // v of the entry x of P, two digits, under the offset whose digits are high and low: the sum, or the offset itself where
 // that sum is zero.
 fn sum_place(high: u16, low: u16, x: u16) -> u16
     requires { ⌜ (high < 7) × (low < 7) × (x / 10 < 7) × (x % 10 < 7) × (0 < x) ⌝ }
     ensures { λ r. ⌜ r ≡ sumPlace (element high low) (element (x / 10) (x % 10)) ⌝ }
 {
-    let sum = (x / 10 + high) % 7 * 7 + (x % 10 + low) % 7;
+    let sum = digit_sum(x / 10, high) * 7 + digit_sum(x % 10, low);
     if sum == 0 {
         high * 7 + low - 1
     } else {

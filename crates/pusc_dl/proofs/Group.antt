@@ -132,3 +132,12 @@ subchannel-runs = runs subchannelStarts 1 60 tt tt tt tt tt
 pub cluster-runs : Runs clusterStarts 2 120
 unfolding reached groupIn groupSize
 cluster-runs = runs clusterStarts 2 120 tt tt tt tt tt
+
+-- two groups to so many numbers
+pub subchannel-pairs : (x : ℕ) → x < 60 → x / 20 * 2 + reached 12 (x % 20) ≡ groupIn subchannelStarts x
+unfolding reached groupIn
+subchannel-pairs x h = eqb→eq _ _ (all-at (λ x. eqb (x / 20 * 2 + reached 12 (x % 20)) (groupIn subchannelStarts x)) 60 tt x h)
+
+pub cluster-pairs : (x : ℕ) → x < 120 → x / 40 * 2 + reached 24 (x % 40) ≡ groupIn clusterStarts x
+unfolding reached groupIn
+cluster-pairs x h = eqb→eq _ _ (all-at (λ x. eqb (x / 40 * 2 + reached 24 (x % 40)) (groupIn clusterStarts x)) 120 tt x h)
