@@ -4,28 +4,32 @@ use Prim.Native.Nat.{ℕ, _+_, _/_, _%_, _<_}
 use native.Mathlib.Omega.{arith}
 use lib.Dec.{lit<}
 use Rattle.base.proofs.Perm.{rotation}
-use Rattle.amc.specs.declared.Element.{Element}
-use Rattle.amc.specs.Element.{Proper, element, number, digits, add, subtract}
+use Rattle.amc.specs.Element.{Element, element, baseSeven, digits, add, subtract}
 
-pub number-lt : (e : Element) → Proper e → number e < 49
+-- both digits are 0..6
+pub record Proper (e : Element) : Type 0 where
+  pub high-lt : e .high < 7
+  pub low-lt : e .low < 7
+
+pub number-lt : (e : Element) → Proper e → baseSeven e < 49
 number-lt e p = omega arith
 
 pub digits-proper : (x : ℕ) → x < 49 → Proper (digits x)
 digits-proper x h = omega arith
 
-pub number-digits : (x : ℕ) → number (digits x) ≡ x
+pub number-digits : (x : ℕ) → baseSeven (digits x) ≡ x
 number-digits x = omega arith
 
-pub digits-number : (e : Element) → Proper e → digits (number e) ≡ e
+pub digits-number : (e : Element) → Proper e → digits (baseSeven e) ≡ e
 digits-number e p = λ i. element (high i) (low i)
   where
-    high : number e / 7 ≡ e .high
+    high : baseSeven e / 7 ≡ e .high
     high = omega arith
 
-    low : number e % 7 ≡ e .low
+    low : baseSeven e % 7 ≡ e .low
     low = omega arith
 
-pub same-number : (a b : Element) → Proper a → Proper b → number a ≡ number b → a ≡ b
+pub same-number : (a b : Element) → Proper a → Proper b → baseSeven a ≡ baseSeven b → a ≡ b
 same-number a b p q e = sym (digits-number a p) ∙ ap digits e ∙ digits-number b q
 
 pub add-proper : (x o : Element) → Proper (add x o)
@@ -44,7 +48,7 @@ pub add-subtract : (x o : Element) → Proper x → add (subtract x o) o ≡ x
 unfolding add subtract
 add-subtract x o p = λ i. element (rotation 7 (o .high) (lit< tt) .forth (x .high) (p .high-lt) i) (rotation 7 (o .low) (lit< tt) .forth (x .low) (p .low-lt) i)
 
-subtract-self : (o : Element) → Proper o → number (subtract o o) ≡ 0
+subtract-self : (o : Element) → Proper o → baseSeven (subtract o o) ≡ 0
 unfolding subtract
 subtract-self o q = omega arith
 
@@ -59,10 +63,10 @@ zero-add o q = λ i. element (high i) (low i)
     low = omega arith
 
 -- only zero leaves an element as it is
-pub added-differs : (x o : Element) → Proper x → Proper o → (number x ≡ 0 → ⊥) → number (add x o) ≡ number o → ⊥
+pub added-differs : (x o : Element) → Proper x → Proper o → (baseSeven x ≡ 0 → ⊥) → baseSeven (add x o) ≡ baseSeven o → ⊥
 added-differs x o p q ne e =
-    ne (ap number (sym (subtract-add x o p) ∙ ap (λ s. subtract s o) (same-number (add x o) o (add-proper x o) q e)) ∙ subtract-self o q)
+    ne (ap baseSeven (sym (subtract-add x o p) ∙ ap (λ s. subtract s o) (same-number (add x o) o (add-proper x o) q e)) ∙ subtract-self o q)
 
-pub subtracted-differs : (y o : Element) → Proper y → Proper o → (number y ≡ number o → ⊥) → number (subtract y o) ≡ 0 → ⊥
+pub subtracted-differs : (y o : Element) → Proper y → Proper o → (baseSeven y ≡ baseSeven o → ⊥) → baseSeven (subtract y o) ≡ 0 → ⊥
 subtracted-differs y o p q ne e =
-    ne (ap number (sym (add-subtract y o p) ∙ ap (λ x. add x o) (same-number (subtract y o) (element 0 0) (subtract-proper y o) (digits-proper 0 (lit< tt)) e) ∙ zero-add o q))
+    ne (ap baseSeven (sym (add-subtract y o p) ∙ ap (λ x. add x o) (same-number (subtract y o) (element 0 0) (subtract-proper y o) (digits-proper 0 (lit< tt)) e) ∙ zero-add o q))

@@ -1,16 +1,16 @@
 -- AMC numbers the data carriers of a symbol one for one: index j and v are a rotation, the sequence P, a sum and the zero rule apart.
 use mathlib.Core.Path.{_≡_, ap, _∙_}
 use Prim.Native.Nat.{ℕ, _+_, _-_, _*_, _/_, _%_, _<_}
+use native.Mathlib.Nat.{pos-of-ne-zero}
 use native.Mathlib.Omega.{arith}
 use lib.Dec.{lit<}
 use Rattle.base.specs.Steps.{entry, unrotate}
 use Rattle.base.proofs.Perm.{Perm, rotation}
 use Rattle.carriers.specs.Law.{NumberLaw}
-use Rattle.amc.specs.declared.Element.{Element}
 use Rattle.amc.specs.Table.{positions}
-use Rattle.amc.specs.Element.{Proper, number, digits, add, subtract, sequence}
+use Rattle.amc.specs.Element.{Element, baseSeven, digits, add, subtract, sequence}
 use Rattle.amc.specs.Map.{off, zeroRule, sumOf, elementOf, traffic, indexOf, dataNumber, addressOf}
-use Rattle.amc.proofs.Digit.{number-lt, digits-proper, digits-number, add-proper, subtract-proper, subtract-add, add-subtract, added-differs, subtracted-differs}
+use Rattle.amc.proofs.Digit.{Proper, number-lt, digits-proper, digits-number, add-proper, subtract-proper, subtract-add, add-subtract, added-differs, subtracted-differs}
 use Rattle.amc.proofs.Tables.{powers, position-lt, at-position}
 use Rattle.amc.proofs.ZeroRule.{sum-back, rule-nonzero, rule-proper, rule-back, sum-not-off, sum-proper}
 
@@ -37,7 +37,7 @@ module _ (cell : ℕ) (range : cell < 2352) where
   sum : ℕ → Element
   sum j = add (sequence (turn j)) o
 
-  sum-differs : (j : ℕ) → number (sum j) ≡ number o → ⊥
+  sum-differs : (j : ℕ) → baseSeven (sum j) ≡ baseSeven o → ⊥
   unfolding sum
   sum-differs j = added-differs (sequence (turn j)) o (powers (turn j) (turn-lt j) .proper) off-proper (powers (turn j) (turn-lt j) .nonzero)
 
@@ -45,13 +45,10 @@ module _ (cell : ℕ) (range : cell < 2352) where
   unfolding sum
   sum-is-proper j = add-proper (sequence (turn j)) o
 
-  -- v + 1 is the number of the element
-  pub traffic-number : (j : ℕ) → traffic cell j + 1 ≡ number (elementOf cell j)
+  -- v + 1 is the element read in base seven
+  pub traffic-number : (j : ℕ) → traffic cell j + 1 ≡ baseSeven (elementOf cell j)
   unfolding traffic elementOf sum
-  traffic-number j = let n = rule-nonzero o (sum j) (sum-is-proper j) (sum-differs j) in omega (arith, positive (number (elementOf cell j)) n)
-    where
-      positive : (x : ℕ) → (x ≡ 0 → ⊥) → 0 < x
-      positive x ne = omega arith
+  traffic-number j = let n = rule-nonzero o (sum j) (sum-is-proper j) (sum-differs j) in omega (arith, pos-of-ne-zero n)
 
   pub element-proper : (j : ℕ) → Proper (elementOf cell j)
   unfolding elementOf sum
@@ -62,7 +59,7 @@ module _ (cell : ℕ) (range : cell < 2352) where
 
   -- the index of an element, which is that of v at the digits of v + 1
   index : Element → ℕ
-  index e = unrotate 48 (cell % 48) (entry positions (number (subtract (sumOf o e) o)))
+  index e = unrotate 48 (cell % 48) (entry positions (baseSeven (subtract (sumOf o e) o)))
 
   pub index-traffic : (j : ℕ) → j < 48 → indexOf cell (traffic cell j) ≡ j
   unfolding indexOf elementOf sum index
@@ -71,8 +68,8 @@ module _ (cell : ℕ) (range : cell < 2352) where
       let q = powers (turn j) (turn-lt j) in
       ap (λ (v : ℕ). index (digits v)) (traffic-number j)
       ∙ ap index (digits-number (elementOf cell j) (element-proper j))
-      ∙ ap (λ (y : Element). unrotate 48 (cell % 48) (entry positions (number (subtract y o)))) (sum-back o (sum j) (sum-is-proper j) (sum-differs j))
-      ∙ ap (λ (y : Element). unrotate 48 (cell % 48) (entry positions (number y))) (subtract-add x o (q .proper))
+      ∙ ap (λ (y : Element). unrotate 48 (cell % 48) (entry positions (baseSeven (subtract y o)))) (sum-back o (sum j) (sum-is-proper j) (sum-differs j))
+      ∙ ap (λ (y : Element). unrotate 48 (cell % 48) (entry positions (baseSeven y))) (subtract-add x o (q .proper))
       ∙ ap (λ (y : ℕ). unrotate 48 (cell % 48) y) (q .position)
       ∙ rotation 48 (cell % 48) (lit< tt) .back j h
 
@@ -89,28 +86,28 @@ module _ (cell : ℕ) (range : cell < 2352) where
     pub e-proper : Proper e
     e-proper = digits-proper (v + 1) (omega arith)
 
-    e-nonzero : number e ≡ 0 → ⊥
+    e-nonzero : baseSeven e ≡ 0 → ⊥
     e-nonzero q = omega arith
 
     pub y-proper : Proper y
     y-proper = sum-proper o e off-proper e-proper e-nonzero
 
-    x-nonzero : number x ≡ 0 → ⊥
+    x-nonzero : baseSeven x ≡ 0 → ⊥
     x-nonzero = subtracted-differs y o y-proper off-proper (sum-not-off o e off-proper e-proper e-nonzero)
 
     -- the entry of P that stands at the index is the difference of the sum and off
     entry-at : sequence (turn (indexOf cell v)) ≡ x
     unfolding indexOf
     entry-at =
-        ap sequence (rotation 48 (cell % 48) (lit< tt) .forth (entry positions (number x)) (position-lt (number x) (number-lt x (subtract-proper y o))))
+        ap sequence (rotation 48 (cell % 48) (lit< tt) .forth (entry positions (baseSeven x)) (position-lt (baseSeven x) (number-lt x (subtract-proper y o))))
         ∙ at-position x (subtract-proper y o) x-nonzero
 
     pub traffic-index : traffic cell (indexOf cell v) ≡ v
     unfolding traffic elementOf
     traffic-index =
-        ap (λ (s : Element). number (zeroRule o (add s o)) - 1) entry-at
-        ∙ ap (λ (s : Element). number (zeroRule o s) - 1) (add-subtract y o y-proper)
-        ∙ ap (λ (s : Element). number s - 1) (rule-back o e off-proper e-proper e-nonzero)
+        ap (λ (s : Element). baseSeven (zeroRule o (add s o)) - 1) entry-at
+        ∙ ap (λ (s : Element). baseSeven (zeroRule o s) - 1) (add-subtract y o y-proper)
+        ∙ ap (λ (s : Element). baseSeven s - 1) (rule-back o e off-proper e-proper e-nonzero)
         ∙ omega arith
 
   pub traffic-perm : Perm 48 (traffic cell) (indexOf cell)

@@ -1,6 +1,7 @@
 -- A row of data numbers by the places of P.
 use mathlib.Core.Path.{_≡_, refl, ap, _∙_, subst}
 use Prim.Native.Nat.{ℕ, _+_, _-_, _*_, _/_, _%_, _<_}
+use native.Mathlib.Nat.{pos-of-ne-zero}
 use native.Mathlib.Omega.{arith}
 use Rattle.base.specs.Steps.{entry}
 use Rattle.amc.specs.Table.{sequenceDigits}
@@ -35,10 +36,7 @@ entry-digits i h =
     let p = powers i h in
     let high = ap (λ e. e .high) (p .printed-is) in
     let low = ap (λ e. e .low) (p .printed-is) in
-    record { high-lt = omega (arith, high, p .proper .high-lt); low-lt = omega (arith, low, p .proper .low-lt); above = positive (entry sequenceDigits i) (λ e. p .nonzero (omega (arith, high, low, e))) }
-  where
-    positive : (x : ℕ) → (x ≡ 0 → ⊥) → 0 < x
-    positive x ne = omega arith
+    record { high-lt = omega (arith, high, p .proper .high-lt); low-lt = omega (arith, low, p .proper .low-lt); above = pos-of-ne-zero (λ e. p .nonzero (omega (arith, high, low, e))) }
 
 -- no entry of P is zero, so a sum that is zero has an offset that is not
 pub offset-above : (h l x : ℕ) → h < 7 → l < 7 → x / 10 < 7 → x % 10 < 7 → 0 < x → (x / 10 + h) % 7 * 7 + (x % 10 + l) % 7 ≡ 0 → 0 < h * 7 + l

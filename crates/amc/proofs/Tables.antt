@@ -6,10 +6,9 @@ use lib.Dec.{eqb, ltb, eqb→eq, ltb→lt}
 use Rattle.base.specs.Steps.{entry}
 use Rattle.base.specs.Tabulate.{tabulate}
 use Rattle.base.proofs.Table.{all-at}
-use Rattle.amc.specs.declared.Element.{Element}
 use Rattle.amc.specs.Table.{sequenceDigits, positions}
-use Rattle.amc.specs.Element.{Proper, element, number, times, sequence}
-use Rattle.amc.proofs.Digit.{same-number, number-lt}
+use Rattle.amc.specs.Element.{Element, element, baseSeven, times, sequence}
+use Rattle.amc.proofs.Digit.{Proper, same-number, number-lt}
 
 -- an entry as document 004 prints it, two digits
 abbrev pub printed : ℕ → Element
@@ -24,8 +23,8 @@ printed-list = refl
 pub record Power (i : ℕ) : Type 0 where
   pub printed-is : printed i ≡ sequence i
   pub proper : Proper (sequence i)
-  pub nonzero : number (sequence i) ≡ 0 → ⊥
-  pub position : entry positions (number (sequence i)) ≡ i
+  pub nonzero : baseSeven (sequence i) ≡ 0 → ⊥
+  pub position : entry positions (baseSeven (sequence i)) ≡ i
 
 pub powers : (i : ℕ) → i < 48 → Power i
 unfolding times sequence
@@ -38,25 +37,25 @@ powers i h =
         high-lt = ltb→lt (sequence i .high) 7 (all-at (λ k. ltb (sequence k .high) 7) 48 tt i h);
         low-lt = ltb→lt (sequence i .low) 7 (all-at (λ k. ltb (sequence k .low) 7) 48 tt i h);
       };
-      nonzero = λ e. omega (arith, ltb→lt 0 (number (sequence i)) (all-at (λ k. ltb 0 (number (sequence k))) 48 tt i h));
-      position = eqb→eq (entry positions (number (sequence i))) i (all-at (λ k. eqb (entry positions (number (sequence k))) k) 48 tt i h);
+      nonzero = λ e. omega (arith, ltb→lt 0 (baseSeven (sequence i)) (all-at (λ k. ltb 0 (baseSeven (sequence k))) 48 tt i h));
+      position = eqb→eq (entry positions (baseSeven (sequence i))) i (all-at (λ k. eqb (entry positions (baseSeven (sequence k))) k) 48 tt i h);
     }
 
 -- every element has a position, and every one other than zero stands there
 pub position-lt : (x : ℕ) → x < 49 → entry positions x < 48
 position-lt x h = ltb→lt (entry positions x) 48 (all-at (λ k. ltb (entry positions k) 48) 49 tt x h)
 
-module _ (e : Element) (p : Proper e) (ne : number e ≡ 0 → ⊥) where
-  one-less : number e - 1 + 1 ≡ number e
+module _ (e : Element) (p : Proper e) (ne : baseSeven e ≡ 0 → ⊥) where
+  one-less : baseSeven e - 1 + 1 ≡ baseSeven e
   one-less = omega arith
 
-  before : number e - 1 < 48
+  before : baseSeven e - 1 < 48
   before = let l = number-lt e p in omega arith
 
-  pub at-position : sequence (entry positions (number e)) ≡ e
+  pub at-position : sequence (entry positions (baseSeven e)) ≡ e
   unfolding times sequence
   at-position =
-      same-number (sequence (entry positions (number e))) e (powers (entry positions (number e)) (position-lt (number e) (number-lt e p)) .proper) p
-      (subst (λ (x : ℕ). number (sequence (entry positions x)) ≡ x) one-less
-      (eqb→eq (number (sequence (entry positions (number e - 1 + 1)))) (number e - 1 + 1)
-      (all-at (λ k. eqb (number (sequence (entry positions (k + 1)))) (k + 1)) 48 tt (number e - 1) before)))
+      same-number (sequence (entry positions (baseSeven e))) e (powers (entry positions (baseSeven e)) (position-lt (baseSeven e) (number-lt e p)) .proper) p
+      (subst (λ (x : ℕ). baseSeven (sequence (entry positions x)) ≡ x) one-less
+      (eqb→eq (baseSeven (sequence (entry positions (baseSeven e - 1 + 1)))) (baseSeven e - 1 + 1)
+      (all-at (λ k. eqb (baseSeven (sequence (entry positions (k + 1)))) (k + 1)) 48 tt (baseSeven e - 1) before)))

@@ -4,37 +4,36 @@ use lib.Dec.{eqb}
 use Rattle.base.specs.Choice.{pick}
 use Rattle.base.specs.Steps.{entry, unrotate}
 use Rattle.carriers.specs.declared.Address.{Address}
-use Rattle.amc.specs.declared.Element.{Element}
 use Rattle.amc.specs.Table.{positions}
-use Rattle.amc.specs.Element.{number, digits, element, add, subtract, sequence}
+use Rattle.amc.specs.Element.{Element, baseSeven, digits, element, add, subtract, sequence}
 
 -- per = cell mod 48, off = cell div 48 as two base-seven digits
-unfoldable pub off : ℕ → Element
+unfoldable pub off : (cell : ℕ) → Element
 off cell = digits (cell / 48)
 
 -- a sum, or off itself where that sum is zero
-unfoldable pub zeroRule : Element → Element → Element
-zeroRule o sum = pick (eqb (number sum) 0) o sum
+unfoldable pub zeroRule : (o sum : Element) → Element
+zeroRule o sum = pick (eqb (baseSeven sum) 0) o sum
 
 -- Index j gives E = P[(j+per) mod 48] + off, or off itself where that sum is zero.
-unfoldable pub elementOf : ℕ → ℕ → Element
+unfoldable pub elementOf : (cell j : ℕ) → Element
 elementOf cell j = zeroRule (off cell) (add (sequence ((j + cell % 48) % 48)) (off cell))
 
 -- E read in base seven, less 1, is v.
-unfoldable pub traffic : ℕ → ℕ → ℕ
-traffic cell j = number (elementOf cell j) - 1
+unfoldable pub traffic : (cell j : ℕ) → ℕ
+traffic cell j = baseSeven (elementOf cell j) - 1
 
--- the sum that the zero rule made an element of, and the index of v
-unfoldable pub sumOf : Element → Element → Element
-sumOf o e = pick (eqb (number e) (number o)) (element 0 0) e
+-- The reverse: the sum that the zero rule made an element of, and the index of v.
+unfoldable pub sumOf : (o e : Element) → Element
+sumOf o e = pick (eqb (baseSeven e) (baseSeven o)) (element 0 0) e
 
-unfoldable pub indexOf : ℕ → ℕ → ℕ
-indexOf cell v = unrotate 48 (cell % 48) (entry positions (number (subtract (sumOf (off cell) (digits (v + 1))) (off cell))))
+unfoldable pub indexOf : (cell v : ℕ) → ℕ
+indexOf cell v = unrotate 48 (cell % 48) (entry positions (baseSeven (subtract (sumOf (off cell) (digits (v + 1))) (off cell))))
 
 -- Subchannel a is bins 6a to 6a+5; the point is on place v mod 8 of the subchannel's bin v div 8. (Data number d is place d mod 8 of bin d div 8.)
-unfoldable pub dataNumber : ℕ → ℕ → ℕ → ℕ
+unfoldable pub dataNumber : (cell a j : ℕ) → ℕ
 dataNumber cell a j = (6 * a + traffic cell j / 8) * 8 + traffic cell j % 8
 
--- the address of a data number: the subchannel of its bin, and the index of its v
-unfoldable pub addressOf : ℕ → ℕ → Address
+-- The reverse: the address of a data number, which is the subchannel of its bin and the index of its v.
+unfoldable pub addressOf : (cell d : ℕ) → Address
 addressOf cell d = record { subchannel = d / 8 / 6; index = indexOf cell (d / 8 % 6 * 8 + d % 8) }

@@ -1,14 +1,16 @@
 // AMC, six bins by one symbol: pairs of base-seven digits, the sequence P, the zero rule.
 use base::unrotate;
 use base::wide;
+use base::wide16;
 use carriers::Address;
 ghost use mathlib.Core.Path.{_≡_};
-ghost use Prim.Native.Nat.{_/_, _%_, _<_};
+ghost use Prim.Native.Nat.{_+_, _/_, _%_, _<_};
 ghost use Rattle.base.specs.Tabulate.{tabulate};
 ghost use Rattle.base.specs.Model.{Starts};
+ghost use Rattle.amc.specs.Table.{sequenceDigits};
+ghost use Rattle.amc.specs.Element.{element, baseSeven, digits, subtract};
+ghost use Rattle.amc.specs.Map.{sumOf, traffic as Traffic, indexOf, dataNumber, addressOf};
 ghost use Rattle.amc.specs.Model.{sumPlace, sequencePlace, sequenceNumber};
-ghost use Rattle.amc.specs.Element.{Proper, element, number as Number, digits as Digits, add as Add, subtract as Subtract, sequence as Sequence};
-ghost use Rattle.amc.specs.Map.{off as Off, zeroRule, sumOf, elementOf, traffic as Traffic, indexOf, dataNumber, addressOf};
 
 // The sequence P as document 004 prints it: the digits of 22 are 2 and 2.
 const SEQUENCE: [u8; 48] = [
@@ -62,7 +64,7 @@ const SEQUENCE: [u8; 48] = [
     10,
 ];
 
-// Where in P an element stands, by its number in base seven.
+// The reverse: where in P an element stands, by its number in base seven.
 const POSITIONS: [u8; 49] = [
     0,
     0,
@@ -115,84 +117,34 @@ const POSITIONS: [u8; 49] = [
     41,
 ];
 
-// A pair of digits 0..6, the high one first.
-pub struct Element {
-    pub high: usize,
-    pub low: usize,
+// The sum of two digits, modulo 7.
+fn digit_sum(a: u16, b: u16) -> u16
+    requires { ⌜ (a < 7) × (b < 7) ⌝ }
+    ensures { λ r. ⌜ (r ≡ (a + b) % 7) × (r < 7) ⌝ }
+{
+    if a + b < 7 { a + b } else { a + b - 7 }
 }
 
-fn number(e: Element) -> usize
-    requires { ⌜ Proper e ⌝ }
-    ensures { λ r. ⌜ r ≡ Number e ⌝ }
+// v of the entry x of P, two digits, under the offset whose digits are high and low: the sum, or the offset itself where
+// that sum is zero.
+fn sum_place(high: u16, low: u16, x: u16) -> u16
+    requires { ⌜ (high < 7) × (low < 7) × (x / 10 < 7) × (x % 10 < 7) × (0 < x) ⌝ }
+    ensures { λ r. ⌜ r ≡ sumPlace (element high low) (element (x / 10) (x % 10)) ⌝ }
 {
-    e.high * 7 + e.low
-}
-
-fn digits(x: usize) -> Element
-    ensures { λ r. ⌜ r ≡ Digits x ⌝ }
-{
-    Element {
-        high: x / 7,
-        low: x % 7,
+    let sum = digit_sum(x / 10, high) * 7 + digit_sum(x % 10, low);
+    if sum == 0 {
+        high * 7 + low - 1
+    } else {
+        sum - 1
     }
 }
 
-fn add(x: Element, y: Element) -> Element
-    requires { ⌜ Proper x ⌝ }
-    requires { ⌜ Proper y ⌝ }
-    ensures { λ r. ⌜ r ≡ Add x y ⌝ }
+// v of entry i of P under the offset of a cell, by a copy of P, which a loop takes once.
+fn sequence_place(p: &[u8; 48], cell: usize, i: usize) -> u16
+    requires { ⌜ (now p ≡ sequenceDigits) × (cell < 2352) × (i < 48) ⌝ }
+    ensures { λ r. ⌜ r ≡ sequencePlace cell i ⌝ }
 {
-    Element {
-        high: (x.high + y.high) % 7,
-        low: (x.low + y.low) % 7,
-    }
-}
-
-fn subtract(x: Element, y: Element) -> Element
-    requires { ⌜ Proper x ⌝ }
-    ensures { λ r. ⌜ r ≡ Subtract x y ⌝ }
-{
-    Element {
-        high: unrotate(7, y.high, x.high),
-        low: unrotate(7, y.low, x.low),
-    }
-}
-
-// Entry i of P, a power of 22.
-fn sequence(i: usize) -> Element
-    requires { ⌜ i < 48 ⌝ }
-    ensures { λ r. ⌜ r ≡ Sequence i ⌝ }
-{
-    let x = wide(SEQUENCE[i]);
-    Element {
-        high: x / 10,
-        low: x % 10,
-    }
-}
-
-fn off(cell: usize) -> Element
-    ensures { λ r. ⌜ r ≡ Off cell ⌝ }
-{
-    digits(cell / 48)
-}
-
-// The sum of an entry of P and off, or off itself where that sum is zero.
-fn zero_rule(o: Element, p: Element) -> Element
-    requires { ⌜ Proper o ⌝ }
-    requires { ⌜ Proper p ⌝ }
-    ensures { λ r. ⌜ r ≡ zeroRule o (Add p o) ⌝ }
-{
-    let sum = add(p, o);
-    if number(sum) == 0 { o } else { sum }
-}
-
-// The sum that the zero rule made e of.
-fn sum_of(o: Element, e: Element) -> Element
-    requires { ⌜ Proper o ⌝ }
-    requires { ⌜ Proper e ⌝ }
-    ensures { λ r. ⌜ r ≡ sumOf o e ⌝ }
-{
-    if number(e) == number(o) { digits(0) } else { e }
+    sum_place((cell / 48 / 7) as u16, (cell / 48 % 7) as u16, p[i] as u16)
 }
 
 // The place v of index j among the 48 traffic places of a subchannel.
@@ -200,21 +152,39 @@ fn traffic(cell: usize, j: usize) -> usize
     requires { ⌜ (cell < 2352) × (j < 48) ⌝ }
     ensures { λ r. ⌜ r ≡ Traffic cell j ⌝ }
 {
-    let o = off(cell);
-    let p = sequence((j + cell % 48) % 48);
-    number(zero_rule(o, p)) - 1
+    wide16(sequence_place(&SEQUENCE, cell, (j + cell % 48) % 48))
 }
 
+// The difference of two elements, all three read in base seven.
+fn difference(x: usize, o: usize) -> usize
+    requires { ⌜ x < 49 ⌝ }
+    ensures { λ r. ⌜ (r ≡ baseSeven (subtract (digits x) (digits o))) × (r < 49) ⌝ }
+{
+    unrotate(7, o / 7, x / 7) * 7 + unrotate(7, o % 7, x % 7)
+}
+
+// The reverse: the entry of P that gives the element e under the offset o, all three read in base seven.
+fn entry_of(o: usize, e: usize) -> usize
+    requires { ⌜ e < 49 ⌝ }
+    ensures { λ r. ⌜ (r ≡ baseSeven (subtract (sumOf (digits o) (digits e)) (digits o))) × (r < 49) ⌝ }
+{
+    if e == o {
+        difference(0, o)
+    } else {
+        difference(e, o)
+    }
+}
+
+// The reverse: the index of v.
 fn index(cell: usize, v: usize) -> usize
     requires { ⌜ (cell < 2352) × (v < 48) ⌝ }
     ensures { λ r. ⌜ r ≡ indexOf cell v ⌝ }
 {
-    let o = off(cell);
-    let sum = sum_of(o, digits(v + 1));
-    let x = number(subtract(sum, o));
+    let x = entry_of(cell / 48, v + 1);
     unrotate(48, cell % 48, wide(POSITIONS[x]))
 }
 
+// The data number of a point.
 pub fn data_number(cell: usize, subchannel: usize, index: usize) -> usize
     requires { ⌜ (cell < 2352) × (subchannel < 65536) × (index < 48) ⌝ }
     ensures { λ r. ⌜ r ≡ dataNumber cell subchannel index ⌝ }
@@ -223,6 +193,7 @@ pub fn data_number(cell: usize, subchannel: usize, index: usize) -> usize
     (6 * subchannel + v / 8) * 8 + v % 8
 }
 
+// The reverse: the point of a data number.
 pub fn address(cell: usize, d: usize) -> Address
     requires { ⌜ cell < 2352 ⌝ }
     ensures { λ r. ⌜ r ≡ addressOf cell d ⌝ }
@@ -233,32 +204,16 @@ pub fn address(cell: usize, d: usize) -> Address
     }
 }
 
-// v of the entry x of P, two digits, under the offset whose digits are high and low.
-fn sum_place(high: u16, low: u16, x: u16) -> u16
-    requires { ⌜ (high < 7) × (low < 7) × (x / 10 < 7) × (x % 10 < 7) × (0 < x) ⌝ }
-    ensures { λ r. ⌜ r ≡ sumPlace (element high low) (element (x / 10) (x % 10)) ⌝ }
-{
-    let sum = (x / 10 + high) % 7 * 7 + (x % 10 + low) % 7;
-    if sum == 0 {
-        high * 7 + low - 1
-    } else {
-        sum - 1
-    }
-}
-
 // v of each entry of P, once for all subchannels.
 pub fn table(cell: usize) -> [u16; 188]
     requires { ⌜ cell < 2352 ⌝ }
     ensures { λ r. ⌜ Starts 48 (sequencePlace cell) r ⌝ }
 {
     let p = SEQUENCE;
-    let o = off(cell);
-    let high = o.high as u16;
-    let low = o.low as u16;
     let mut table = [0; 188];
     let mut i = 0;
     while i < 48 {
-        table[i] = sum_place(high, low, p[i] as u16);
+        table[i] = sequence_place(&p, cell, i);
         i += 1;
     }
     table

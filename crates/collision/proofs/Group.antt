@@ -47,10 +47,6 @@ group-in : (s k : ℕ) → k < 48 → groupOf s (indexIn s k) ≡ k
 unfolding groupOf indexIn
 group-in s k h = rotation 48 (23 * s) (lit< tt) .forth k h
 
-pub index-lt : (s k : ℕ) → indexIn s k < 48
-unfolding indexIn
-index-lt s k = omega arith
-
 module _ {n : ℕ} (w : Width n) (k : ℕ) (h : k < 48) where
   -- the element of subchannel s in group k
   abbrev pub element : ℕ → ℕ → ℕ

@@ -1,14 +1,5 @@
--- Laws of collisions, and the planners' figures.
+-- Laws of collisions.
 pub mod Count
 pub mod Pass
 pub mod Group
 pub mod Outcome
-pub mod Field
-pub mod FieldTest
-pub mod Cells
-pub mod DifferenceTest
-pub mod ThreeKinds
-pub mod Placing
-pub mod OfuscHits
-pub mod AmcHits
-pub mod Figures

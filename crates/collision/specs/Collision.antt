@@ -16,33 +16,33 @@ use Rattle.map.specs.Valid.{setupWith}
 use Rattle.collision.specs.declared.Collisions.{Collisions}
 
 -- how many marks are set
-unfoldable pub countOf : List Bool → ℕ
+unfoldable pub countOf : (hits : List Bool) → ℕ
 countOf [] = 0
 countOf (hit ∷ hits) = pick hit 1 0 + countOf hits
 
 -- Each subchannel has one point in group k: that of index m with k = (m+23s) mod 48, which is (k-23s) mod 48.
-unfoldable pub indexIn : ℕ → ℕ → ℕ
+unfoldable pub indexIn : (s k : ℕ) → ℕ
 indexIn s k = unrotate 48 (23 * s) k
 
 -- the carrier of that point, in the symbol of a slot
-unfoldable pub carrierIn : Setup → ℕ → ℕ → ℕ → ℕ
-carrierIn c slot s k = placeAt c slot (spotOf c slot s (indexIn s k)) .carrier
+unfoldable pub carrierIn : (setup : Setup) (slot s k : ℕ) → ℕ
+carrierIn setup slot s k = placeAt setup slot (spotOf setup slot s (indexIn s k)) .carrier
 
 -- Spread: the group is marked exactly when both subchannels have the same carrier there. The answer is the same for every symbol, so symbol 0 is looked at.
-unfoldable pub ofuscHit : ℕ → ℕ → ℕ → ℕ → ℕ → ℕ → Bool
+unfoldable pub ofuscHit : (size a s b t k : ℕ) → Bool
 ofuscHit size a s b t k = eqb (carrierIn (setupWith 2 size a) 0 s k) (carrierIn (setupWith 2 size b) 0 t k)
 
 -- Adjacent: 48 marks, one an index, set exactly when both cells give the same v.
-unfoldable pub amcHit : ℕ → ℕ → ℕ → Bool
+unfoldable pub amcHit : (a b j : ℕ) → Bool
 amcHit a b j = eqb (traffic a j) (traffic b j)
 
 -- The answer is 48 marks and their count; a no gives the number, with marks and count all zero.
-unfoldable pub answerOf : Answer (ℕ → Bool) → Collisions
+unfoldable pub answerOf : (answer : Answer (ℕ → Bool)) → Collisions
 answerOf (accepted hit) = record { refusal = 0; hits = tabulate 48 hit; count = countOf (tabulate 48 hit) }
 answerOf (refused number) = record { refusal = number; hits = tabulate 48 (λ k. false); count = 0 }
 
 -- Spread: size, cell and subchannel twice. The questions are put as for mode 2: it has 2, 3 and 5.
-unfoldable pub ofuscOf : ℕ → ℕ → ℕ → ℕ → ℕ → Collisions
+unfoldable pub ofuscOf : (size a s b t : ℕ) → Collisions
 ofuscOf size a s b t =
     answerOf
     (ask (isFourSizes size) 2
@@ -53,7 +53,7 @@ ofuscOf size a s b t =
     (accepted (ofuscHit size a s b t)))))))
 
 -- Adjacent: two cells. Only question 3 is put, as for mode 3, whose cells are the same at every size.
-unfoldable pub amcOf : ℕ → ℕ → Collisions
+unfoldable pub amcOf : (a b : ℕ) → Collisions
 amcOf a b =
     answerOf
     (ask (isCell (setupWith 3 2048 a)) 3

@@ -12,10 +12,10 @@ use Rattle.collision.specs.Collision.{ofuscOf, amcOf}
 use Rattle.plan.specs.declared.Zone.{Zone}
 use Rattle.plan.specs.Read.{planWith, planOf}
 
-abbrev pub at : ℕ → ℕ → Answer Place
-at y k = accepted (record { symbol = y; carrier = k })
+abbrev pub at : (symbol carrier : ℕ) → Answer Place
+at symbol carrier = accepted (record { symbol = symbol; carrier = carrier })
 
-abbrev pub isPoint : Answer Content → Bool
+abbrev pub isPoint : (answer : Answer Content) → Bool
 isPoint (accepted guard) = false
 isPoint (accepted dc) = false
 isPoint (accepted pilot) = false
@@ -27,7 +27,7 @@ abbrev pub tiles : List ℕ
 tiles = 1 ∷ 83 ∷ 166 ∷ 256 ∷ 324 ∷ 380 ∷ []
 
 -- the numbers of the marks that are set, where the first mark has number k
-unfoldable pub setFrom : ℕ → List Bool → List ℕ
+unfoldable pub setFrom : (k : ℕ) (hits : List Bool) → List ℕ
 setFrom k [] = []
 setFrom k (true ∷ hits) = k ∷ setFrom (suc k) hits
 setFrom k (false ∷ hits) = setFrom (suc k) hits
@@ -40,8 +40,8 @@ abbrev pub indices : List ℕ
 indices = 8 ∷ 24 ∷ 32 ∷ []
 
 -- the zone of line 11
-abbrev pub zone : ℕ → ℕ → ℕ → Zone
-zone m c n = record { mode = m; cell = c; slots = n }
+abbrev pub zone : (mode cell slots : ℕ) → Zone
+zone mode cell slots = record { mode = mode; cell = cell; slots = slots }
 
 -- what a carrier holds under any PUSC downlink cell
 pub record AnyCell (cell : ℕ) : Type 0 where

@@ -1,18 +1,26 @@
 -- A row of data numbers: the subchannel is added to what the cell fixes.
-use mathlib.Core.Path.{_≡_, ap, ap₂, _∙_, subst⁻¹}
-use Prim.Native.Nat.{ℕ, _+_, _*_, _%_, _^_, _<_}
+use mathlib.Core.Path.{_≡_, refl, ap, ap₂, _∙_, subst⁻¹}
+use Prim.Native.Nat.{ℕ, _+_, _*_, _/_, _%_, _^_, _<_}
 use native.Mathlib.Omega.{arith}
 use lib.Arith.{digits-lt}
 use lib.Bits.{bitXor, xor-block, xor-zero-r, xor-comm}
+use Rattle.base.specs.Steps.{entry}
 use Rattle.ofusc.specs.Width.{Width}
-use Rattle.ofusc.specs.Map.{groupOf, mask, dataNumber}
+use Rattle.ofusc.specs.Map.{groupOf, term, mask, dataNumber}
 use Rattle.ofusc.specs.Model.{cellNumber, groupNumber}
 use Rattle.ofusc.proofs.Sequence.{size, mask-lt}
+use Rattle.ofusc.proofs.Tables.{rows1, rows2, mask-is}
 
 module _ {n : ℕ} (w : Width n) (cell : ℕ) where
   pub cell-number-lt : (k : ℕ) → k < 48 → cellNumber n cell k < 1536
   unfolding cellNumber
   cell-number-lt k h = omega (arith, digits-lt h (mask-lt w cell k), size w .most)
+
+  -- the entry of group k, from both terms by the code's tables
+  pub cell-entry : (k a b : ℕ) → k < 48 → a ≡ term (λ i. entry rows1 (n + i)) n (cell % n) k → b ≡ term (λ i. entry rows2 (n + i)) n (cell / n) k
+      → (k * n + bitXor a b ≡ cellNumber n cell k) × (k * n + bitXor a b < 1536)
+  unfolding cellNumber
+  cell-entry k a b h ea eb = rw (ea, eb, mask-is w cell k) (refl, cell-number-lt k h)
 
   -- N is a power of two, so the element is the number's low bits
   pub with-subchannel : (s k : ℕ) → s < n → bitXor (cellNumber n cell k) s ≡ groupNumber n cell s k

@@ -8,21 +8,18 @@ use lib.Dec.{T, eqb, ltb, ltb→lt}
 use borrow.Author.Tests.{eq-eqb, ne-eqb}
 use lib.Bits.{bitXor, xor-lt}
 use Rattle.base.specs.Choice.{pick}
-use Rattle.base.proofs.Test.{both, both-left, both-right, cases}
+use Rattle.base.proofs.Test.{cases}
 use Rattle.base.proofs.Table.{all, all-at}
 use Rattle.ofusc.specs.Width.{Width, n4, n8, n16, n32}
 use Rattle.ofusc.specs.Field.{modulus, coefficient, product, remainder, times, power, p1, p2}
 use Rattle.ofusc.specs.Map.{term, mask}
 
 -- a test computed at each of the four N
-abbrev pub four : (ℕ → Bool) → Bool
-four f = both (f 4) (both (f 8) (both (f 16) (f 32)))
-
-pub at-width : (f : ℕ → Bool) → T (four f) → {n : ℕ} → Width n → T (f n)
-at-width f t n4 = both-left (f 4) (both (f 8) (both (f 16) (f 32))) t
-at-width f t n8 = both-left (f 8) (both (f 16) (f 32)) (both-right (f 4) (both (f 8) (both (f 16) (f 32))) t)
-at-width f t n16 = both-left (f 16) (f 32) (both-right (f 8) (both (f 16) (f 32)) (both-right (f 4) (both (f 8) (both (f 16) (f 32))) t))
-at-width f t n32 = both-right (f 16) (f 32) (both-right (f 8) (both (f 16) (f 32)) (both-right (f 4) (both (f 8) (both (f 16) (f 32))) t))
+pub at-width : (f : ℕ → Bool) → T (f 4) × T (f 8) × T (f 16) × T (f 32) → {n : ℕ} → Width n → T (f n)
+at-width f t n4 = t .0
+at-width f t n8 = t .1
+at-width f t n16 = t .2
+at-width f t n32 = t .3
 
 -- N is a power of two above 3, and at most 32
 pub record Size (n : ℕ) : Type 0 where
@@ -65,7 +62,7 @@ sum-lt {n} w a b ha hb =
 -- each entry of P1 is an element, by a test computed at the four N; so each of P2 is
 pub p1-lt : {n : ℕ} → Width n → (i : ℕ) → i < n - 1 → p1 n i < n
 unfolding modulus coefficient product remainder times power p1
-p1-lt {n} w i h = ltb→lt (p1 n i) n (all-at (λ k. ltb (p1 n k) n) (n - 1) (at-width (λ m. all (λ k. ltb (p1 m k) m) (m - 1)) tt w) i h)
+p1-lt {n} w i h = ltb→lt (p1 n i) n (all-at (λ k. ltb (p1 n k) n) (n - 1) (at-width (λ m. all (λ k. ltb (p1 m k) m) (m - 1)) (tt, tt, tt, tt) w) i h)
 
 pub p2-lt : {n : ℕ} → Width n → (i : ℕ) → p2 n i < n
 unfolding p2

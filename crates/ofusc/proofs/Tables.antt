@@ -41,11 +41,11 @@ row sequence rows n i = eqb (entry rows (n + i)) (sequence n i)
 
 pub rows1-are : {n : ℕ} → Width n → (i : ℕ) → i < n - 1 → entry rows1 (n + i) ≡ p1 n i
 unfolding modulus coefficient product remainder times power p1
-rows1-are {n} w i h = eqb→eq (entry rows1 (n + i)) (p1 n i) (all-at (row p1 rows1 n) (n - 1) (at-width (λ m. all (row p1 rows1 m) (m - 1)) tt w) i h)
+rows1-are {n} w i h = eqb→eq (entry rows1 (n + i)) (p1 n i) (all-at (row p1 rows1 n) (n - 1) (at-width (λ m. all (row p1 rows1 m) (m - 1)) (tt, tt, tt, tt) w) i h)
 
 pub rows2-are : {n : ℕ} → Width n → (i : ℕ) → i < n - 1 → entry rows2 (n + i) ≡ p2 n i
 unfolding modulus coefficient product remainder times power p1 p2
-rows2-are {n} w i h = eqb→eq (entry rows2 (n + i)) (p2 n i) (all-at (row p2 rows2 n) (n - 1) (at-width (λ m. all (row p2 rows2 m) (m - 1)) tt w) i h)
+rows2-are {n} w i h = eqb→eq (entry rows2 (n + i)) (p2 n i) (all-at (row p2 rows2 n) (n - 1) (at-width (λ m. all (row p2 rows2 m) (m - 1)) (tt, tt, tt, tt) w) i h)
 
 -- the mask by the code's tables
 pub mask-is : {n : ℕ} → Width n → (cell k : ℕ)

@@ -8,23 +8,23 @@ use Rattle.carriers.specs.declared.Address.{Address}
 use Rattle.ofusc.specs.Field.{p1, p2}
 
 -- For subchannel s and index m: group k = (m+23s) mod 48.
-unfoldable pub groupOf : ℕ → ℕ → ℕ
+unfoldable pub groupOf : (s m : ℕ) → ℕ
 groupOf s m = (m + 23 * s) % 48
 
 -- k' = k mod (N-1); a sequence's entry at (k'+c) mod (N-1), only if c is not 0
-unfoldable pub term : (ℕ → ℕ) → ℕ → ℕ → ℕ → ℕ
+unfoldable pub term : (sequence : ℕ → ℕ) (n c k : ℕ) → ℕ
 term sequence n c k = pick (eqb c 0) 0 (sequence ((k % (n - 1) + c) % (n - 1)))
 
 -- what the cell adds to s in group k: c1 = cell mod N goes with P1, c2 = cell div N with P2
-unfoldable pub mask : ℕ → ℕ → ℕ → ℕ
+unfoldable pub mask : (n cell k : ℕ) → ℕ
 mask n cell k = bitXor (term (p1 n) n (cell % n) k) (term (p2 n) n (cell / n) k)
 
 -- Data number = N·k + (s, plus P1[..], plus P2[..]), the inner sums in the field.
-unfoldable pub dataNumber : ℕ → ℕ → ℕ → ℕ → ℕ
+unfoldable pub dataNumber : (n cell s m : ℕ) → ℕ
 dataNumber n cell s m = groupOf s m * n + bitXor s (mask n cell (groupOf s m))
 
--- the address of a data number
-unfoldable pub addressOf : ℕ → ℕ → ℕ → Address
+-- The reverse: the address of a data number.
+unfoldable pub addressOf : (n cell d : ℕ) → Address
 addressOf n cell d =
     let s = bitXor (d % n) (mask n cell (d / n)) in
     record { subchannel = s; index = unrotate 48 (23 * s) (d / n) }

@@ -4,9 +4,9 @@ use lib.Bits.{bitXor}
 use Rattle.ofusc.specs.Map.{mask}
 
 -- what the cell alone fixes of the data number in group k: N·k and the terms of both sequences
-unfoldable pub cellNumber : ℕ → ℕ → ℕ → ℕ
+unfoldable pub cellNumber : (n cell k : ℕ) → ℕ
 cellNumber n cell k = k * n + mask n cell k
 
 -- the data number of subchannel s in group k
-unfoldable pub groupNumber : ℕ → ℕ → ℕ → ℕ → ℕ
+unfoldable pub groupNumber : (n cell s k : ℕ) → ℕ
 groupNumber n cell s k = k * n + bitXor s (mask n cell k)

@@ -221,6 +221,7 @@ fn mask(n: usize, cell: usize, k: usize) -> usize
     term(&first, n, c.remainder, k) ^ term(&second, n, c.quotient, k)
 }
 
+// The group of index m of subchannel s.
 fn group(s: usize, m: usize) -> usize
     requires { ⌜ (s < 32) × (m < 48) ⌝ }
     ensures { λ r. ⌜ r ≡ groupOf s m ⌝ }
@@ -228,6 +229,7 @@ fn group(s: usize, m: usize) -> usize
     (m + 23 * s) % 48
 }
 
+// The data number of a point.
 pub fn data_number(n: usize, cell: usize, subchannel: usize, index: usize) -> usize
     requires { ⌜ Width n ⌝ }
     requires { ⌜ (cell < n * n) × (subchannel < n) × (index < 48) ⌝ }
@@ -237,6 +239,7 @@ pub fn data_number(n: usize, cell: usize, subchannel: usize, index: usize) -> us
     k * n + (subchannel ^ mask(n, cell, k))
 }
 
+// The reverse: the point of a data number.
 pub fn address(n: usize, cell: usize, d: usize) -> Address
     requires { ⌜ Width n ⌝ }
     requires { ⌜ (cell < n * n) × (d < 48 * n) ⌝ }

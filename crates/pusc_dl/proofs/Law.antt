@@ -5,44 +5,54 @@ use Prim.Native.Nat.{ℕ, _+_, _-_, _*_, _/_, _%_, _<_}
 use native.Mathlib.Nat.{div-add-mod', add-sub-cancel-left}
 use native.Mathlib.Omega.{arith}
 use lib.Arith.{digits-div, digits-mod, digits-lt}
-use Rattle.base.specs.Steps.{unrotate, entry}
+use Rattle.base.specs.Steps.{entry}
 use Rattle.carriers.specs.Law.{SlotLaw, DataSpot, PointOf}
-use Rattle.pusc_dl.specs.Table.{renumberingInverse}
 use Rattle.pusc_dl.specs.Cluster.{renumber, unrenumber, isClusterPilot, clusterPlace}
 use Rattle.pusc_dl.specs.Group.{clusterStarts, subchannelStarts, groupIn, groupSize, groupData, groupSubchannel}
 use Rattle.pusc_dl.specs.Map.{spotOf, addressOf, groupUsed, logicalOf, usedGroup, usedData}
+use Rattle.pusc_dl.specs.Law.{Renumbering}
+use Rattle.pusc_dl.specs.declared.Physical.{Physical}
+use Rattle.pusc_dl.specs.declared.Logical.{Logical}
 use Rattle.pusc_dl.proofs.Cluster.{renumber-perm, OnPlace, on-place, OnData, on-data, pilot-place}
 use Rattle.pusc_dl.proofs.Group as group
+
+-- THE RENUMBERING AND ITS INVERSE UNDO EACH OTHER.
+pub renumbering : Renumbering
+unfolding renumber unrenumber
+renumbering =
+    record {
+      logical-lt = λ cell p h. renumber-perm cell .to-lt (p .0) h;
+      physical-lt = λ cell l h. renumber-perm cell .from-lt (l .0) h;
+      back = λ cell p h. λ i. record { 0 = renumber-perm cell .back (p .0) h i };
+      forth = λ cell l h. λ i. record { 0 = renumber-perm cell .forth (l .0) h i };
+    }
 
 module _ (cell : ℕ) where
   -- data number d of group g, on its used number in symbol y of the slot
   module _ (y g d : ℕ) (hy : y < 2) (hg : g < 6) (hd : d < 24 * groupSize g) where
-    abbrev logical : ℕ
-    logical = entry clusterStarts g + d / 12
+    abbrev logical : Logical
+    logical = record { 0 = entry clusterStarts g + d / 12 }
 
     run-lt : d / 12 < 2 * groupSize g
     run-lt = omega arith
 
-    fits : logical < 120
+    fits : logical .0 < 120
     fits = group.cluster-runs .number-lt g (d / 12) hg run-lt
-
-    abbrev cluster : ℕ
-    cluster = unrotate 120 (13 * cell) (entry renumberingInverse logical)
 
     at-place : OnPlace y (d % 12)
     at-place = on-place y (d % 12) hy (omega arith)
 
     used-lt : groupUsed cell y g d < 1680
-    unfolding groupUsed unrenumber
-    used-lt = digits-lt (renumber-perm cell .from-lt logical fits) (at-place .place-lt)
+    unfolding groupUsed
+    used-lt = digits-lt (renumbering .physical-lt cell logical fits) (at-place .place-lt)
 
     used-place : groupUsed cell y g d % 14 ≡ clusterPlace y (d % 12)
-    unfolding groupUsed unrenumber
-    used-place = digits-mod cluster (at-place .place-lt)
+    unfolding groupUsed
+    used-place = digits-mod (unrenumber cell logical .0) (at-place .place-lt)
 
-    used-logical : logicalOf cell (groupUsed cell y g d) .0 ≡ logical
-    unfolding groupUsed logicalOf renumber unrenumber
-    used-logical = rw (digits-div cluster (at-place .place-lt)) (renumber-perm cell .forth logical fits)
+    used-logical : logicalOf cell (groupUsed cell y g d) ≡ logical
+    unfolding groupUsed logicalOf
+    used-logical = rw (digits-div (unrenumber cell logical .0) (at-place .place-lt)) (renumbering .forth cell logical fits)
 
     used-group : usedGroup cell (groupUsed cell y g d) ≡ g
     unfolding usedGroup
@@ -54,9 +64,12 @@ module _ (cell : ℕ) where
 
   -- a used number that is no pilot, and its data number
   module _ (y u : ℕ) (hy : y < 2) (hu : u < 1680) (e : isClusterPilot y u ≡ false) where
+    abbrev physical : Physical
+    physical = record { 0 = u / 14 }
+
     logical-lt : logicalOf cell u .0 < 120
-    unfolding logicalOf renumber
-    logical-lt = renumber-perm cell .to-lt (u / 14) (omega arith)
+    unfolding logicalOf
+    logical-lt = renumbering .logical-lt cell physical (omega arith)
 
     at-data : OnData y (u % 14)
     at-data = on-data y (u % 14) hy (omega arith) (rw (pilot-place y u) at e)
@@ -73,14 +86,14 @@ module _ (cell : ℕ) where
     unfolding usedGroup
     in-run = omega (arith, group.cluster-runs .start-le (logicalOf cell u .0) logical-lt)
 
-    physical : unrenumber cell (logicalOf cell u) .0 ≡ u / 14
-    unfolding logicalOf renumber unrenumber
-    physical = renumber-perm cell .back (u / 14) (omega arith)
+    from-physical : unrenumber cell (logicalOf cell u) ≡ physical
+    unfolding logicalOf
+    from-physical = renumbering .back cell physical (omega arith)
 
     used-forth : groupUsed cell y (usedGroup cell u) (usedData cell y u) ≡ u
     unfolding groupUsed usedData
     used-forth =
-        rw (digits-div _ (at-data .data-lt), digits-mod _ (at-data .data-lt), at-data .forth, in-run, physical)
+        rw (digits-div _ (at-data .data-lt), digits-mod _ (at-data .data-lt), at-data .forth, in-run, from-physical)
         (div-add-mod' u 14)
 
     abbrev its-group : ℕ

@@ -10,7 +10,7 @@ use Rattle.base.specs.Model.{Starts}
 use Rattle.base.proofs.Test.{cases}
 use Rattle.pusc_dl.specs.Table.{base12, base8}
 use Rattle.pusc_dl.specs.Cluster.{unrenumber, clusterPlace}
-use Rattle.pusc_dl.specs.Group.{clusterStarts, groupSize, baseOf, groupData}
+use Rattle.pusc_dl.specs.Group.{clusterStarts, groupSize, ofSize, baseOf, groupData}
 use Rattle.pusc_dl.specs.Map.{groupUsed}
 use Rattle.pusc_dl.specs.Model.{tableEntry, baseStart, groupSpot}
 use Rattle.pusc_dl.specs.declared.Logical.{Logical}
@@ -62,7 +62,7 @@ module _ {cell : ℕ} {table : List ℕ} {g s k n : ℕ} (t : Turn cell table g 
       (λ e. let h = rw e at (t .s-lt) in rw e (omega arith))
 
   turned : tableEntry cell (baseStart g + s + n) ≡ (baseOf (groupSize g) ((s + n) % groupSize g) + cell) % groupSize g
-  unfolding groupSize baseStart baseOf
+  unfolding groupSize ofSize baseStart baseOf
   turned =
       cases (eqb (g % 2) 0)
       (λ e. let h = rw e at (t .s-lt) in rw e (ap (tableEntry cell) (omega arith) ∙ twelve-part cell (s + n) (omega arith)))

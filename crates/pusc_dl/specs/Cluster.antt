@@ -8,26 +8,28 @@ use Rattle.pusc_dl.specs.Table.{renumbering, renumberingInverse}
 use Rattle.pusc_dl.specs.declared.Physical.{Physical}
 use Rattle.pusc_dl.specs.declared.Logical.{Logical}
 
--- Logical = R[(physical + 13·cell) mod 120]. This and its inverse are the only passage between the two numbers.
-unfoldable pub renumber : ℕ → Physical → Logical
+-- Document 01's formula: logical = R[(physical + 13·cell) mod 120]. Placing goes by its inverse, `unrenumber`, below; that each undoes the other is `Renumbering` (Law.antt). They are the only passage between the two numbers.
+unfoldable pub renumber : (cell : ℕ) (p : Physical) → Logical
 renumber cell p = record { 0 = entry renumbering ((p .0 + 13 * cell) % 120) }
 
-unfoldable pub unrenumber : ℕ → Logical → Physical
+-- The reverse: the physical number of a logical one.
+unfoldable pub unrenumber : (cell : ℕ) (l : Logical) → Physical
 unrenumber cell l = record { 0 = (entry renumberingInverse (l .0) + (120 - 13 * cell % 120)) % 120 }
 
 -- In even symbols cluster places 4 and 8 are pilots, in odd ones 0 and 12.
-unfoldable pub firstPilot : ℕ → ℕ
-firstPilot y = pick (eqb (y % 2) 0) 4 0
+unfoldable pub firstPilot : (symbol : ℕ) → ℕ
+firstPilot symbol = pick (eqb (symbol % 2) 0) 4 0
 
-unfoldable pub secondPilot : ℕ → ℕ
-secondPilot y = pick (eqb (y % 2) 0) 8 12
+unfoldable pub secondPilot : (symbol : ℕ) → ℕ
+secondPilot symbol = pick (eqb (symbol % 2) 0) 8 12
 
-unfoldable pub isClusterPilot : ℕ → ℕ → Bool
-isClusterPilot y u = pick (eqb (u % 14) (firstPilot y)) true (eqb (u % 14) (secondPilot y))
+unfoldable pub isClusterPilot : (symbol used : ℕ) → Bool
+isClusterPilot symbol used = pick (eqb (used % 14) (firstPilot symbol)) true (eqb (used % 14) (secondPilot symbol))
 
--- Twelve data numbers a cluster, its data places ascending: the place of data number r, and the data number of a place that is no pilot.
-unfoldable pub clusterPlace : ℕ → ℕ → ℕ
-clusterPlace y r = skip (secondPilot y) (skip (firstPilot y) r)
+-- Twelve data numbers a cluster, its data places ascending: the place of data number r.
+unfoldable pub clusterPlace : (symbol r : ℕ) → ℕ
+clusterPlace symbol r = skip (secondPilot symbol) (skip (firstPilot symbol) r)
 
-unfoldable pub clusterData : ℕ → ℕ → ℕ
-clusterData y place = unskip (firstPilot y) (unskip (secondPilot y) place)
+-- The reverse: the data number of a place that is no pilot.
+unfoldable pub clusterData : (symbol place : ℕ) → ℕ
+clusterData symbol place = unskip (firstPilot symbol) (unskip (secondPilot symbol) place)

@@ -12,35 +12,40 @@ clusterStarts = 0 ∷ 24 ∷ 40 ∷ 64 ∷ 80 ∷ 104 ∷ []
 abbrev pub subchannelStarts : List ℕ
 subchannelStarts = 0 ∷ 12 ∷ 20 ∷ 32 ∷ 40 ∷ 52 ∷ []
 
--- the group whose run of numbers holds x, for runs that start at the numbers of a list
-unfoldable pub groupIn : List ℕ → ℕ → ℕ
-groupIn starts x =
-    pick (ltb x (entry starts 1)) 0
-    (pick (ltb x (entry starts 2)) 1
-    (pick (ltb x (entry starts 3)) 2
-    (pick (ltb x (entry starts 4)) 3
-    (pick (ltb x (entry starts 5)) 4 5))))
+-- 1 where x is at or after a start, otherwise 0
+unfoldable pub reached : (start x : ℕ) → ℕ
+reached start x = pick (ltb x start) 0 1
 
--- M, the number of subchannels of a group
-unfoldable pub groupSize : ℕ → ℕ
+-- the group whose run of numbers holds x, for six runs that start at the numbers of a list: how many later starts x has reached
+unfoldable pub groupIn : (starts : List ℕ) (x : ℕ) → ℕ
+groupIn starts x =
+    reached (entry starts 1) x + reached (entry starts 2) x + reached (entry starts 3) x + reached (entry starts 4) x + reached (entry starts 5) x
+
+-- M, the number of subchannels of group g
+unfoldable pub groupSize : (g : ℕ) → ℕ
 groupSize g = pick (eqb (g % 2) 0) 12 8
 
--- B of a group of M subchannels
-unfoldable pub baseOf : ℕ → ℕ → ℕ
-baseOf m i = entry (pick (eqb m 12) base12 base8) i
+-- what a group of 12 subchannels has and what one of 8 has; there is no other
+unfoldable pub ofSize : (size : ℕ) (twelve eight : List ℕ) → List ℕ
+ofSize size twelve eight = pick (eqb size 12) twelve (pick (eqb size 8) eight [])
 
-unfoldable pub baseInverse : ℕ → ℕ → ℕ
-baseInverse m x = entry (pick (eqb m 12) base12Inverse base8Inverse) x
+-- B of a group of a size
+unfoldable pub baseOf : (size i : ℕ) → ℕ
+baseOf size i = entry (ofSize size base12 base8) i
+
+-- The reverse: where in B a number stands.
+unfoldable pub baseInverse : (size x : ℕ) → ℕ
+baseInverse size x = entry (ofSize size base12Inverse base8Inverse) x
 
 -- With s counted in the group and k = index mod 24: n = (k+13s) mod 24, group data number = M·n + (B[(n+s) mod M] + cell) mod M.
-unfoldable pub groupData : ℕ → ℕ → ℕ → ℕ → ℕ
-groupData m cell s k =
+unfoldable pub groupData : (size cell s k : ℕ) → ℕ
+groupData size cell s k =
     let n = (k + 13 * s) % 24 in
-    n * m + (baseOf m ((s + n) % m) + cell) % m
+    n * size + (baseOf size ((s + n) % size) + cell) % size
 
 -- The reverse: the subchannel, counted in the group, and the index mod 24 of a group data number.
-unfoldable pub groupSubchannel : ℕ → ℕ → ℕ → ℕ
-groupSubchannel m cell d = unrotate m (d / m) (baseInverse m (unrotate m cell (d % m)))
+unfoldable pub groupSubchannel : (size cell d : ℕ) → ℕ
+groupSubchannel size cell d = unrotate size (d / size) (baseInverse size (unrotate size cell (d % size)))
 
-unfoldable pub groupIndex : ℕ → ℕ → ℕ → ℕ
-groupIndex m cell d = unrotate 24 (13 * groupSubchannel m cell d) (d / m)
+unfoldable pub groupIndex : (size cell d : ℕ) → ℕ
+groupIndex size cell d = unrotate 24 (13 * groupSubchannel size cell d) (d / size)

@@ -8,14 +8,14 @@ use Rattle.pusc_dl.specs.Group.{clusterStarts, subchannelStarts, groupIn
 use Rattle.pusc_dl.specs.declared.Physical.{Physical}
 use Rattle.pusc_dl.specs.declared.Logical.{Logical}
 
--- the used number of group data number d of group g, in symbol y: twelve data numbers a cluster, from the group's lowest logical cluster
-unfoldable pub groupUsed : ℕ → ℕ → ℕ → ℕ → ℕ
-groupUsed cell y g d =
+-- the used number of group data number d of group g, in a symbol: twelve data numbers a cluster, from the group's lowest logical cluster
+unfoldable pub groupUsed : (cell symbol g d : ℕ) → ℕ
+groupUsed cell symbol g d =
     let logical : Logical = record { 0 = entry clusterStarts g + d / 12 } in
-    unrenumber cell logical .0 * 14 + clusterPlace y (d % 12)
+    unrenumber cell logical .0 * 14 + clusterPlace symbol (d % 12)
 
 -- Indices 0..23 are on the first symbol, 24..47 on the second. (The offset in the slot has the parity of the symbol's number in the zone.)
-unfoldable pub spotOf : ℕ → ℕ → ℕ → Spot
+unfoldable pub spotOf : (cell subchannel index : ℕ) → Spot
 spotOf cell subchannel index =
     let g = groupIn subchannelStarts subchannel in
     record {
@@ -23,19 +23,19 @@ spotOf cell subchannel index =
       used = groupUsed cell (index / 24) g (groupData (groupSize g) cell (subchannel - entry subchannelStarts g) (index % 24));
     }
 
--- The reverse: the group of a used number, its group data number in symbol y, and the address of the point there.
-unfoldable pub logicalOf : ℕ → ℕ → Logical
+-- The reverse: the group of a used number, its group data number in a symbol, and the address of the point there.
+unfoldable pub logicalOf : (cell used : ℕ) → Logical
 logicalOf cell used =
     let physical : Physical = record { 0 = used / 14 } in
     renumber cell physical
 
-unfoldable pub usedGroup : ℕ → ℕ → ℕ
+unfoldable pub usedGroup : (cell used : ℕ) → ℕ
 usedGroup cell used = groupIn clusterStarts (logicalOf cell used .0)
 
-unfoldable pub usedData : ℕ → ℕ → ℕ → ℕ
-usedData cell y used = (logicalOf cell used .0 - entry clusterStarts (usedGroup cell used)) * 12 + clusterData y (used % 14)
+unfoldable pub usedData : (cell symbol used : ℕ) → ℕ
+usedData cell symbol used = (logicalOf cell used .0 - entry clusterStarts (usedGroup cell used)) * 12 + clusterData symbol (used % 14)
 
-unfoldable pub addressOf : ℕ → ℕ → ℕ → Address
+unfoldable pub addressOf : (cell offset used : ℕ) → Address
 addressOf cell offset used =
     let g = usedGroup cell used in
     let d = usedData cell offset used in

@@ -10,8 +10,6 @@ use carriers::Spot;
 ghost use mathlib.Core.Path.{_≡_};
 ghost use mathlib.Core.Bool.{false};
 ghost use Prim.Native.Nat.{_+_, _*_, _/_, _%_, _<_, _≤_};
-ghost use lib.Dec.{eqb};
-ghost use Rattle.base.specs.Choice.{pick};
 ghost use Rattle.base.specs.Steps.{entry, unrotate as Unrotate};
 ghost use Rattle.base.specs.Tabulate.{tabulate};
 ghost use Rattle.base.specs.Model.{Starts};
@@ -19,7 +17,7 @@ ghost use Rattle.carriers.specs.Model.{spotNumber};
 ghost use Rattle.pusc_dl.specs.Table.{renumberingInverse, base12, base8};
 ghost use Rattle.pusc_dl.specs.Cluster as cluster;
 ghost use Rattle.pusc_dl.specs.Cluster.{firstPilot, secondPilot, isClusterPilot, clusterPlace, clusterData};
-ghost use Rattle.pusc_dl.specs.Group.{groupIn, groupSize, groupData, groupSubchannel, groupIndex};
+ghost use Rattle.pusc_dl.specs.Group.{clusterStarts, subchannelStarts, reached as Reached, groupIn, groupSize, ofSize, groupData, groupSubchannel, groupIndex};
 ghost use Rattle.pusc_dl.specs.Map.{groupUsed, usedGroup, usedData, spotOf, addressOf};
 ghost use Rattle.pusc_dl.specs.Model.{tableEntry, baseStart, groupSpot};
 
@@ -289,7 +287,7 @@ const CLUSTER_STARTS: [usize; 6] = [0, 24, 40, 64, 80, 104];
 
 const SUBCHANNEL_STARTS: [usize; 6] = [0, 12, 20, 32, 40, 52];
 
-// The renumbering and its inverse: the only passage between the two numbers of a cluster.
+// The renumbering; with its inverse, below, the only passage between the two numbers of a cluster.
 fn renumber(cell: usize, p: Physical) -> Logical
     requires { ⌜ (cell < 32) × (p .0 < 120) ⌝ }
     ensures { λ r. ⌜ (r ≡ cluster.renumber cell p) × (r .0 < 120) ⌝ }
@@ -298,15 +296,8 @@ fn renumber(cell: usize, p: Physical) -> Logical
     Logical(wide(RENUMBERING[i]))
 }
 
-fn unrenumber(cell: usize, l: Logical) -> Physical
-    requires { ⌜ (cell < 32) × (l .0 < 120) ⌝ }
-    ensures { λ r. ⌜ (r ≡ cluster.unrenumber cell l) × (r .0 < 120) ⌝ }
-{
-    unrenumber_by(&RENUMBERING_INVERSE, cell, l)
-}
-
-// The same by a copy of the table, which a loop takes once.
-fn unrenumber_by(inverse: &[u8; 120], cell: usize, l: Logical) -> Physical
+// The reverse, by a copy of its table, which a loop takes once.
+fn unrenumber(inverse: &[u8; 120], cell: usize, l: Logical) -> Physical
     requires { ⌜ (now inverse ≡ renumberingInverse) × (cell < 32) × (l .0 < 120) ⌝ }
     ensures { λ r. ⌜ (r ≡ cluster.unrenumber cell l) × (r .0 < 120) ⌝ }
 {
@@ -348,7 +339,7 @@ pub fn is_pilot(symbol: usize, used: usize) -> bool
     place == p.second
 }
 
-// The place of data number r of a cluster, and the data number of a place that is no pilot.
+// The place of data number r of a cluster.
 fn cluster_place(symbol: usize, r: usize) -> usize
     requires { ⌜ r < 12 ⌝ }
     ensures { λ q. ⌜ (q ≡ clusterPlace symbol r) × (q < 14) ⌝ }
@@ -357,6 +348,7 @@ fn cluster_place(symbol: usize, r: usize) -> usize
     skip(p.second, skip(p.first, r))
 }
 
+// The reverse: the data number of a place that is no pilot.
 fn cluster_data(symbol: usize, place: usize) -> usize
     requires { ⌜ (symbol < 2) × (place < 14) × (isClusterPilot symbol place ≡ false) ⌝ }
     ensures { λ r. ⌜ (r ≡ clusterData symbol place) × (r < 12) ⌝ }
@@ -365,44 +357,46 @@ fn cluster_data(symbol: usize, place: usize) -> usize
     unskip(p.first, unskip(p.second, place))
 }
 
-// The group whose run of numbers holds x.
-fn group_in(starts: [usize; 6], x: usize) -> usize
-    ensures { λ g. ⌜ (g ≡ groupIn starts x) × (g < 6) ⌝ }
+// 1 where x is at or after a start, otherwise 0.
+fn reached(start: usize, x: usize) -> usize
+    ensures { λ r. ⌜ (r ≡ Reached start x) × (r ≤ 1) ⌝ }
 {
-    if x < starts[1] {
-        return 0;
-    }
-    if x < starts[2] {
-        return 1;
-    }
-    if x < starts[3] {
-        return 2;
-    }
-    if x < starts[4] {
-        return 3;
-    }
-    if x < starts[5] {
-        return 4;
-    }
-    5
+    if x < start { 0 } else { 1 }
+}
+
+// The group of a subchannel: two groups to 20 subchannels, the first of 12.
+fn subchannel_group(x: usize) -> usize
+    requires { ⌜ x < 60 ⌝ }
+    ensures { λ g. ⌜ (g ≡ groupIn subchannelStarts x) × (g < 6) ⌝ }
+{
+    x / 20 * 2 + reached(12, x % 20)
+}
+
+// The group of a logical cluster: two groups to 40 clusters, the first of 24.
+fn cluster_group(x: usize) -> usize
+    requires { ⌜ x < 120 ⌝ }
+    ensures { λ g. ⌜ (g ≡ groupIn clusterStarts x) × (g < 6) ⌝ }
+{
+    x / 40 * 2 + reached(24, x % 40)
 }
 
 // The number of subchannels of a group.
 fn group_size(g: usize) -> usize
-    ensures { λ m. ⌜ (m ≡ groupSize g) × (0 < m) × (m < 13) ⌝ }
+    ensures { λ size. ⌜ (size ≡ groupSize g) × (0 < size) × (size < 13) ⌝ }
 {
     if g % 2 == 0 { 12 } else { 8 }
 }
 
 // The quotient and the remainder by a group's size, each by a constant.
 fn size_quotient(g: usize, x: usize) -> usize
-    ensures { λ r. ⌜ r ≡ x / groupSize g ⌝ }
+    requires { ⌜ x < 24 * groupSize g ⌝ }
+    ensures { λ r. ⌜ (r ≡ x / groupSize g) × (r < 24) ⌝ }
 {
     if group_size(g) == 12 { x / 12 } else { x / 8 }
 }
 
 fn size_remainder(g: usize, x: usize) -> usize
-    ensures { λ r. ⌜ (r ≡ x % groupSize g) × (r < groupSize g) ⌝ }
+    ensures { λ r. ⌜ (r ≡ x % groupSize g) × (r < groupSize g) × (r < 12) ⌝ }
 {
     if group_size(g) == 12 { x % 12 } else { x % 8 }
 }
@@ -410,7 +404,7 @@ fn size_remainder(g: usize, x: usize) -> usize
 // y moved back by c, modulo a group's size.
 fn size_unrotate(g: usize, c: usize, y: usize) -> usize
     requires { ⌜ y < 65536 ⌝ }
-    ensures { λ r. ⌜ (r ≡ Unrotate (groupSize g) c y) × (r < groupSize g) ⌝ }
+    ensures { λ r. ⌜ (r ≡ Unrotate (groupSize g) c y) × (r < groupSize g) × (r < 12) ⌝ }
 {
     size_remainder(g, y + (group_size(g) - size_remainder(g, c)))
 }
@@ -418,7 +412,7 @@ fn size_unrotate(g: usize, c: usize, y: usize) -> usize
 // The entry of the table for a group's size.
 fn of_size(g: usize, twelve: [u8; 12], eight: [u8; 8], i: usize) -> usize
     requires { ⌜ i < groupSize g ⌝ }
-    ensures { λ r. ⌜ (r ≡ entry (pick (eqb (groupSize g) 12) twelve eight) i) × (r < 256) ⌝ }
+    ensures { λ r. ⌜ (r ≡ entry (ofSize (groupSize g) twelve eight) i) × (r < 256) ⌝ }
 {
     if group_size(g) == 12 {
         wide(twelve[i])
@@ -432,10 +426,10 @@ fn group_data(g: usize, cell: usize, s: usize, k: usize) -> usize
     requires { ⌜ (cell < 32) × (s < groupSize g) × (k < 24) ⌝ }
     ensures { λ d. ⌜ (d ≡ groupData (groupSize g) cell s k) × (d < 24 * groupSize g) ⌝ }
 {
-    let m = group_size(g);
+    let size = group_size(g);
     let n = rotate(24, 13 * s, k);
     let base = of_size(g, BASE_12, BASE_8, size_remainder(g, s + n));
-    n * m + size_remainder(g, base + cell)
+    n * size + size_remainder(g, base + cell)
 }
 
 // The reverse: the subchannel, counted in the group, and the index, below 24, of a group data number.
@@ -460,7 +454,7 @@ fn group_used(cell: usize, symbol: usize, g: usize, d: usize) -> usize
     ensures { λ r. ⌜ r ≡ groupUsed cell symbol g d ⌝ }
 {
     let logical = Logical(CLUSTER_STARTS[g] + d / 12);
-    let physical = unrenumber(cell, logical);
+    let physical = unrenumber(&RENUMBERING_INVERSE, cell, logical);
     physical.0 * 14 + cluster_place(symbol, d % 12)
 }
 
@@ -469,7 +463,7 @@ pub fn spot(cell: usize, subchannel: usize, index: usize) -> Spot
     requires { ⌜ (cell < 32) × (subchannel < 60) × (index < 48) ⌝ }
     ensures { λ r. ⌜ r ≡ spotOf cell subchannel index ⌝ }
 {
-    let g = group_in(SUBCHANNEL_STARTS, subchannel);
+    let g = subchannel_group(subchannel);
     let s = subchannel - SUBCHANNEL_STARTS[g];
     let d = group_data(g, cell, s, index % 24);
     let offset = index / 24;
@@ -485,7 +479,7 @@ struct Datum {
     number: usize,
 }
 
-// The group data number of a used number that is no pilot.
+// The reverse: the group data number of a used number that is no pilot.
 fn used_data(cell: usize, symbol: usize, used: usize) -> Datum
     requires { ⌜ (cell < 32) × (symbol < 2) × (used < 1680) × (isClusterPilot symbol used ≡ false) ⌝ }
     ensures { λ r. ⌜ (r .group ≡ usedGroup cell used) × (r .number ≡ usedData cell symbol used) ⌝ }
@@ -493,14 +487,14 @@ fn used_data(cell: usize, symbol: usize, used: usize) -> Datum
 {
     let logical = renumber(cell, Physical(used / 14));
     let l = logical.0;
-    let g = group_in(CLUSTER_STARTS, l);
+    let g = cluster_group(l);
     Datum {
         group: g,
         number: (l - CLUSTER_STARTS[g]) * 12 + cluster_data(symbol, used % 14),
     }
 }
 
-// The point that lies on a carrier that is no pilot.
+// The reverse: the point that lies on a carrier that is no pilot.
 pub fn address(cell: usize, offset: usize, used: usize) -> Address
     requires { ⌜ (cell < 32) × (offset < 2) × (used < 1680) × (isClusterPilot offset used ≡ false) ⌝ }
     ensures { λ r. ⌜ r ≡ addressOf cell offset used ⌝ }
@@ -526,7 +520,7 @@ fn table_entry(
     ensures { λ r. ⌜ r ≡ tableEntry cell i ⌝ }
 {
     if i < 120 {
-        let p = unrenumber_by(inverse, cell, Logical(i));
+        let p = unrenumber(inverse, cell, Logical(i));
         (p.0 * 14) as u16
     } else if i < 156 {
         rotate(12, cell, wide(twelve[(i - 120) % 12])) as u16
@@ -610,8 +604,8 @@ fn group_spots(cell: usize, g: usize, s: usize, table: &[u16; 188]) -> [u16; 48]
 // The spots of a subchannel as numbers, by index.
 pub fn spots(cell: usize, subchannel: usize, table: &[u16; 188]) -> [u16; 48]
     requires { ⌜ (cell < 32) × (subchannel < 60) × Starts 188 (tableEntry cell) (now table) ⌝ }
-    ensures { λ r. ⌜ r ≡ tabulate 48 (λ m. spotNumber (spotOf cell subchannel m)) ⌝ }
+    ensures { λ r. ⌜ r ≡ tabulate 48 (λ index. spotNumber (spotOf cell subchannel index)) ⌝ }
 {
-    let g = group_in(SUBCHANNEL_STARTS, subchannel);
+    let g = subchannel_group(subchannel);
     group_spots(cell, g, subchannel - SUBCHANNEL_STARTS[g], table)
 }

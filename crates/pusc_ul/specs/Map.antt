@@ -6,7 +6,7 @@ use Rattle.carriers.specs.declared.Address.{Address}
 use Rattle.pusc_ul.specs.Tile.{tileOf, tileSubchannel, placeSymbol, placeTile, placeCarrier, dataPlace}
 
 -- Document 01, "Partial usage": index n is on data place (n+13s) mod 48.
-unfoldable pub spotOf : ℕ → ℕ → ℕ → Spot
+unfoldable pub spotOf : (cell subchannel index : ℕ) → Spot
 spotOf cell subchannel index =
     let q = (index + 13 * subchannel) % 48 in
     record {
@@ -14,7 +14,8 @@ spotOf cell subchannel index =
       used = tileOf cell subchannel (placeTile q) * 4 + placeCarrier q;
     }
 
-unfoldable pub addressOf : ℕ → ℕ → ℕ → Address
+-- The reverse: the subchannel and the index of a used number in a symbol of the slot.
+unfoldable pub addressOf : (cell offset used : ℕ) → Address
 addressOf cell offset used =
     let tile = used / 4 in
     let s = tileSubchannel cell tile in

@@ -7,28 +7,28 @@ use Rattle.base.specs.Steps.{entry, unrotate}
 use Rattle.pusc_ul.specs.Table.{tilePermutation, tilePermutationInverse}
 
 -- Tile t (0..5) of subchannel s is 70t + (Q[(s+t) mod 70] + cell) mod 70.
-unfoldable pub tileOf : ℕ → ℕ → ℕ → ℕ
+unfoldable pub tileOf : (cell s t : ℕ) → ℕ
 tileOf cell s t = t * 70 + (entry tilePermutation ((s + t) % 70) + cell) % 70
 
--- the subchannel of a tile
-unfoldable pub tileSubchannel : ℕ → ℕ → ℕ
+-- The reverse: the subchannel of a tile.
+unfoldable pub tileSubchannel : (cell tile : ℕ) → ℕ
 tileSubchannel cell tile = unrotate 70 (tile / 70) (entry tilePermutationInverse (unrotate 70 cell (tile % 70)))
 
 -- corners pilots: the first and the last carrier of a tile in the first and the last symbol of a slot
-unfoldable pub isTilePilot : ℕ → ℕ → Bool
-isTilePilot offset u = pick (eqb offset 1) false (pick (eqb (u % 4) 0) true (eqb (u % 4) 3))
+unfoldable pub isTilePilot : (offset used : ℕ) → Bool
+isTilePilot offset used = pick (eqb offset 1) false (pick (eqb (used % 4) 0) true (eqb (used % 4) 3))
 
 -- Data place q (0..47) is numbered by symbol, then tile t, then carrier: 12, 24, 12 a symbol. Its symbol in the slot, its t, and its carrier in the tile.
-unfoldable pub placeSymbol : ℕ → ℕ
+unfoldable pub placeSymbol : (q : ℕ) → ℕ
 placeSymbol q = pick (ltb q 12) 0 (pick (ltb q 36) 1 2)
 
-unfoldable pub placeTile : ℕ → ℕ
+unfoldable pub placeTile : (q : ℕ) → ℕ
 placeTile q = pick (ltb q 12) (q / 2) (pick (ltb q 36) ((q - 12) / 4) ((q - 36) / 2))
 
-unfoldable pub placeCarrier : ℕ → ℕ
+unfoldable pub placeCarrier : (q : ℕ) → ℕ
 placeCarrier q = pick (ltb q 12) (q % 2 + 1) (pick (ltb q 36) ((q - 12) % 4) ((q - 36) % 2 + 1))
 
--- the data place of a carrier of tile t in a symbol of the slot, no pilot
-unfoldable pub dataPlace : ℕ → ℕ → ℕ → ℕ
+-- The reverse: the data place of a carrier of tile t in a symbol of the slot, no pilot; 48, which is none, for a fourth symbol.
+unfoldable pub dataPlace : (offset t carrier : ℕ) → ℕ
 dataPlace offset t carrier =
-    pick (eqb offset 0) (t * 2 + (carrier - 1)) (pick (eqb offset 1) (12 + (t * 4 + carrier)) (36 + (t * 2 + (carrier - 1))))
+    pick (eqb offset 0) (t * 2 + (carrier - 1)) (pick (eqb offset 1) (12 + (t * 4 + carrier)) (pick (eqb offset 2) (36 + (t * 2 + (carrier - 1))) 48))

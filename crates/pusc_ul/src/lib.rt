@@ -4,13 +4,12 @@ use carriers::Address;
 use carriers::Spot;
 ghost use mathlib.Core.Path.{_≡_};
 ghost use mathlib.Core.Bool.{false};
-ghost use Prim.Native.Nat.{_*_, _<_};
+ghost use Prim.Native.Nat.{_<_};
 ghost use Rattle.base.specs.Tabulate.{tabulate};
 ghost use Rattle.base.specs.Model.{Starts};
-ghost use Rattle.carriers.specs.Band.{puscBand, carrierOf};
 ghost use Rattle.pusc_ul.specs.Tile.{tileOf, tileSubchannel, isTilePilot, placeSymbol, placeTile, placeCarrier, dataPlace};
 ghost use Rattle.pusc_ul.specs.Map.{spotOf, addressOf};
-ghost use Rattle.pusc_ul.specs.Model.{tableEntry, placeNumber};
+ghost use Rattle.pusc_ul.specs.Model.{tableEntry, placeNumber, tileStart, putTwo};
 
 // Q of document 01, as document 000 prints it, and its inverse.
 const TILE_PERMUTATION: [u8; 70] = [
@@ -168,7 +167,7 @@ fn tile(cell: usize, subchannel: usize, t: usize) -> usize
     t * 70 + (wide(TILE_PERMUTATION[i]) + cell) % 70
 }
 
-// The subchannel that has a tile.
+// The reverse: the subchannel that has a tile.
 fn tile_subchannel(cell: usize, tile: usize) -> usize
     requires { ⌜ (cell < 70) × (tile < 420) ⌝ }
     ensures { λ r. ⌜ (r ≡ tileSubchannel cell tile) × (r < 70) ⌝ }
@@ -210,7 +209,7 @@ fn data_carrier(q: usize) -> DataCarrier
     }
 }
 
-// The data place of a carrier that is no pilot.
+// The reverse: the data place of a carrier that is no pilot.
 fn data_place(offset: usize, t: usize, carrier: usize) -> usize
     requires { ⌜ (offset < 3) × (t < 6) × (carrier < 4) × (isTilePilot offset carrier ≡ false) ⌝ }
     ensures { λ r. ⌜ (r ≡ dataPlace offset t carrier) × (r < 48) ⌝ }
@@ -251,7 +250,7 @@ pub fn is_pilot(offset: usize, used: usize) -> bool
     carrier == 3
 }
 
-// The point that lies on a carrier that is no pilot.
+// The reverse: the point that lies on a carrier that is no pilot.
 pub fn address(cell: usize, offset: usize, used: usize) -> Address
     requires { ⌜ (cell < 70) × (offset < 3) × (used < 1680) × (isTilePilot offset used ≡ false) ⌝ }
     ensures { λ r. ⌜ r ≡ addressOf cell offset used ⌝ }
@@ -281,12 +280,21 @@ pub fn table(cell: usize) -> [u16; 188]
     table
 }
 
-// The first carrier of tiles 70t to 70t+69.
-fn seventy_start(t: usize) -> u16
-    requires { ⌜ t < 6 ⌝ }
-    ensures { λ r. ⌜ (r ≡ carrierOf puscBand (t * 280)) × (r < 2048) ⌝ }
+// The first carrier of tile t of a subchannel. Seventy tiles lie on one side of DC.
+fn tile_start(cell: usize, subchannel: usize, t: usize, table: &[u16; 188]) -> u16
+    requires { ⌜ (cell < 70) × (subchannel < 70) × (t < 6) × Starts 76 (tableEntry cell) (now table) ⌝ }
+    ensures { λ r. ⌜ (r ≡ tileStart cell subchannel t) × (r < 4096) ⌝ }
 {
-    carriers::carrier(carriers::pusc_band(), t * 280) as u16
+    table[subchannel + t] + carriers::carrier(carriers::pusc_band(), t * 280) as u16
+}
+
+// Writes x and the next number as pair j of a row.
+fn put_two(row: &mut [u16; 48], j: usize, x: u16)
+    requires { ⌜ (j < 24) × (x < 65535) ⌝ }
+    ensures { λ _. ⌜ now (row .exit) ≡ putTwo (now (row .entry)) j x ⌝ }
+{
+    row[j * 2] = x;
+    row[j * 2 + 1] = x + 1;
 }
 
 // The carriers of a subchannel as numbers, by data place: tile after tile, its inner carriers in the first and the last
@@ -298,15 +306,11 @@ pub fn carrier_row(cell: usize, subchannel: usize, table: &[u16; 188]) -> [u16; 
     let mut row = [0; 48];
     let mut t = 0;
     while t < 6 {
-        let first = table[subchannel + t] + seventy_start(t);
-        row[t * 2] = first + 1;
-        row[t * 2 + 1] = first + 2;
-        row[t * 4 + 12] = first + 2048;
-        row[t * 4 + 13] = first + 2049;
-        row[t * 4 + 14] = first + 2050;
-        row[t * 4 + 15] = first + 2051;
-        row[t * 2 + 36] = first + 4097;
-        row[t * 2 + 37] = first + 4098;
+        let first = tile_start(cell, subchannel, t, table);
+        put_two(&mut row, t, first + 1);
+        put_two(&mut row, t * 2 + 6, first + 2048);
+        put_two(&mut row, t * 2 + 7, first + 2050);
+        put_two(&mut row, t + 18, first + 4097);
         t += 1;
     }
     row

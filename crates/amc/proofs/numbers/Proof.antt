@@ -16,9 +16,6 @@ Inv-loop cell subchannel table first row₀ i₀ row i = Written 48 (sequenceNum
 abbrev μ-loop : tie.MeasureT-loop
 μ-loop cell subchannel table first row₀ i₀ row i = 48 - i
 
-cast-first : tie.Need-cast-first Inv-loop μ-loop
-cast-first c = omega arith
-
 loop-holds : tie.Need-loop-holds Inv-loop μ-loop
 loop-holds c = written-none 48 _
 
@@ -39,5 +36,5 @@ pub numbers-spec : {M : Type 1} → statement M
 numbers-spec =
     tie.close
     (tie.spec
-    Inv-loop μ-loop (λ c. search needs) cast-first loop-holds (λ c. search needs) (λ c. search needs) add-row
+    Inv-loop μ-loop (λ c. search needs) (λ c. search needs) loop-holds (λ c. search needs) (λ c. search needs) add-row
     (λ c. search needs) (λ c. search needs) (λ c. search needs) (λ c. search needs) loop-again returns)

@@ -9,19 +9,25 @@ use Rattle.amc.proofs.sum_place.Statement.{statement}
 use Rattle.amc.proofs.sum_place.Tie as tie
 
 sub-result : tie.Need-sub-result
-sub-result c = offset-above _ _ _ (c .before .pre .0) (c .before .pre .1) (c .before .pre .2) (c .before .pre .3) (c .before .pre .4) (c .if1 .taken)
+sub-result c =
+    let p = c .before .before .before .pre in
+    offset-above _ _ _ (p .0) (p .1) (p .2) (p .3) (p .4)
+    (rw (c .before .before .digit-sum .ensures .0, c .before .digit-sum2 .ensures .0) at (c .if1 .taken))
 
 returns : tie.Need-returns
 unfolding sumPlace zeroRule add
-returns c = rw (eq-eqb _ 0 (c .if1 .taken))
+returns c = rw (eq-eqb _ 0 (rw (c .before .before .digit-sum .ensures .0, c .before .digit-sum2 .ensures .0) at (c .if1 .taken)))
 
 returns-2 : tie.Need-returns-2
 unfolding sumPlace zeroRule add
-returns-2 c = rw (ne-eqb _ 0 (c .if1 .left))
+returns-2 c =
+    let high = c .before .before .digit-sum .ensures .0 in
+    let low = c .before .digit-sum2 .ensures .0 in
+    rw (high, low, ne-eqb _ 0 (rw (high, low) at (c .if1 .left)))
 
 pub sum-place-spec : {M : Type 1} → statement M
 sum-place-spec =
     tie.close
     (tie.spec
-    (λ c. search needs) (λ c. search needs) (λ c. search needs) (λ c. search needs) (λ c. search needs)
-    (λ c. search needs) sub-result (λ c. search needs) returns returns-2)
+    (λ c κs. search needs) (λ c. search needs) (λ c κs. search needs) (λ c. search needs)
+    (λ c. search needs) (λ c. search needs) sub-result (λ c. search needs) returns returns-2)

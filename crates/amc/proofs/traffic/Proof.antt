@@ -1,38 +1,15 @@
 -- `amc::traffic` meets its contract.
-use Prim.Native.Nat.{_-_}
-use native.Mathlib.Omega.{arith}
-use mathlib.Core.Path.{_≡_, ap, _∙_, subst⁻¹}
-use Rattle.amc.proofs.Law.{off-proper, turn-lt, element-proper, traffic-number}
-use Rattle.amc.proofs.Tables.{powers}
-use Rattle.amc.specs.Element.{Proper, number}
-use Rattle.amc.specs.Map.{off, elementOf, traffic}
+use mathlib.Core.Path.{refl, _∙_}
 use borrow.Author.Needs.{needs}
+use Rattle.amc.proofs.Row.{traffic-at}
 use Rattle.amc.proofs.traffic.Statement.{statement}
 use Rattle.amc.proofs.traffic.Tie as tie
 
-value : (c : tie.After-zero-rule) → c .zero-rule .result ≡ elementOf (c .before .before .before .args .cell) (c .before .before .before .args .j)
-unfolding elementOf
-value c = rw (c .zero-rule .ensures, c .before .sequence .ensures, c .before .before .off .ensures)
-
-number-is : (c : tie.After-number) → c .number .result ≡ number (elementOf (c .before .before .before .before .args .cell) (c .before .before .before .before .args .j))
-number-is c = c .number .ensures ∙ ap number (value (c .before))
-
-zero-rule-requires : tie.Need-zero-rule-requires
-zero-rule-requires c κs = (rw (c .before .off .ensures) (off-proper _ (c .before .before .pre .0)), rw (c .sequence .ensures) (powers _ (turn-lt _ (c .before .before .pre .0) (c .before .before .args .j)) .proper))
-
-number-requires : tie.Need-number-requires
-number-requires c κs = subst⁻¹ Proper (value c) (element-proper _ (c .before .before .before .pre .0) _)
-
-sub-result : tie.Need-sub-result
-sub-result c = omega (arith, number-is c, traffic-number _ (c .before .before .before .before .pre .0) (c .before .before .before .before .args .j))
+sequence-place-requires : tie.Need-sequence-place-requires
+sequence-place-requires c κs = (refl, search needs, search needs)
 
 returns : tie.Need-returns
-unfolding traffic
-returns c = ap (λ x. x - 1) (number-is c)
+returns c = c .wide16 .ensures .0 ∙ c .before .sequence-place .ensures ∙ traffic-at _ _
 
 pub traffic-spec : {M : Type 1} → statement M
-traffic-spec =
-    tie.close
-    (tie.spec
-    (λ c κs. search needs) (λ c. search needs) (λ c κs. search needs) zero-rule-requires number-requires sub-result
-    returns)
+traffic-spec = tie.close (tie.spec (λ c. search needs) sequence-place-requires (λ c κs. search needs) returns)

@@ -1,15 +1,13 @@
 -- `ofusc::table` meets its contract.
-use mathlib.Core.Path.{_≡_, ap}
-use Prim.Native.Nat.{ℕ, _+_, _-_, _*_, _<_}
+use Prim.Native.Nat.{_-_}
 use native.Mathlib.Nat.{mod-lt, div-lt-iff-lt-mul}
 use native.Mathlib.Omega.{arith}
-use lib.Bits.{bitXor}
 use borrow.Author.Needs.{needs}
 use Rattle.base.proofs.Tabulate.{Written, written-none, written-next, written-starts}
 use Rattle.ofusc.specs.Model.{cellNumber}
 use Rattle.ofusc.proofs.Sequence.{pos}
-use Rattle.ofusc.proofs.Tables.{mask-is}
-use Rattle.ofusc.proofs.Row.{cell-number-lt}
+use Rattle.ofusc.proofs.Law.{start-lt}
+use Rattle.ofusc.proofs.Row.{cell-entry}
 use Rattle.ofusc.proofs.table.Statement.{statement}
 use Rattle.ofusc.proofs.table.Tie as tie
 
@@ -36,25 +34,23 @@ term-requires-2 c κs =
     let p = c .before .before .before .before .before .pre in
     (p .0, (div-lt-iff-lt-mul (pos (p .0)) .1 (p .1), c .before .before .before .loop-test .taken))
 
--- the number that is written, and that it is small
-written-is : (c : tie.After-term2 Inv-loop μ-loop) → c .before .before .before .before .before .loop .k * c .before .before .before .before .before .before .args .n + bitXor (c .before .before .term .result) (c .term2 .result) ≡ cellNumber (c .before .before .before .before .before .before .args .n) (c .before .before .before .before .before .before .args .cell) (c .before .before .before .before .before .loop .k)
-unfolding cellNumber
-written-is c = rw (c .before .before .term .ensures, c .term2 .ensures) (ap (λ (x : ℕ). c .before .before .before .before .before .loop .k * c .before .before .before .before .before .before .args .n + x) (mask-is (c .before .before .before .before .before .before .pre .0) _ _))
-
-written-lt : (c : tie.After-term2 Inv-loop μ-loop) → c .before .before .before .before .before .loop .k * c .before .before .before .before .before .before .args .n + bitXor (c .before .before .term .result) (c .term2 .result) < 1536
-written-lt c = rw (written-is c) (cell-number-lt (c .before .before .before .before .before .before .pre .0) _ _ (c .before .before .before .before .loop-test .taken))
-
 mul-table : tie.Need-mul-table Inv-loop μ-loop
-mul-table c = omega (arith, written-lt c)
+mul-table c = omega (arith, start-lt (c .before .before .before .before .before .before .pre .0) _ (c .before .before .before .before .loop-test .taken))
+
+-- the entry is small
+cast-table : tie.Need-cast-table Inv-loop μ-loop
+cast-table c =
+    let p = c .before .before .before .before .before .before .pre in
+    omega (arith, cell-entry (p .0) _ _ _ _ (c .before .before .before .before .loop-test .taken) (c .before .before .term .ensures) (c .term2 .ensures) .1)
 
 add-table : tie.Need-add-table Inv-loop μ-loop
-add-table c = omega (arith, written-lt c)
-
-cast-table : tie.Need-cast-table Inv-loop μ-loop
-cast-table c = omega (arith, written-lt c)
+add-table c = omega (arith, cast-table c)
 
 loop-again : tie.Need-loop-again Inv-loop μ-loop
-loop-again c = written-next (c .before .before .before .before .before .loop .inv) (omega (arith, c .before .before .before .before .loop-test .taken)) _ (written-is c)
+loop-again c =
+    let p = c .before .before .before .before .before .before .pre in
+    written-next (c .before .before .before .before .before .loop .inv) (omega (arith, c .before .before .before .before .loop-test .taken)) _
+    (cell-entry (p .0) _ _ _ _ (c .before .before .before .before .loop-test .taken) (c .before .before .term .ensures) (c .term2 .ensures) .0)
 
 returns : tie.Need-returns Inv-loop μ-loop
 returns c = written-starts (c .before .loop .inv) 48 (c .loop-test .left)

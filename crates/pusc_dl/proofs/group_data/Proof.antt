@@ -1,5 +1,6 @@
 -- `pusc_dl::group_data` meets its contract.
-use Prim.Native.Nat.{_+_, _*_, _<_}
+use mathlib.Core.Path.{_≡_}
+use Prim.Native.Nat.{ℕ, _+_, _*_, _<_}
 use native.Mathlib.Omega.{arith}
 use lib.Arith.{digits-lt}
 use borrow.Author.Needs.{needs}
@@ -7,19 +8,24 @@ use Rattle.pusc_dl.specs.Group.{groupSize, groupData, baseOf}
 use Rattle.pusc_dl.proofs.group_data.Statement.{statement}
 use Rattle.pusc_dl.proofs.group_data.Tie as tie
 
+data-small : (g size n r : ℕ) → size ≡ groupSize g → n < 24 → r < groupSize g → n * size + r < 24 * groupSize g
+data-small g size n r e hn hr = rw e (digits-lt hn hr)
+
 mul-result : tie.Need-mul-result
 mul-result c = omega (arith, digits-lt (c .before .before .rotate .ensures .1) (c .before .before .before .group-size .ensures .1))
 
--- the data number is small
-data-lt : (c : tie.After-size-remainder2) → c .before .before .before .rotate .result * c .before .before .before .before .group-size .result + c .size-remainder2 .result < 24 * groupSize (c .before .before .before .before .before .args .g)
-data-lt c = rw (c .before .before .before .before .group-size .ensures .0) (digits-lt (c .before .before .before .rotate .ensures .1) (c .size-remainder2 .ensures .1))
-
 add-result : tie.Need-add-result
-add-result c = omega (arith, data-lt c, c .before .before .before .before .group-size .ensures)
+add-result c =
+    let size = c .before .before .before .before .group-size .ensures in
+    omega (arith, size, data-small _ _ _ _ (size .0) (c .before .before .before .rotate .ensures .1) (c .size-remainder2 .ensures .1))
 
 returns : tie.Need-returns
 unfolding groupData baseOf
-returns c = (rw (c .size-remainder2 .ensures .0, c .before .of-size .ensures .0, c .before .before .size-remainder .ensures .0, c .before .before .before .rotate .ensures .0, c .before .before .before .before .group-size .ensures .0), data-lt c)
+returns c =
+    let size = c .before .before .before .before .group-size .ensures .0 in
+    let n = c .before .before .before .rotate .ensures in
+    let r = c .size-remainder2 .ensures in
+    (rw (r .0, c .before .of-size .ensures .0, c .before .before .size-remainder .ensures .0, n .0, size), data-small _ _ _ _ size (n .1) (r .1))
 
 pub group-data-spec : {M : Type 1} → statement M
 group-data-spec =

@@ -22,30 +22,35 @@ loop-holds c = halves-none 24 _
 mul-spot-numbers : tie.Need-mul-spot-numbers Inv-loop μ-loop
 mul-spot-numbers c = omega (arith, digits-lt (c .mod-24 .ensures .1) (c .before .before .before .before .group-size .ensures .1))
 
+-- what is known once n is
+turn-at : (c : tie.After-mod-24 Inv-loop μ-loop) → let a = c .before .before .before .before .before .args in
+    Turn (a .cell) (a .table .now) (a .g) (a .s) (c .before .before .loop .k) (c .mod-24 .result)
+turn-at c = search (needs, c .before .before .before .before .before .pre .3)
+
 element-copy-out-wide16 : tie.Need-element-copy-out-wide16 Inv-loop μ-loop
-element-copy-out-wide16 c =
-    let a = c .before .before .before .before .before .args in
-    let t : Turn (a .cell) (a .table .now) (a .g) (a .s) (c .before .before .loop .k) (c .mod-24 .result) = search (needs, c .before .before .before .before .before .pre .3) in
-    rw (c .before .before .before .base-start .ensures .0) (in-base t)
+element-copy-out-wide16 c = rw (c .before .before .before .base-start .ensures .0) (in-base (turn-at c))
 
 add-spot-numbers : tie.Need-add-spot-numbers Inv-loop μ-loop
 add-spot-numbers c = omega (arith, digits-lt (c .before .before .mod-24 .ensures .1) (c .before .before .before .before .before .before .group-size .ensures .1))
 
 spot-numbers-requires : tie.Need-spot-numbers-requires Inv-loop μ-loop
 spot-numbers-requires c κs =
-    let a = c .before .before .before .before .before .before .before .args in
-    let t : Turn (a .cell) (a .table .now) (a .g) (a .s) (c .before .before .before .before .loop .k) (c .before .before .mod-24 .result) = search (needs, c .before .before .before .before .before .before .before .pre .3) in
-    rw (data-number t _ _ _ (c .before .before .before .before .before .before .group-size .ensures .0) (c .before .before .before .before .before .base-start .ensures .0) (c .wide16 .ensures .0)) (in-clusters t, cluster-lt t)
+    let t = turn-at (c .before .before) in
+    let size = c .before .before .before .before .before .before .group-size .ensures .0 in
+    let base = c .before .before .before .before .before .base-start .ensures .0 in
+    rw (data-number t _ _ _ size base (c .wide16 .ensures .0)) (in-clusters t, cluster-lt t)
 
 loop-again : tie.Need-loop-again Inv-loop μ-loop
 loop-again c =
-    let a = c .before .before .before .before .before .before .before .before .args in
-    let t : Turn (a .cell) (a .table .now) (a .g) (a .s) (c .before .before .before .before .before .loop .k) (c .before .before .before .mod-24 .result) = search (needs, c .before .before .before .before .before .before .before .before .pre .3) in
-    let d = data-number t _ _ _ (c .before .before .before .before .before .before .before .group-size .ensures .0) (c .before .before .before .before .before .before .base-start .ensures .0) (c .before .wide16 .ensures .0) in
+    let t = turn-at (c .before .before .before) in
+    let size = c .before .before .before .before .before .before .before .group-size .ensures .0 in
+    let base = c .before .before .before .before .before .before .base-start .ensures .0 in
+    let d = data-number t _ _ _ size base (c .before .wide16 .ensures .0) in
     let both = c .spot-numbers .ensures in
+    let k = c .before .before .before .before .before .loop .k in
     halves-next (c .before .before .before .before .before .loop .inv) (search needs) _ _
-    (both .0 ∙ rw d (omega (arith, spot t 0 (c .before .before .before .before .before .loop .k) (omega arith) (omega arith))))
-    (both .1 ∙ rw d (spot t 1 (c .before .before .before .before .before .loop .k + 24) (omega arith) (omega arith)))
+    (both .0 ∙ rw d (omega (arith, spot t 0 k (omega arith) (omega arith))))
+    (both .1 ∙ rw d (spot t 1 (k + 24) (omega arith) (omega arith)))
 
 returns : tie.Need-returns Inv-loop μ-loop
 returns c = halves-all (c .before .loop .inv) (c .loop-test .left)

@@ -1,4 +1,5 @@
 -- `pusc_dl::group_used` meets its contract.
+use mathlib.Core.Path.{refl}
 use Prim.Native.Nat.{_/_}
 use native.Mathlib.Omega.{arith}
 use borrow.Author.Needs.{needs}
@@ -11,7 +12,7 @@ add-result : tie.Need-add-result
 add-result c = omega (arith, cluster-runs .number-lt (c .args .g) (c .args .d / 12) (c .pre .1) (omega arith))
 
 unrenumber-requires : tie.Need-unrenumber-requires
-unrenumber-requires c κs = (search needs, cluster-runs .number-lt _ _ (c .pre .1) (omega arith))
+unrenumber-requires c κs = (refl, search needs, cluster-runs .number-lt _ _ (c .before .pre .1) (omega arith))
 
 returns : tie.Need-returns
 unfolding groupUsed

@@ -1,20 +1,22 @@
 -- `pusc_dl::of_size` meets its contract.
-use mathlib.Core.Path.{_∙_}
+use mathlib.Core.Path.{sym, _∙_}
 use native.Mathlib.Omega.{arith}
 use borrow.Author.Needs.{needs}
-use borrow.Author.Tests.{eq-eqb, ne-eqb}
+use Rattle.pusc_dl.specs.Group.{ofSize}
 use Rattle.pusc_dl.proofs.Group.{size-8}
 use Rattle.pusc_dl.proofs.of_size.Statement.{statement}
 use Rattle.pusc_dl.proofs.of_size.Tie as tie
 
 array-read-wide-2 : tie.Need-array-read-wide-2
-array-read-wide-2 c = omega (arith, size-8 (c .before .before .args .g) (λ e. c .if1 .left (c .before .group-size .ensures .0 ∙ e)))
+array-read-wide-2 c = omega (arith, size-8 (c .before .before .args .g) _ (c .before .group-size .ensures .0) (c .if1 .left))
 
 returns : tie.Need-returns
-returns c = simp (← c .before .before .group-size .ensures .0, eq-eqb _ _ (c .before .if1 .taken)) (search needs)
+unfolding ofSize
+returns c = rw (sym (c .before .before .group-size .ensures .0) ∙ c .before .if1 .taken) (search needs)
 
 returns-2 : tie.Need-returns-2
-returns-2 c = simp (← c .before .before .group-size .ensures .0, ne-eqb _ _ (c .before .if1 .left)) (search needs)
+unfolding ofSize
+returns-2 c = rw (size-8 _ _ (c .before .before .group-size .ensures .0) (c .before .if1 .left)) (search needs)
 
 pub of-size-spec : {M : Type 1} → statement M
 of-size-spec =

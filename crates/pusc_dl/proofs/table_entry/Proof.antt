@@ -7,7 +7,7 @@ use Rattle.pusc_dl.proofs.table_entry.Tie as tie
 
 returns : tie.Need-returns
 unfolding tableEntry
-returns c = simp (lt-ltb _ _ (c .before .before .if1 .taken), c .before .unrenumber-by .ensures .0)
+returns c = simp (lt-ltb _ _ (c .before .before .if1 .taken), c .before .unrenumber .ensures .0)
 
 returns-2 : tie.Need-returns-2
 unfolding tableEntry

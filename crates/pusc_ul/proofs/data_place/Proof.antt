@@ -36,8 +36,9 @@ returns-2 c = simp (ne-eqb _ _ (c .before .if1 .left), eq-eqb _ _ (c .if2 .taken
 returns-3 : tie.Need-returns-3
 unfolding dataPlace
 returns-3 c =
+    let last : c .before .before .args .offset ≡ 2 = omega arith in
     let h = inner _ _ (c .if2 .left) (search needs) (c .before .before .pre .3) in
-    simp (ne-eqb _ _ (c .before .if1 .left), ne-eqb _ _ (c .if2 .left)) (search needs)
+    simp (ne-eqb _ _ (c .before .if1 .left), ne-eqb _ _ (c .if2 .left), eq-eqb _ _ last) (search needs)
 
 pub data-place-spec : {M : Type 1} → statement M
 data-place-spec =

@@ -1,0 +1,28 @@
+-- `amc::sequence_place` meets its contract.
+use mathlib.Core.Path.{ap, _∙_}
+use native.Mathlib.Omega.{arith}
+use borrow.Author.Needs.{needs}
+use Rattle.amc.specs.Map.{off}
+use Rattle.amc.specs.Model.{sumPlace, sequencePlace}
+use Rattle.amc.proofs.Tables.{powers}
+use Rattle.amc.proofs.Row.{entry-digits}
+use Rattle.amc.proofs.sequence_place.Statement.{statement}
+use Rattle.amc.proofs.sequence_place.Tie as tie
+
+cast-sum-place-3 : tie.Need-cast-sum-place-3
+cast-sum-place-3 c = rw (c .before .pre .0) (omega (arith, entry-digits (c .before .args .i) (c .before .pre .2) .high-lt))
+
+sum-place-requires : tie.Need-sum-place-requires
+sum-place-requires c κs =
+    let d = entry-digits _ (c .before .pre .2) in
+    rw (c .before .pre .0) (search needs, search needs, d .high-lt, d .low-lt, d .above)
+
+returns : tie.Need-returns
+unfolding sequencePlace off
+returns c =
+    c .sum-place .ensures ∙ rw (c .before .before .pre .0) (ap (sumPlace (off (c .before .before .args .cell))) (powers _ (c .before .before .pre .2) .printed-is))
+
+pub sequence-place-spec : {M : Type 1} → statement M
+sequence-place-spec =
+    tie.close
+    (tie.spec (λ c. search needs) (λ c. search needs) (λ c. search needs) cast-sum-place-3 sum-place-requires returns)

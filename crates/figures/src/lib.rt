@@ -1,0 +1,1 @@
+// The planners' figures, as one theorem (proofs/Figures.antt). No code.

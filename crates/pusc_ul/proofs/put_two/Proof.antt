@@ -1,0 +1,16 @@
+-- `pusc_ul::put_two` meets its contract.
+use borrow.Author.Needs.{needs}
+use Rattle.pusc_ul.specs.Model.{putTwo}
+use Rattle.pusc_ul.proofs.put_two.Statement.{statement}
+use Rattle.pusc_ul.proofs.put_two.Tie as tie
+
+returns : tie.Need-returns
+unfolding putTwo
+returns c = search needs
+
+pub put-two-spec : {M : Type 1} → statement M
+put-two-spec =
+    tie.close
+    (tie.spec
+    (λ c. search needs) (λ c. search needs) (λ c. search needs) (λ c. search needs) (λ c. search needs)
+    (λ c. search needs) (λ c. search needs) (λ c. search needs) returns)
