@@ -5,15 +5,16 @@ use native.Mathlib.Omega.{arith}
 use lib.ListN.{length, take}
 use borrow.Author.Needs.{needs}
 use Rattle.value.proofs.Laws.{size-most}
-use Rattle.plan.specs.Write.{zonesBytes}
+use Rattle.plan.specs.Zone.{each}
+use Rattle.plan.specs.Write.{zoneBytes}
 use Rattle.plan.proofs.Places.{length-mapped}
 use Rattle.plan.proofs.Judge.{fit-of, used-small, count-most, size-small}
-use Rattle.plan.proofs.Bytes.{zones-longer, zones-bound, no-zones, plan-length}
+use Rattle.plan.proofs.Bytes.{each-none, zones-longer, zones-fewer, zones-40, plan-length}
 use Rattle.plan.proofs.plan_size.Statement.{statement}
 use Rattle.plan.proofs.plan_size.Tie as tie
 
 abbrev Inv-loop : tie.InvT-loop
-Inv-loop count zones n₀ k₀ n k = (length zones ≡ 8) × (count ≤ 8) × (k ≤ count) × (n₀ ≤ 6) × (n ≡ n₀ + length (zonesBytes (take k zones)))
+Inv-loop count zones n₀ k₀ n k = (length zones ≡ 8) × (count ≤ 8) × (k ≤ count) × (n₀ ≤ 6) × (n ≡ n₀ + length (each zoneBytes (take k zones)))
 
 abbrev μ-loop : tie.MeasureT-loop
 μ-loop count zones n₀ k₀ n k = count - k
@@ -32,7 +33,7 @@ add-n c =
 loop-holds : tie.Need-loop-holds Inv-loop μ-loop
 loop-holds c =
     let p = c .before .before .before .args .plan in
-    (search (length-mapped, needs) depth 8, count-most _ (fit-of _ (c .before .before .before .pre) .count-is), omega arith, omega (arith, c .size2 .ensures, c .before .size .ensures, size-most (p .count), size-most (p .size)), omega (arith, ap length (no-zones (p .zones))))
+    (search (length-mapped, needs) depth 8, count-most _ (fit-of _ (c .before .before .before .pre) .count-is), omega arith, omega (arith, c .size2 .ensures, c .before .size .ensures, size-most (p .count), size-most (p .size)), omega (arith, ap length (each-none zoneBytes (p .zones))))
 
 zone-size-requires : tie.Need-zone-size-requires Inv-loop μ-loop
 zone-size-requires c κs = used-small _ _ (fit-of _ (c .before .before .before .before .before .before .pre)) (c .before .before .loop .inv .0) (c .before .loop-test .taken)
@@ -42,7 +43,9 @@ add-n-2 c =
     let inv = c .before .before .before .loop .inv in
     let k = c .before .before .before .loop .k in
     let zones = c .before .before .before .before .before .before .before .args .plan .zones in
-    omega (arith, c .zone-size .ensures, zones-longer zones k (omega arith), zones-bound zones (k + 1) (omega arith))
+    let start = c .before .before .before .before .before .before .before in
+    let p = start .args .plan in
+    omega (arith, c .zone-size .ensures, zones-longer zones k (omega arith), zones-fewer zones (k + 1) (p .count) (omega arith), zones-40 p (fit-of p (start .pre)))
 
 loop-again : tie.Need-loop-again Inv-loop μ-loop
 loop-again c =

@@ -5,7 +5,8 @@ use native.Mathlib.Omega.{arith}
 use borrow.Author.Needs.{needs}
 use Rattle.value.specs.Value.{encode}
 use Rattle.value.proofs.Laws.{put-of, of-put, put-three}
-use Rattle.plan.specs.Write.{usedZones, zonesBytes, planBytes}
+use Rattle.plan.specs.Zone.{each}
+use Rattle.plan.specs.Write.{usedZones, zoneBytes, planBytes}
 use Rattle.plan.proofs.Places.{length-mapped}
 use Rattle.plan.proofs.Judge.{fit-of, used-small, count-most, size-small}
 use Rattle.plan.proofs.Bytes.{plan-length, Putting, put-begin, kept, room-next, put-again, all-put}
@@ -55,7 +56,7 @@ unfolding planBytes
 returns c =
     let start = c .before .before .before .before .before .before .before .before .before .before .before .before in
     let p = start .args .plan in
-    of-put (put-three (encode (p .count)) (encode (p .size)) (zonesBytes (usedZones p)) (omega arith) (put-of _ _ _ _ _ (c .before .before .before .before .before .before .before .before .write .ensures)) (put-of _ _ _ _ _ (c .before .before .before .before .write2 .ensures)) (all-put (c .before .loop .inv) (c .loop-test .left)))
+    of-put (put-three (encode (p .count)) (encode (p .size)) (each zoneBytes (usedZones p)) (omega arith) (put-of _ _ _ _ _ (c .before .before .before .before .before .before .before .before .write .ensures)) (put-of _ _ _ _ _ (c .before .before .before .before .write2 .ensures)) (all-put (c .before .loop .inv) (c .loop-test .left)))
 
 pub put-plan-spec : {M : Type 1} → statement M
 put-plan-spec =

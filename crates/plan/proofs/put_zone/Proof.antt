@@ -11,17 +11,17 @@ use Rattle.plan.proofs.put_zone.Tie as tie
 write-requires : tie.Need-write-requires
 write-requires c κs =
     let start = c .before .before in
-    (start .pre .0 .mode-most, omega (arith, zone-length (start .args .zone)))
+    (omega (arith, start .pre .0 .mode-most), omega (arith, zone-length (start .args .zone)))
 
 write-requires-2 : tie.Need-write-requires-2
 write-requires-2 c κs =
     let start = c .before .before .before .before .before .before in
-    (start .pre .0 .cell-most, omega (arith, zone-length (start .args .zone), put-of _ _ _ _ _ (c .before .before .before .write .ensures) .next-is, c .before .before .before .write .kept .0))
+    (omega (arith, start .pre .0 .cell-most), omega (arith, zone-length (start .args .zone), put-of _ _ _ _ _ (c .before .before .before .write .ensures) .next-is, c .before .before .before .write .kept .0))
 
 write-requires-3 : tie.Need-write-requires-3
 write-requires-3 c κs =
     let start = c .before .before .before .before .before .before .before .before .before .before in
-    (start .pre .0 .slots-most, omega (arith, zone-length (start .args .zone), put-of _ _ _ _ _ (c .before .before .before .before .before .before .before .write .ensures) .next-is, c .before .before .before .before .before .before .before .write .kept .0, put-of _ _ _ _ _ (c .before .before .before .write2 .ensures) .next-is, c .before .before .before .write2 .kept .0))
+    (omega (arith, start .pre .0 .slots-most), omega (arith, zone-length (start .args .zone), put-of _ _ _ _ _ (c .before .before .before .before .before .before .before .write .ensures) .next-is, c .before .before .before .before .before .before .before .write .kept .0, put-of _ _ _ _ _ (c .before .before .before .write2 .ensures) .next-is, c .before .before .before .write2 .kept .0))
 
 same-length : tie.Need-same-length
 same-length c = c .before .before .write3 .kept .0 ∙ c .before .before .before .before .before .before .write2 .kept .0 ∙ c .before .before .before .before .before .before .before .before .before .before .write .kept .0
