@@ -148,7 +148,7 @@ used-small p k f e h =
 small-unused : Small unused
 small-unused = record { mode-most = omega arith; cell-most = omega arith; slots-most = omega arith }
 
-unused-small : (zones : List Zone) (k : ℕ) → areUnused zones ≡ true → Small (getD zones k unused)
+pub unused-small : (zones : List Zone) (k : ℕ) → areUnused zones ≡ true → Small (getD zones k unused)
 unfolding areUnused
 unused-small [] k e = small-unused
 unused-small (z ∷ zones) zero e = rw (← unused-is z (both-true (isUnused z) (areUnused zones) e .0)) small-unused

@@ -1,11 +1,10 @@
 -- The lines of zones, one behind the other.
 use mathlib.Core.Path.{_≡_, refl, sym, ap, _∙_}
-use mathlib.Core.List.{List, [], _∷_, _++_, append-assoc, append-nil}
+use mathlib.Core.List.{List}
 use Prim.Native.Nat.{ℕ, _+_, _*_, _<_, _≤_}
 use native.Mathlib.Omega.{arith}
-use native.Mathlib.Numerals.{add-one}
 use lib.ListN.{length, take, drop, getD, length-append}
-use lib.Seq.{take-suc, take-all}
+use lib.Seq.{take-all}
 use borrow.Author.Tests.{eq-eqb, ne-eqb}
 use Rattle.text.specs.Text.{Written, written, put, wrote}
 use Rattle.text.proofs.Laws.{put-none, wrote-next, wrote-bytes, wrote-more}
@@ -13,19 +12,8 @@ use Rattle.plan.specs.declared.Zone.{Zone}
 use Rattle.plan.specs.declared.ReadPlan.{ReadPlan}
 use Rattle.plan.specs.Zone.{unused}
 use Rattle.plan.specs.Write.{usedZones}
+use Rattle.plan.proofs.Bytes.{each-none, each-more}
 use Rattle.plan_text.specs.Lines.{lineOf, linesOf, refusalLine, textOf}
-
-lines-append : (xs ys : List Zone) → linesOf (xs ++ ys) ≡ linesOf xs ++ linesOf ys
-unfolding linesOf
-lines-append [] ys = refl
-lines-append (x ∷ xs) ys = ap (λ l. lineOf x ++ l) (lines-append xs ys) ∙ sym (append-assoc (lineOf x) (linesOf xs) (linesOf ys))
-
--- the first zones and one more
-lines-more : (zones : List Zone) (k : ℕ) → k < length zones → linesOf (take (k + 1) zones) ≡ linesOf (take k zones) ++ lineOf (getD zones k unused)
-unfolding linesOf
-lines-more zones k h =
-    rw (add-one, take-suc zones k unused h)
-    (lines-append (take k zones) (getD zones k unused ∷ []) ∙ ap (λ l. linesOf (take k zones) ++ l) (append-nil (lineOf (getD zones k unused))))
 
 -- While lines are put: those of the first k zones stand at the start.
 pub record Listing (d : List ℕ) (count : ℕ) (zones : List Zone) (dest : List ℕ) (at k : ℕ) : Type 0 where
@@ -38,9 +26,8 @@ pub record Listing (d : List ℕ) (count : ℕ) (zones : List Zone) (dest : List
   pub done : written dest at ≡ wrote d 0 (linesOf (take k zones))
 
 pub listing : (d : List ℕ) (count : ℕ) (zones : List Zone) → length zones ≡ 8 → 504 ≤ length d → Listing d count zones d 0 0
-unfolding linesOf
 listing d count zones p r =
-    record { places = p; within = omega arith; below = omega arith; room = r; kept = refl; so-far = omega arith; done = ap (λ l. written l 0) (sym (put-none d 0)) }
+    record { places = p; within = omega arith; below = omega arith; room = r; kept = refl; so-far = omega arith; done = rw (each-none lineOf zones) (ap (λ l. written l 0) (sym (put-none d 0))) }
 
 module _ {d : List ℕ} {count : ℕ} {zones : List Zone} {dest : List ℕ} {at k : ℕ} (h : Listing d count zones dest at k) where
   pub list-again : {dest₁ : List ℕ} {at₁ : ℕ} → k < 8 → k < count → length dest₁ ≡ length dest → written dest₁ at₁ ≡ wrote dest at (lineOf (getD zones k unused)) → at₁ ≤ at + 63
@@ -54,7 +41,7 @@ module _ {d : List ℕ} {count : ℕ} {zones : List Zone} {dest : List ℕ} {at 
         kept = e ∙ h .kept;
         so-far = omega (arith, h .so-far);
         done =
-            rw (lines-more zones k (omega (arith, h .places)))
+            rw (each-more lineOf zones k (omega (arith, h .places)))
             (wrote-more d 0 (linesOf (take k zones)) (lineOf (getD zones k unused)) dest dest₁ at at₁ (omega arith) (h .done) w);
       }
 

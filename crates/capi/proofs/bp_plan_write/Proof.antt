@@ -7,15 +7,19 @@ use Rattle.capi.proofs.bp_plan_write.Statement.{statement}
 use Rattle.capi.proofs.bp_plan_write.Tie as tie
 
 cast-written : tie.Need-cast-written
-cast-written c = omega (arith, few-bytes _ _ _ _ (c .before .before .before .before .before .before .before .places .ensures) _ _ _ (c .before .before .before .before .before .write .ensures) _ (c .before .answer .given .1))
+cast-written c = omega (arith, few-bytes _ _ _ _ (c .before .before .before .before .before .write .ensures) _ (c .before .answer .given .1))
 
 returns : tie.Need-returns
 unfolding writeOut
-returns c = write-out _ _ _ _ (c .before .before .before .before .before .before .before .places .ensures) _ _ _ (c .before .before .before .before .before .write .ensures) _ _ (c .before .answer .given .1)
+returns c =
+    let call = c .before .before .before .before .before in
+    write-out _ _ _ _ (rw (call .before .before .plan-in .ensures) at (call .write .ensures)) _ _ (c .before .answer .given .1)
 
 returns-2 : tie.Need-returns-2
 unfolding writeOut
-returns-2 c = write-out _ _ _ _ (c .before .before .before .before .before .before .before .places .ensures) _ _ _ (c .before .before .before .before .before .write .ensures) _ _ (c .before .answer2 .given .1)
+returns-2 c =
+    let call = c .before .before .before .before .before in
+    write-out _ _ _ _ (rw (call .before .before .plan-in .ensures) at (call .write .ensures)) _ _ (c .before .answer2 .given .1)
 
 pub bp-plan-write-spec : {M : Type 1} → statement M
 bp-plan-write-spec =

@@ -1,9 +1,9 @@
--- `capi::places` meets its contract.
+-- `plan_numbers::places` meets its contract.
 use Prim.Native.Nat.{_-_}
 use borrow.Author.Needs.{needs}
-use Rattle.capi.proofs.Plan.{Placing, placing, placing-again, placing-end}
-use Rattle.capi.proofs.places.Statement.{statement}
-use Rattle.capi.proofs.places.Tie as tie
+use Rattle.plan_numbers.proofs.Laws.{Placing, placing, placing-again, placing-end}
+use Rattle.plan_numbers.proofs.places.Statement.{statement}
+use Rattle.plan_numbers.proofs.places.Tie as tie
 
 abbrev Inv-loop : tie.InvT-loop
 Inv-loop numbers zones₀ k₀ zones k = Placing numbers zones k
