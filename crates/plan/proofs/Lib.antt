@@ -3,6 +3,7 @@ pub mod Places
 pub mod Number
 pub mod Judge
 pub mod Step
+pub mod Each
 pub mod Bytes
 pub mod Round
 pub mod Decide

@@ -4,9 +4,9 @@ use value::Found;
 ghost use mathlib.Core.Path.{_≡_};
 ghost use Prim.Native.Nat.{_+_, _≤_};
 ghost use lib.ListN.{length, drop};
-ghost use Rattle.text.specs.Text.{written as buffer, wrote};
+ghost use Rattle.text.specs.Text.{Put};
 ghost use Rattle.base.specs.Answer.{refused as no};
-ghost use Rattle.plan.specs.Zone.{isUpTo, isOrder, each};
+ghost use Rattle.plan.specs.Zone.{isUpTo, isOrder};
 ghost use Rattle.plan.specs.Write.{isUnused, areUnused, usedZones, zoneBytes, planBytes, written, writeOf};
 ghost use Rattle.plan.specs.Read.{readZones, finish, planOf, answered};
 ghost use Rattle.plan.specs.Model.{zoneRefusal, zonesRefusal, planRefusal, Small, ZoneAt};
@@ -287,44 +287,20 @@ fn plan_refusal(plan: Plan) -> u8
     zones_refusal(plan)
 }
 
-// How many bytes a zone takes.
-fn zone_size(zone: Zone) -> usize
-    requires { ⌜ Small zone ⌝ }
-    ensures { λ r. ⌜ r ≡ length (zoneBytes zone) ⌝ }
-{
-    value::size(zone.mode) + (value::size(zone.cell) + value::size(zone.slots))
-}
-
-// How many bytes an accepted plan takes.
-fn plan_size(plan: Plan) -> usize
-    requires { ⌜ planRefusal plan ≡ 0 ⌝ }
-    ensures { λ r. ⌜ r ≡ length (planBytes plan) ⌝ }
-{
-    let count = plan.count;
-    let zones = plan.zones;
-    let mut n = value::size(count) + value::size(plan.size);
-    let mut k = 0;
-    while k < count {
-        n += zone_size(zones[k]);
-        k += 1;
-    }
-    n
-}
-
-// Puts a zone at a place where it fits; answers the place after it.
+// Puts a zone at a place, 5 bytes at most; answers the place after it.
 fn put_zone(dest: &mut [u8], at: usize, zone: Zone) -> usize
-    requires { ⌜ Small zone × (at + length (zoneBytes zone) ≤ length (now dest)) ⌝ }
-    ensures { λ r. ⌜ buffer (now (dest .exit)) r ≡ wrote (now (dest .entry)) at (zoneBytes zone) ⌝ }
+    requires { ⌜ Small zone × (at + 5 ≤ length (now dest)) ⌝ }
+    ensures { λ r. ⌜ Put (now (dest .entry)) at (zoneBytes zone) r (now (dest .exit)) × (r ≤ at + 5) ⌝ }
 {
     let cell = value::write(dest, at, zone.mode);
     let slots = value::write(dest, cell, zone.cell);
     value::write(dest, slots, zone.slots)
 }
 
-// Puts an accepted plan where it fits; answers how many bytes it takes.
+// Puts an accepted plan, 43 bytes at most; answers how many.
 fn put_plan(dest: &mut [u8], plan: Plan) -> usize
-    requires { ⌜ (planRefusal plan ≡ 0) × (length (planBytes plan) ≤ length (now dest)) ⌝ }
-    ensures { λ r. ⌜ buffer (now (dest .exit)) r ≡ wrote (now (dest .entry)) 0 (planBytes plan) ⌝ }
+    requires { ⌜ (planRefusal plan ≡ 0) × (43 ≤ length (now dest)) ⌝ }
+    ensures { λ r. ⌜ Put (now (dest .entry)) 0 (planBytes plan) r (now (dest .exit)) ⌝ }
 {
     let used = plan.count;
     let zones = plan.zones;
@@ -346,8 +322,10 @@ pub fn write(plan: Plan, dest: &mut [u8]) -> Written
     if number != 0 {
         return Written::Refused(number);
     }
-    if dest.len() < plan_size(plan) {
+    let mut bytes = [0u8; 43];
+    let n = put_plan(&mut bytes, plan);
+    if dest.len() < n {
         return Written::Refused(16);
     }
-    Written::Bytes(put_plan(dest, plan))
+    Written::Bytes(text::put_bytes(dest, 0, &bytes[..n]))
 }

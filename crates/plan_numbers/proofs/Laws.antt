@@ -19,7 +19,7 @@ use Rattle.plan.specs.Read.{planWith, planOf, answered}
 use Rattle.plan.specs.Model.{Small}
 use Rattle.plan.proofs.Places.{drop-places}
 use Rattle.plan.proofs.Judge.{unused-small, all-small, count-most, size-small}
-use Rattle.plan.proofs.Bytes.{each-none, each-more}
+use Rattle.plan.proofs.Each.{each-none, each-more}
 use Rattle.plan.proofs.Round.{plan-of}
 use Rattle.plan_numbers.specs.Numbers.{threeOf, numbersOf, placeIn, placesOf}
 use Rattle.plan_numbers.specs.Model.{AllSmall}

@@ -1,14 +1,12 @@
 -- The laws of the values of a plan file.
 use mathlib.Core.Path.{_≡_, refl, sym, ap, _∙_}
-use mathlib.Core.List.{List, [], _∷_, _++_, append-assoc}
+use mathlib.Core.List.{List, [], _∷_, _++_}
 use Prim.Native.Nat.{ℕ, zero, suc, _+_, _*_, _/_, _%_, _<_, _≤_}
 use native.Mathlib.Omega.{arith}
 use lib.Dec.{ltb}
-use lib.ListN.{length, take, drop, length-append, length-take, length-drop}
-use lib.Seq.{getD-append-add, length-take-le}
+use lib.ListN.{length, take, drop, length-append, length-take}
+use lib.Seq.{getD-append-add}
 use borrow.Author.Tests.{ltb-true, ltb-false, lt-ltb, le-ltb}
-use Rattle.text.specs.Text.{written, put, wrote}
-use Rattle.text.proofs.Laws.{wrote-next, wrote-bytes, wrote-more}
 use Rattle.base.specs.Answer.{Answer, accepted, refused}
 use Rattle.base.proofs.Chain.{ask-yes, same-accepted}
 use Rattle.base.proofs.Test.{cases}
@@ -88,27 +86,6 @@ size-most x = most 3 x
 
 pub size-two : (x : ℕ) → x < 16384 → length (encode x) ≤ 2
 size-two x h = cases (ltb x 128) (λ e. omega (arith, size-1 x (ltb-true x 128 e))) (λ e. omega (arith, size-2 x (ltb-false x 128 e) h))
-
--- Bytes that were put, taken apart: the place after them, and the buffer.
-pub record Put (d : List ℕ) (at : ℕ) (bytes : List ℕ) (next : ℕ) (after : List ℕ) : Type 0 where
-  pub next-is : next ≡ at + length bytes
-  pub after-is : after ≡ put d at bytes
-
-pub put-of : (d : List ℕ) (at : ℕ) (bytes after : List ℕ) (next : ℕ) → written after next ≡ wrote d at bytes → Put d at bytes next after
-put-of d at bytes after next e = record { next-is = wrote-next d at bytes after next e; after-is = wrote-bytes d at bytes after next e }
-
-pub of-put : {d : List ℕ} {at : ℕ} {bytes after : List ℕ} {next : ℕ} → Put d at bytes next after → written after next ≡ wrote d at bytes
-of-put p = let e = p .next-is in let f = p .after-is in cc
-
-pub put-next : {d d₁ d₂ : List ℕ} {at q r : ℕ} (a b : List ℕ) → at ≤ length d → Put d at a q d₁ → Put d₁ q b r d₂ → Put d at (a ++ b) r d₂
-put-next {d} {d₁} {d₂} {at} {q} {r} a b h x y = put-of d at (a ++ b) d₂ r (wrote-more d at a b d₁ d₂ q r h (of-put x) (of-put y))
-
-pub put-three : {d d₁ d₂ d₃ : List ℕ} {at p q r : ℕ} (a b c : List ℕ) → at ≤ length d → Put d at a p d₁ → Put d₁ p b q d₂ → Put d₂ q c r d₃ → Put d at (a ++ (b ++ c)) r d₃
-put-three a b c h x y z = rw (← append-assoc a b c) (put-next (a ++ b) c h (put-next a b h x y) z)
-
-pub put-length : (d : List ℕ) (at : ℕ) (bytes : List ℕ) → at + length bytes ≤ length d → length (put d at bytes) ≡ length d
-unfolding put
-put-length d at bytes h = rw (length-append, length-append, length-take-le at d (omega arith), length-drop) (omega arith)
 
 -- What was read is written again: as many bytes, and the same where they are bytes.
 pub record Again (written read : List ℕ) : Type 0 where

@@ -10,9 +10,9 @@ use borrow.Author.Needs.{needs}
 use lib.Dec.{ltb}
 use borrow.Author.Tests.{le-ltb}
 use Rattle.base.proofs.Test.{cases}
-use Rattle.text.specs.Text.{put}
+use Rattle.text.specs.Text.{put, Put}
 use Rattle.value.specs.Value.{encodeIn, encode}
-use Rattle.value.proofs.Laws.{encode-1, encode-2, encode-3, Put, of-put}
+use Rattle.value.proofs.Laws.{encode-1, encode-2, encode-3}
 use Rattle.value.proofs.write.Statement.{statement}
 use Rattle.value.proofs.write.Tie as tie
 
@@ -56,7 +56,7 @@ slice-write-dest : tie.Need-slice-write-dest
 slice-write-dest c = search (room-1, needs)
 
 returns : tie.Need-returns
-returns c = of-put (put-1 (c .before .args .dest .now) (c .before .args .at) (c .before .args .x) (c .before .pre .1) (c .if1 .taken))
+returns c = put-1 (c .before .args .dest .now) (c .before .args .at) (c .before .args .x) (c .before .pre .1) (c .if1 .taken)
 
 slice-write-dest-2 : tie.Need-slice-write-dest-2
 slice-write-dest-2 c = search (room-1, needs)
@@ -65,7 +65,7 @@ slice-write-dest-3 : tie.Need-slice-write-dest-3
 slice-write-dest-3 c = search (room-2, needs)
 
 returns-2 : tie.Need-returns-2
-returns-2 c = of-put (put-2 (c .before .before .args .dest .now) (c .before .before .args .at) (c .before .before .args .x) (c .before .before .pre .1) (c .before .if1 .left) (c .if2 .taken))
+returns-2 c = put-2 (c .before .before .args .dest .now) (c .before .before .args .at) (c .before .before .args .x) (c .before .before .pre .1) (c .before .if1 .left) (c .if2 .taken)
 
 slice-write-dest-4 : tie.Need-slice-write-dest-4
 slice-write-dest-4 c = search (room-2, needs)
@@ -74,7 +74,7 @@ slice-write-dest-5 : tie.Need-slice-write-dest-5
 slice-write-dest-5 c = search (room-3, needs)
 
 returns-3 : tie.Need-returns-3
-returns-3 c = of-put (put-3 (c .before .before .args .dest .now) (c .before .before .args .at) (c .before .before .args .x) (c .before .before .pre .1) (c .if2 .left) (c .before .before .pre .0))
+returns-3 c = put-3 (c .before .before .args .dest .now) (c .before .before .args .at) (c .before .before .args .x) (c .before .before .pre .1) (c .if2 .left) (c .before .before .pre .0)
 
 pub write-spec : {M : Type 1} → statement M
 write-spec =
