@@ -45,18 +45,25 @@ loop-holds c =
 
 put-zone-requires : tie.Need-put-zone-requires Inv-loop μ-loop
 put-zone-requires c κs =
-    let inv = c .before .before .before .loop .inv in
-    let start = c .before .before .before .before .before .before .before .before .before .before .before .before .before .before in
-    let in-loop = c .before .before .loop-test .taken in
-    (used-small _ _ (fit-of _ (start .pre .0)) (inv .0 .places) in-loop, omega (arith, inv .0 .kept, inv .1, inv .2, inv .3, start .pre .1, c .before .before .before .before .before .before .write2 .kept .0, c .before .before .before .before .before .before .before .before .before .before .write .kept .0))
+    let loop = c .before .before .before in
+    let inv = loop .loop .inv in
+    let start = loop .before .before .before .before .before .before .before .before .before .before .before in
+    let in-loop = c .before .before .loop-test .taken in (
+      used-small _ _ (fit-of _ (start .pre .0)) (inv .0 .places) in-loop,
+      omega (arith, inv .0 .kept, inv .1, inv .2, inv .3, start .pre .1, loop .before .before .before .write2 .kept .0, loop .before .before .before .before .before .before .before .write .kept .0),
+    )
 
 loop-again : tie.Need-loop-again Inv-loop μ-loop
 loop-again c =
     let put = c .before .before .put-zone in
-    let in-loop = c .before .before .before .before .before .loop-test .taken in
-    let inv = c .before .before .before .before .before .before .loop .inv in
-    let start = c .before .before .before .before .before .before .before .before .before .before .before .before .before .before .before .before .before in
-    (put-again (inv .0) (omega (arith, inv .1)) in-loop (omega (arith, inv .2, start .pre .1, c .before .before .before .before .before .before .before .before .before .write2 .kept .0, c .before .before .before .before .before .before .before .before .before .before .before .before .before .write .kept .0)) (put .kept .0) (put .ensures .0), inv .1, inv .2, omega (arith, inv .3, put .ensures .1))
+    let loop = c .before .before .before .before .before .before in
+    let inv = loop .loop .inv in (
+      put-again (inv .0) (omega (arith, inv .1)) (c .before .before .before .before .before .loop-test .taken)
+          (omega (arith, inv .2, loop .before .before .before .before .before .before .before .before .before .before .before .pre .1, loop .before .before .before .write2 .kept .0, loop .before .before .before .before .before .before .before .write .kept .0)) (put .kept .0) (put .ensures .0),
+      inv .1,
+      inv .2,
+      omega (arith, inv .3, put .ensures .1),
+    )
 
 same-length : tie.Need-same-length Inv-loop μ-loop
 same-length c = c .before .loop .inv .0 .kept ∙ c .before .before .before .before .write2 .kept .0 ∙ c .before .before .before .before .before .before .before .before .write .kept .0

@@ -30,7 +30,9 @@ put-bytes-requires : tie.Need-put-bytes-requires
 put-bytes-requires c κs = omega (arith, slice-aggregate-put-bytes c, c .before .before .if2 .left)
 
 returns-3 : tie.Need-returns-3
-returns-3 c = write-done _ _ (c .before .before .before .before .before .before .before .before .before .before .plan-refusal .ensures) (c .before .before .before .before .before .before .before .before .before .if1 .left) _ (c .before .before .before .before .before .before .before .put-plan .ensures) (c .before .before .before .before .before .if2 .left) (c .before .before .put-bytes .ensures)
+returns-3 c =
+    let made = c .before .before .before .before .before .before .before in
+    write-done _ _ (made .before .before .before .plan-refusal .ensures) (made .before .before .if1 .left) _ (made .put-plan .ensures) (c .before .before .before .before .before .if2 .left) (c .before .before .put-bytes .ensures)
 
 pub write-spec : {M : Type 1} → statement M
 write-spec =
