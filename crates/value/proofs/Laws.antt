@@ -70,19 +70,8 @@ module _ (x : ℕ) where
   pub size-1 : x < 128 → 1 ≡ length (encode x)
   size-1 h = rw (encode-1 x h)
 
-  pub size-2 : 128 ≤ x → x < 16384 → 2 ≡ length (encode x)
+  size-2 : 128 ≤ x → x < 16384 → 2 ≡ length (encode x)
   size-2 m h = rw (encode-2 x m h)
-
-  pub size-3 : 16384 ≤ x → x < 2097152 → 3 ≡ length (encode x)
-  size-3 m h = rw (encode-3 x m h)
-
-most : (g x : ℕ) → length (encodeIn g x) ≤ g
-unfolding encodeIn
-most zero x = omega arith
-most (suc g) x = cases (ltb x 128) (λ e. rw e (omega arith)) (λ e. let h = most g (x / 128) in rw e (omega arith))
-
-pub size-most : (x : ℕ) → length (encode x) ≤ 3
-size-most x = most 3 x
 
 pub size-two : (x : ℕ) → x < 16384 → length (encode x) ≤ 2
 size-two x h = cases (ltb x 128) (λ e. omega (arith, size-1 x (ltb-true x 128 e))) (λ e. omega (arith, size-2 x (ltb-false x 128 e) h))

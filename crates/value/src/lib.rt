@@ -52,20 +52,6 @@ pub fn read(s: &[u8], at: usize) -> Found
     Found::Refused(11)
 }
 
-// How many bytes a value takes.
-pub fn size(x: usize) -> usize
-    requires { ⌜ x < 2097152 ⌝ }
-    ensures { λ r. ⌜ r ≡ length (encode x) ⌝ }
-{
-    if x < 128 {
-        return 1;
-    }
-    if x < 16384 {
-        return 2;
-    }
-    3
-}
-
 // Puts a value below 2^21 at a place where it fits; answers the place after it.
 pub fn write(dest: &mut [u8], at: usize, x: usize) -> usize
     requires { ⌜ (x < 2097152) × (at + length (encode x) ≤ length (now dest)) ⌝ }
