@@ -3,8 +3,5 @@ use borrow.Author.Needs.{needs}
 use Rattle.plan_numbers.proofs.plan_in.Statement.{statement}
 use Rattle.plan_numbers.proofs.plan_in.Tie as tie
 
-returns : tie.Need-returns
-returns c = rw (c .places .ensures)
-
 pub plan-in-spec : {M : Type 1} → statement M
-plan-in-spec = tie.close (tie.spec (λ c κs. search needs) returns)
+plan-in-spec = tie.close (tie.spec (λ c κs. search needs) (λ c. rw (c .places .ensures)))
