@@ -8,7 +8,7 @@ use mathlib.Core.Path.{_≡_, refl, sym, ap, _∙_}
 use mathlib.Core.Bool.{Bool, true, false}
 use mathlib.Core.List.{List, [], _∷_, _++_, append-assoc, append-nil}
 use lib.Dec.{ltb}
-use lib.ListN.{length, getD, take, drop, set, length-append, length-drop, take-append-drop}
+use lib.ListN.{length, getD, take, drop, set, length-append, take-append-drop}
 use lib.Seq.{take-length, take-suc, set-split, drop-cons, set-at, append-snoc, take-at, drop-at, drop-drop, length-take-le}
 use borrow.Author.Tests.{ltb-true, ltb-false, lt-ltb, le-ltb}
 use Rattle.text.specs.Text.{digits, decimal, put, Put}
@@ -124,10 +124,6 @@ put-then {d} {at = at} a b h x y =
 
 pub put-three : {d d₁ d₂ d₃ : List ℕ} {at p q r : ℕ} (a b c : List ℕ) → at ≤ length d → Put d at a p d₁ → Put d₁ p b q d₂ → Put d₂ q c r d₃ → Put d at (a ++ (b ++ c)) r d₃
 put-three a b c h x y z = rw (← append-assoc a b c) (put-then (a ++ b) c h (put-then a b h x y) z)
-
-pub put-length : (d : List ℕ) (at : ℕ) (text : List ℕ) → at + length text ≤ length d → length (put d at text) ≡ length d
-unfolding put
-put-length d at text h = rw (length-append, length-append, length-take-le at d (omega arith), length-drop) (omega arith)
 
 pub one-byte : (dest : List ℕ) (at byte : ℕ) → at < length dest → Put dest at (byte ∷ []) (at + 1) (set dest at byte)
 unfolding put
