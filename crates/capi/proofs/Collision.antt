@@ -68,6 +68,6 @@ module _ (marks : List Bool) where
 
 -- the outcome of an answer that is no refusal
 pub handed : (answer : Collisions) (k : ℕ) (bytes : List ℕ) → Written (answer .hits) k bytes → 48 ≤ k → length (answer .hits) ≡ 48 → answer .refusal ≡ 0
-    → (hits : List ℕ) (count : ℕ) → record { number = 0; hits = bytes; count = answer .count } ≡ collisionOut answer hits count
+    → (hits : List ℕ) (count : ℕ) → record { refusal = 0; hits = bytes; count = answer .count } ≡ collisionOut answer hits count
 unfolding collisionOut
 handed answer k bytes w h long e hits count = rw (eq-eqb (answer .refusal) 0 e, all-written (answer .hits) k bytes w h long)

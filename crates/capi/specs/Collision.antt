@@ -7,17 +7,17 @@ use Rattle.base.specs.Choice.{pick}
 use Rattle.collision.specs.declared.Collisions.{Collisions}
 
 pub record CollisionOut : Type 0 where
-  pub number : ℕ
+  pub refusal : ℕ
   pub hits : List ℕ
   pub count : ℕ
 
 -- a mark as a byte
-unfoldable pub byteOf : Bool → ℕ
+unfoldable pub byteOf : (hit : Bool) → ℕ
 byteOf hit = pick hit 1 0
 
 -- 0 with the marks and their count, or the refusal's number and both parameters as they were
-unfoldable pub collisionOut : Collisions → List ℕ → ℕ → CollisionOut
+unfoldable pub collisionOut : (answer : Collisions) (hits : List ℕ) (count : ℕ) → CollisionOut
 collisionOut answer hits count =
     pick (eqb (answer .refusal) 0)
-    (record { number = 0; hits = map byteOf (answer .hits); count = answer .count })
-    (record { number = answer .refusal; hits = hits; count = count })
+    (record { refusal = 0; hits = map byteOf (answer .hits); count = answer .count })
+    (record { refusal = answer .refusal; hits = hits; count = count })

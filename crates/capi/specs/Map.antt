@@ -4,26 +4,26 @@ use Rattle.base.specs.Answer.{Answer, accepted, refused}
 use Rattle.map.specs.Place.{Place, Content, guard, dc, pilot, point}
 
 pub record PlaceOut : Type 0 where
-  pub number : ℕ
+  pub refusal : ℕ
   pub symbol : ℕ
   pub carrier : ℕ
 
 -- 0 and the place, or the refusal's number and both parameters as they were
-unfoldable pub placeOut : Answer Place → ℕ → ℕ → PlaceOut
-placeOut (accepted p) symbol carrier = record { number = 0; symbol = p .symbol; carrier = p .carrier }
-placeOut (refused number) symbol carrier = record { number = number; symbol = symbol; carrier = carrier }
+unfoldable pub placeOut : (answer : Answer Place) (symbol carrier : ℕ) → PlaceOut
+placeOut (accepted place) symbol carrier = record { refusal = 0; symbol = place .symbol; carrier = place .carrier }
+placeOut (refused number) symbol carrier = record { refusal = number; symbol = symbol; carrier = carrier }
 
 pub record LocateOut : Type 0 where
-  pub number : ℕ
+  pub refusal : ℕ
   pub kind : ℕ
   pub slot : ℕ
   pub subchannel : ℕ
   pub index : ℕ
 
 -- kind: 0 guard, 1 DC, 2 pilot, 3 data. The address is written where kind is 3, else left alone.
-unfoldable pub locateOut : Answer Content → ℕ → ℕ → ℕ → ℕ → LocateOut
-locateOut (accepted guard) kind slot subchannel index = record { number = 0; kind = 0; slot = slot; subchannel = subchannel; index = index }
-locateOut (accepted dc) kind slot subchannel index = record { number = 0; kind = 1; slot = slot; subchannel = subchannel; index = index }
-locateOut (accepted pilot) kind slot subchannel index = record { number = 0; kind = 2; slot = slot; subchannel = subchannel; index = index }
-locateOut (accepted (point a s m)) kind slot subchannel index = record { number = 0; kind = 3; slot = a; subchannel = s; index = m }
-locateOut (refused number) kind slot subchannel index = record { number = number; kind = kind; slot = slot; subchannel = subchannel; index = index }
+unfoldable pub locateOut : (answer : Answer Content) (kind slot subchannel index : ℕ) → LocateOut
+locateOut (accepted guard) kind slot subchannel index = record { refusal = 0; kind = 0; slot = slot; subchannel = subchannel; index = index }
+locateOut (accepted dc) kind slot subchannel index = record { refusal = 0; kind = 1; slot = slot; subchannel = subchannel; index = index }
+locateOut (accepted pilot) kind slot subchannel index = record { refusal = 0; kind = 2; slot = slot; subchannel = subchannel; index = index }
+locateOut (accepted (point a s m)) kind slot subchannel index = record { refusal = 0; kind = 3; slot = a; subchannel = s; index = m }
+locateOut (refused number) kind slot subchannel index = record { refusal = number; kind = kind; slot = slot; subchannel = subchannel; index = index }

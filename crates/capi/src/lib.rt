@@ -5,9 +5,7 @@ use grid::Seen;
 use map::Located;
 use map::Placed;
 use map::Setup;
-use plan::Plan;
 use plan::Written;
-use plan::Zone;
 ghost use mathlib.Core.Path.{_≡_};
 ghost use Prim.Native.Nat.{ℕ, _≤_};
 ghost use lib.ListN.{length};
@@ -21,7 +19,8 @@ ghost use Rattle.grid.specs.Length.{pointsLength, gridLength};
 ghost use Rattle.capi.specs.Grid.{pairPoint, lookOut};
 ghost use Rattle.plan.specs.Read.{planOf, answered};
 ghost use Rattle.plan.specs.Write.{writeOf};
-ghost use Rattle.capi.specs.Plan.{AllSmall, flatOf, placesOf, ReadOut, readOut, WriteOut, planIn, writeOut};
+ghost use Rattle.plan_numbers.specs.Numbers.{planIn};
+ghost use Rattle.capi.specs.Plan.{ReadOut, readOut, WriteOut, writeOut};
 
 fn setup(mode: u32, size: u32, cell: u32) -> Setup
     ensures { λ r. ⌜ r ≡ record { mode = mode; size = size; cell = cell } ⌝ }
@@ -44,7 +43,7 @@ pub extern "C" fn bp_place(
     symbol: &mut u32,
     carrier: &mut u32,
 ) -> u32
-    ensures { λ r. ⌜ record { number = r; symbol = now (symbol .exit); carrier = now (carrier .exit) } ≡ placeOut (placeOf (record { mode = mode; size = size; cell = cell }) slot subchannel index) (now (symbol .entry)) (now (carrier .entry)) ⌝ }
+    ensures { λ r. ⌜ record { refusal = r; symbol = now (symbol .exit); carrier = now (carrier .exit) } ≡ placeOut (placeOf (record { mode = mode; size = size; cell = cell }) slot subchannel index) (now (symbol .entry)) (now (carrier .entry)) ⌝ }
 {
     let answer = map::place(
         setup(mode, size, cell),
@@ -77,7 +76,7 @@ pub extern "C" fn bp_locate(
     subchannel: &mut u32,
     index: &mut u32,
 ) -> u32
-    ensures { λ r. ⌜ record { number = r; kind = now (kind .exit); slot = now (slot .exit); subchannel = now (subchannel .exit); index = now (index .exit) } ≡ locateOut (locateOf (record { mode = mode; size = size; cell = cell }) symbol carrier) (now (kind .entry)) (now (slot .entry)) (now (subchannel .entry)) (now (index .entry)) ⌝ }
+    ensures { λ r. ⌜ record { refusal = r; kind = now (kind .exit); slot = now (slot .exit); subchannel = now (subchannel .exit); index = now (index .exit) } ≡ locateOut (locateOf (record { mode = mode; size = size; cell = cell }) symbol carrier) (now (kind .entry)) (now (slot .entry)) (now (subchannel .entry)) (now (index .entry)) ⌝ }
 {
     let answer = map::locate(setup(mode, size, cell), symbol as usize, carrier as usize);
     match answer {
@@ -111,7 +110,7 @@ pub extern "C" fn bp_locate(
 // Hands an answer over: 0, its marks as bytes and their count, or the refusal's number alone.
 fn hand_over(answer: Collisions, hits: &mut [u8; 48], count: &mut u32) -> u32
     requires { ⌜ (length (answer .hits) ≡ 48) × (answer .count ≤ 48) ⌝ }
-    ensures { λ r. ⌜ record { number = r; hits = now (hits .exit); count = now (count .exit) } ≡ collisionOut answer (now (hits .entry)) (now (count .entry)) ⌝ }
+    ensures { λ r. ⌜ record { refusal = r; hits = now (hits .exit); count = now (count .exit) } ≡ collisionOut answer (now (hits .entry)) (now (count .entry)) ⌝ }
 {
     let number = answer.refusal;
     if number != 0 {
@@ -139,7 +138,7 @@ pub extern "C" fn bp_ofusc_collisions(
     hits: &mut [u8; 48],
     count: &mut u32,
 ) -> u32
-    ensures { λ r. ⌜ record { number = r; hits = now (hits .exit); count = now (count .exit) } ≡ collisionOut (ofuscOf size «cell_a» «subchannel_a» «cell_b» «subchannel_b») (now (hits .entry)) (now (count .entry)) ⌝ }
+    ensures { λ r. ⌜ record { refusal = r; hits = now (hits .exit); count = now (count .exit) } ≡ collisionOut (ofuscOf size «cell_a» «subchannel_a» «cell_b» «subchannel_b») (now (hits .entry)) (now (count .entry)) ⌝ }
 {
     let answer = collision::ofusc(
         size as usize,
@@ -158,7 +157,7 @@ pub extern "C" fn bp_amc_collisions(
     hits: &mut [u8; 48],
     count: &mut u32,
 ) -> u32
-    ensures { λ r. ⌜ record { number = r; hits = now (hits .exit); count = now (count .exit) } ≡ collisionOut (amcOf «cell_a» «cell_b») (now (hits .entry)) (now (count .entry)) ⌝ }
+    ensures { λ r. ⌜ record { refusal = r; hits = now (hits .exit); count = now (count .exit) } ≡ collisionOut (amcOf «cell_a» «cell_b») (now (hits .entry)) (now (count .entry)) ⌝ }
 {
     let answer = collision::amc(cell_a as usize, cell_b as usize);
     hand_over(answer, hits, count)
@@ -262,23 +261,6 @@ pub extern "C" fn bp_look(
     }
 }
 
-// Mode, cell and slots of each place.
-fn flat(zones: [Zone; 8]) -> [u32; 24]
-    requires { ⌜ AllSmall zones ⌝ }
-    ensures { λ r. ⌜ r ≡ flatOf zones ⌝ }
-{
-    let mut numbers = [0u32; 24];
-    let mut k = 0;
-    while k < 8 {
-        let zone = zones[k];
-        numbers[3 * k] = zone.mode as u32;
-        numbers[3 * k + 1] = zone.cell as u32;
-        numbers[3 * k + 2] = zone.slots as u32;
-        k += 1;
-    }
-    numbers
-}
-
 #[no_mangle]
 pub extern "C" fn bp_plan_read(
     bytes: &[u8],
@@ -286,45 +268,17 @@ pub extern "C" fn bp_plan_read(
     size: &mut u32,
     zones: &mut [u32; 24],
 ) -> u32
-    ensures { λ r. ⌜ record { number = r; count = now (count .exit); size = now (size .exit); zones = now (zones .exit) } ≡ readOut (answered (planOf (now (bytes .entry)))) (now (count .entry)) (now (size .entry)) (now (zones .entry)) ⌝ }
+    ensures { λ r. ⌜ record { refusal = r; count = now (count .exit); size = now (size .exit); zones = now (zones .exit) } ≡ readOut (answered (planOf (now (bytes .entry)))) (now (count .entry)) (now (size .entry)) (now (zones .entry)) ⌝ }
 {
-    let answer = plan::read(bytes);
+    let answer = plan_numbers::read(bytes);
     if answer.refusal != 0 {
-        return answer.refusal as u32;
+        return answer.refusal;
     }
-    let plan = answer.plan;
-    let places = plan.zones;
-    *count = plan.count as u32;
-    *size = plan.size as u32;
-    *zones = flat(places);
+    let row = answer.zones;
+    *count = answer.count;
+    *size = answer.size;
+    *zones = row;
     0
-}
-
-fn wide(x: u32) -> usize
-    ensures { λ r. ⌜ r ≡ x ⌝ }
-{
-    x as usize
-}
-
-// The eight places of 24 numbers.
-fn places(numbers: &[u32; 24]) -> [Zone; 8]
-    ensures { λ r. ⌜ r ≡ placesOf (now (numbers .entry)) ⌝ }
-{
-    let mut zones = [Zone {
-        mode: 0,
-        cell: 0,
-        slots: 0,
-    }; 8];
-    let mut k = 0;
-    while k < 8 {
-        zones[k] = Zone {
-            mode: wide(numbers[3 * k]),
-            cell: wide(numbers[3 * k + 1]),
-            slots: wide(numbers[3 * k + 2]),
-        };
-        k += 1;
-    }
-    zones
 }
 
 #[no_mangle]
@@ -335,14 +289,9 @@ pub extern "C" fn bp_plan_write(
     dest: &mut [u8],
     written: &mut u32,
 ) -> u32
-    ensures { λ r. ⌜ record { number = r; written = now (written .exit); dest = now (dest .exit) } ≡ writeOut (writeOf (planIn count size (now (zones .entry))) (now (dest .entry))) (now (written .entry)) ⌝ }
+    ensures { λ r. ⌜ record { refusal = r; written = now (written .exit); dest = now (dest .exit) } ≡ writeOut (writeOf (planIn count size (now (zones .entry))) (now (dest .entry))) (now (written .entry)) ⌝ }
 {
-    let places = places(zones);
-    let plan = Plan {
-        count: count as usize,
-        size: size as usize,
-        zones: places,
-    };
+    let plan = plan_numbers::plan_in(count, size, zones);
     let answer = plan::write(plan, dest);
     match answer {
         Written::Bytes(n) => {

@@ -2,15 +2,15 @@
 use mathlib.Core.Path.{_≡_, refl, _∙_}
 use mathlib.Core.Bool.{true}
 use mathlib.Core.List.{List, [], _∷_}
-use Prim.Native.Nat.{ℕ, zero, suc, _*_, _/_, _<_, _≤_}
+use Prim.Native.Nat.{ℕ, zero, suc, _+_, _-_, _*_, _/_, _<_, _≤_}
 use native.Mathlib.Nat.{mul-le-mul}
 use native.Mathlib.Omega.{arith}
 use lib.Dec.{eqb, ltb, leb}
 use lib.ListN.{length, drop, getD}
-use lib.Seq.{getD-take, length-take-le}
-use borrow.Author.Tests.{eqb-true, ltb-true, leb-true}
-use Rattle.base.specs.Answer.{Answer, accepted, ask}
-use Rattle.base.proofs.Chain.{ask-yes}
+use lib.Seq.{getD-take, getD-drop, length-take-le}
+use borrow.Author.Tests.{eqb-true, ltb-true, ltb-false, leb-true}
+use Rattle.base.specs.Answer.{Answer, accepted}
+use Rattle.base.proofs.Chain.{ask-yes, yes-all}
 use Rattle.base.proofs.Test.{cases}
 use Rattle.map.specs.declared.Setup.{Setup}
 use Rattle.map.specs.Mode.{cells, width}
@@ -20,10 +20,11 @@ use Rattle.plan.specs.declared.Zone.{Zone}
 use Rattle.plan.specs.declared.Plan.{Plan}
 use Rattle.plan.specs.declared.Before.{Before}
 use Rattle.plan.specs.declared.Before.the-variants.{First, After}
-use Rattle.plan.specs.Zone.{isCount, isZoneMode, setupOf, isSlots, isOrder, askZone, unused}
-use Rattle.plan.specs.Write.{areUnused, usedZones, askZones, askPlan, planRefusal, Small}
-use Rattle.plan.proofs.Places.{both-true}
-use Rattle.plan.proofs.Number.{yes-all, plan-by}
+use Rattle.plan.specs.Zone.{isUpTo, isCount, isZoneMode, setupOf, isSlots, isOrder, askZone, unused}
+use Rattle.plan.specs.Write.{isUnused, areUnused, usedZones, askZones, askPlan}
+use Rattle.plan.specs.Model.{planRefusal, Small}
+use Rattle.plan.proofs.Places.{both-true, unused-is}
+use Rattle.plan.proofs.Number.{plan-numbered}
 
 -- a zone that every question lets pass
 pub record Passed (size : ℕ) (before : Before) (z : Zone) : Type 0 where
@@ -36,10 +37,10 @@ pub record Passed (size : ℕ) (before : Before) (z : Zone) : Type 0 where
 module _ {A : Type 0} (size : ℕ) (before : Before) (z : Zone) (rest : Answer A) where
   pub zone-yes : {a : A} → askZone size before z rest ≡ accepted a → Passed size before z × (rest ≡ accepted a)
   zone-yes e =
-      let e₁ = ask-yes (isZoneMode (z .mode)) 1 (ask (isSize (setupOf size z)) 2 (ask (isCell (setupOf size z)) 3 (ask (isSlots (z .slots)) 13 (ask (isOrder before size z) 14 rest)))) e in
-      let e₂ = ask-yes (isSize (setupOf size z)) 2 (ask (isCell (setupOf size z)) 3 (ask (isSlots (z .slots)) 13 (ask (isOrder before size z) 14 rest))) (e₁ .1) in
-      let e₃ = ask-yes (isCell (setupOf size z)) 3 (ask (isSlots (z .slots)) 13 (ask (isOrder before size z) 14 rest)) (e₂ .1) in
-      let e₄ = ask-yes (isSlots (z .slots)) 13 (ask (isOrder before size z) 14 rest) (e₃ .1) in
+      let e₁ = ask-yes (isZoneMode (z .mode)) 1 _ e in
+      let e₂ = ask-yes (isSize (setupOf size z)) 2 _ (e₁ .1) in
+      let e₃ = ask-yes (isCell (setupOf size z)) 3 _ (e₂ .1) in
+      let e₄ = ask-yes (isSlots (z .slots)) 13 _ (e₃ .1) in
       let e₅ = ask-yes (isOrder before size z) 14 rest (e₄ .1) in
       (record { mode-is = e₁ .0; size-is = e₂ .0; cell-is = e₃ .0; slots-are = e₄ .0; order-is = e₅ .0 }, e₅ .1)
 
@@ -51,7 +52,7 @@ pub data Judged (size : ℕ) : Before → List Zone → Type 0 where
   none : {before : Before} → Judged size before []
   then : {before : Before} {z : Zone} {zones : List Zone} → Passed size before z → Judged size (After (z .mode)) zones → Judged size before (z ∷ zones)
 
-pub zones-yes : {A : Type 0} (size : ℕ) (before : Before) (zones : List Zone) (rest : Answer A) {a : A} → askZones size before zones rest ≡ accepted a → Judged size before zones × (rest ≡ accepted a)
+zones-yes : {A : Type 0} (size : ℕ) (before : Before) (zones : List Zone) (rest : Answer A) {a : A} → askZones size before zones rest ≡ accepted a → Judged size before zones × (rest ≡ accepted a)
 unfolding askZones
 zones-yes size before [] rest e = (none, e)
 zones-yes size before (z ∷ zones) rest e =
@@ -59,7 +60,7 @@ zones-yes size before (z ∷ zones) rest e =
     let k = zones-yes size (After (z .mode)) zones rest (h .1) in
     (then (h .0) (k .0), k .1)
 
-pub zones-pass : {A : Type 0} {size : ℕ} {before : Before} {zones : List Zone} (rest : Answer A) → Judged size before zones → askZones size before zones rest ≡ rest
+zones-pass : {A : Type 0} {size : ℕ} {before : Before} {zones : List Zone} (rest : Answer A) → Judged size before zones → askZones size before zones rest ≡ rest
 unfolding askZones
 zones-pass rest none = refl
 zones-pass rest (then {before = before} {z = z} {zones = zones} p j) = zone-passes _ before z (askZones _ (After (z .mode)) zones rest) p ∙ zones-pass rest j
@@ -74,29 +75,31 @@ mode-small m e =
     (λ t. omega (arith, eqb-true m 2 t))
     (λ g. omega (arith, eqb-true m 3 (rw (f, g) at e))))
 
-cells-small : (c : Setup) → c .size ≤ 2048 → cells c ≤ 2352
+cells-small : (setup : Setup) → setup .size ≤ 2048 → cells setup ≤ 2352
 unfolding cells width
-cells-small c h =
-    cases (eqb (c .mode) 0)
+cells-small setup h =
+    cases (eqb (setup .mode) 0)
     (λ e₀. rw e₀ (omega arith))
-    (λ n₀. cases (eqb (c .mode) 1)
+    (λ n₀. cases (eqb (setup .mode) 1)
     (λ e₁. rw (n₀, e₁) (omega arith))
-    (λ n₁. cases (eqb (c .mode) 2)
+    (λ n₁. cases (eqb (setup .mode) 2)
     (λ e₂. rw (n₀, n₁, e₂) (omega (arith, square)))
     (λ n₂. rw (n₀, n₁, n₂) (omega arith))))
   where
-    square : c .size / 64 * (c .size / 64) ≤ 32 * 32
+    square : setup .size / 64 * (setup .size / 64) ≤ 32 * 32
     square = mul-le-mul {n₂ = 32} {m₂ = 32} (omega arith) (omega arith)
 
+up-to : (most n : ℕ) → isUpTo most n ≡ true → n ≤ most
+unfolding isUpTo
+up-to most n e = leb-true n most (both-true (ltb 0 n) (leb n most) e .1)
+
 pub small : {size : ℕ} {before : Before} {z : Zone} → Passed size before z → Small z
-unfolding isCell isSlots
+unfolding isCell
 small {size} {before} {z} p =
-    let m = mode-small (z .mode) (p .mode-is) in
-    let s = both-true (ltb 0 (z .slots)) (leb (z .slots) 512) (p .slots-are) in
     record {
-      mode-most = omega arith;
+      mode-most = mode-small (z .mode) (p .mode-is);
       cell-most = omega (arith, ltb-true (z .cell) (cells (setupOf size z)) (p .cell-is), cells-small (setupOf size z) (size-most (setupOf size z) (p .size-is)));
-      slots-most = omega (arith, leb-true (z .slots) 512 (s .1));
+      slots-most = up-to 512 (z .slots) (p .slots-are);
     }
 
 zones-small : {size : ℕ} {before : Before} (zones : List Zone) (k : ℕ) → Judged size before zones → k < length zones → Small (getD zones k unused)
@@ -113,9 +116,9 @@ pub record Fit (p : Plan) : Type 0 where
 
 pub plan-yes : {A : Type 0} (p : Plan) (rest : Answer A) {a : A} → askPlan p rest ≡ accepted a → Fit p × (rest ≡ accepted a)
 plan-yes p rest e =
-    let e₁ = ask-yes (isCount (p .count)) 12 (ask (areUnused (drop (p .count) (p .zones))) 12 (ask (isFourSizes (p .size)) 2 (askZones (p .size) First (usedZones p) rest))) e in
-    let e₂ = ask-yes (areUnused (drop (p .count) (p .zones))) 12 (ask (isFourSizes (p .size)) 2 (askZones (p .size) First (usedZones p) rest)) (e₁ .1) in
-    let e₃ = ask-yes (isFourSizes (p .size)) 2 (askZones (p .size) First (usedZones p) rest) (e₂ .1) in
+    let e₁ = ask-yes (isCount (p .count)) 12 _ e in
+    let e₂ = ask-yes (areUnused (drop (p .count) (p .zones))) 12 _ (e₁ .1) in
+    let e₃ = ask-yes (isFourSizes (p .size)) 2 _ (e₂ .1) in
     let e₄ = zones-yes (p .size) First (usedZones p) rest (e₃ .1) in
     (record { count-is = e₁ .0; unused-are = e₂ .0; size-is = e₃ .0; judged = e₄ .0 }, e₄ .1)
 
@@ -123,21 +126,37 @@ pub plan-passes : {A : Type 0} {p : Plan} (rest : Answer A) → Fit p → askPla
 plan-passes rest f = rw (f .count-is, f .unused-are, f .size-is) (zones-pass rest (f .judged))
 
 pub count-most : (n : ℕ) → isCount n ≡ true → n ≤ 8
-unfolding isCount
-count-most n e = leb-true n 8 (both-true (ltb 0 n) (leb n 8) e .1)
+count-most n e = up-to 8 n e
 
 pub size-small : (size : ℕ) → isFourSizes size ≡ true → size ≤ 2048
 unfolding isSize
 size-small z e = size-most (record { mode = 2; size = z; cell = 0 }) e
 
--- a plan whose number is 0 is such a plan, and its zones' values are small
+-- a plan whose number is 0 is such a plan
 pub fit-of : (p : Plan) → planRefusal p ≡ 0 → Fit p
 fit-of p e =
     let end : Answer (Unit {0}) = accepted tt in
-    plan-yes p end {a = tt} (plan-by p end ∙ yes-all (planRefusal p) end e) .0
+    plan-yes p end {a = tt} (plan-numbered p end ∙ yes-all (planRefusal p) end e) .0
 
+-- and the values of all its places are small
 pub used-small : (p : Plan) (k : ℕ) → Fit p → length (p .zones) ≡ 8 → k < p .count → Small (getD (p .zones) k unused)
 used-small p k f e h =
     let most = count-most (p .count) (f .count-is) in
     rw (getD-take (p .count) (p .zones) k unused h) at
     (zones-small (usedZones p) k (f .judged) (rw (length-take-le (p .count) (p .zones) (omega arith)) h))
+
+small-unused : Small unused
+small-unused = record { mode-most = omega arith; cell-most = omega arith; slots-most = omega arith }
+
+pub unused-small : (zones : List Zone) (k : ℕ) → areUnused zones ≡ true → Small (getD zones k unused)
+unfolding areUnused
+unused-small [] k e = small-unused
+unused-small (z ∷ zones) zero e = rw (← unused-is z (both-true (isUnused z) (areUnused zones) e .0)) small-unused
+unused-small (z ∷ zones) (suc k) e = unused-small zones k (both-true (isUnused z) (areUnused zones) e .1)
+
+pub all-small : (p : Plan) → Fit p → length (p .zones) ≡ 8 → (k : ℕ) → Small (getD (p .zones) k unused)
+all-small p f l k =
+    cases (ltb k (p .count))
+    (λ e. used-small p k f l (ltb-true k (p .count) e))
+    (λ e. let past : p .count + (k - p .count) ≡ k = omega (arith, ltb-false k (p .count) e) in
+    rw (getD-drop (p .count) (p .zones) (k - p .count) unused, past) at (unused-small (drop (p .count) (p .zones)) (k - p .count) (f .unused-are)))

@@ -1,7 +1,10 @@
 pub mod Points
 pub mod Places
 pub mod Number
-pub mod Step
 pub mod Judge
+pub mod Step
+pub mod Each
 pub mod Bytes
 pub mod Round
+pub mod Decide
+pub mod Law

@@ -27,6 +27,12 @@ used-next zones count k h m =
 pub used-none : (zones : List Zone) (count k : ℕ) → count ≤ k → count ≤ length zones → drop k (take count zones) ≡ []
 used-none zones count k h m = drop-of-length-le (take count zones) {i = k} (rw (length-take-le count zones m) h)
 
+pub places-length : (n : ℕ) (zones : List Zone) → length (inPlaces n zones) ≡ n
+unfolding inPlaces
+places-length zero zones = refl
+places-length (suc n) [] = ap suc (places-length n [])
+places-length (suc n) (z ∷ zones) = ap suc (places-length n zones)
+
 -- a zone more, put into the first unused place
 pub set-places : (n : ℕ) (zones : List Zone) (z : Zone) → length zones < n → set (inPlaces n zones) (length zones) z ≡ inPlaces n (zones ++ z ∷ [])
 unfolding inPlaces
@@ -53,7 +59,7 @@ pub both-true : (a b : Bool) → pick a b false ≡ true → (a ≡ true) × (b 
 both-true true b e = (refl, e)
 both-true false b e = absurd (let z : _≡_ {A = ℕ} 0 1 = cc in omega arith)
 
-unused-is : (z : Zone) → isUnused z ≡ true → unused ≡ z
+pub unused-is : (z : Zone) → isUnused z ≡ true → unused ≡ z
 unfolding isUnused
 unused-is z e =
     let h = both-true (eqb (z .mode) 0) (pick (eqb (z .cell) 0) (eqb (z .slots) 0) false) e in

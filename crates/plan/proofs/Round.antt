@@ -1,232 +1,201 @@
 -- Reading and writing undo each other.
-use mathlib.Core.Path.{_≡_, refl, sym, ap, _∙_, subst}
+use mathlib.Core.Path.{_≡_, refl, sym, ap, _∙_}
 use mathlib.Core.Bool.{true}
 use mathlib.Core.List.{List, [], _∷_, _++_, append-assoc, append-nil}
-use Prim.Native.Nat.{ℕ, zero, suc, _+_, _<_, _≤_}
+use Prim.Native.Nat.{ℕ, zero, suc, _<_, _≤_}
 use native.Mathlib.Omega.{arith}
 use lib.Dec.{eqb, leb}
 use lib.ListN.{length, take, drop}
-use lib.Seq.{drop-append-seam, take-append-seam, getD-drop, length-take-le}
+use lib.Seq.{drop-append-seam, take-append-seam, length-take-le}
 use borrow.Author.Tests.{eqb-true, le-leb}
 use Rattle.base.specs.Answer.{Answer, accepted, refused, ask}
 use Rattle.base.proofs.Chain.{ask-yes, same-accepted}
 use Rattle.map.specs.Question.{isFourSizes}
-use Rattle.value.specs.Value.{Value, valueOf, encode}
-use Rattle.value.proofs.Laws.{Bytes, read-written, same}
+use Rattle.value.specs.Value.{Bytes, Value, valueOf, encode}
+use Rattle.value.proofs.Laws.{read-written, Again, again, again-then}
 use Rattle.plan.specs.declared.Zone.{Zone}
 use Rattle.plan.specs.declared.Plan.{Plan}
 use Rattle.plan.specs.declared.Before.{Before}
 use Rattle.plan.specs.declared.Before.the-variants.{First, After}
-use Rattle.plan.specs.Zone.{askZone, isCount}
-use Rattle.plan.specs.Read.{handOn, readValue, Taken, afterCell, afterMode, zoneOf, handZone, readZone, readZones, planWith, finish, zonesOf, afterSize, afterCount, planOf}
-use Rattle.plan.specs.Write.{Small, usedZones, askPlan, zoneBytes, zonesBytes, planBytes, Outcome, over, laid, writeOf}
-use Rattle.plan.proofs.Places.{take-places, drop-places, places-of}
+use Rattle.plan.specs.Zone.{askZone, isCount, inPlaces, each}
+use Rattle.plan.specs.Read.{handOn, readValue, readZone, readZones, planWith, finish, planOf}
+use Rattle.plan.specs.Write.{usedZones, askPlan, zoneBytes, planBytes, Outcome, over, outcome, writeOf}
+use Rattle.plan.specs.Law.{Eight}
+use Rattle.plan.specs.Model.{Small}
+use Rattle.plan.proofs.Places.{take-places, drop-places, places-of, places-length}
 use Rattle.plan.proofs.Judge.{Passed, zone-yes, zone-passes, Judged, none, then, small, Fit, plan-yes, plan-passes, count-most, size-small}
+use Rattle.plan.proofs.Bytes.{plan-43}
 
 -- From bytes to a value and back.
-record Value-of {A : Type 0} (s : List ℕ) (rest : ℕ → List ℕ → Answer A) (a : A) : Type 0 where
+record Value-of {A : Type 0} (s : List ℕ) (next : ℕ → List ℕ → Answer A) (a : A) : Type 0 where
   value : ℕ
   after : List ℕ
-  bytes : encode value ++ after ≡ s
-  after-bytes : Bytes after
-  go-on : rest value after ≡ accepted a
+  bytes : Again (encode value ++ after) s
+  go-on : next value after ≡ accepted a
 
-value-of : {A : Type 0} (s : List ℕ) (rest : ℕ → List ℕ → Answer A) {a : A} → Bytes s → readValue s rest ≡ accepted a → Value-of s rest a
-value-of s rest {a} b e = by (valueOf s) refl e
+value-of : {A : Type 0} (s : List ℕ) (next : ℕ → List ℕ → Answer A) {a : A} → readValue s next ≡ accepted a → Value-of s next a
+value-of s next {a} e = by (valueOf s) refl e
   where
-    by : (v : Answer Value) → valueOf s ≡ v → handOn v s rest ≡ accepted a → Value-of s rest a
-    by (accepted v) q e′ =
-        record {
-          value = v .value;
-          after = drop (v .size) s;
-          bytes = same 3 s b q .bytes;
-          after-bytes = λ k. subst (λ (x : ℕ). x < 256) (sym (getD-drop (v .size) s k 0)) (b (v .size + k));
-          go-on = e′;
-        }
+    by : (v : Answer Value) → valueOf s ≡ v → handOn v s next ≡ accepted a → Value-of s next a
+    by (accepted v) q e′ = record { value = v .value; after = drop (v .size) s; bytes = again 3 s q; go-on = e′ }
     by (refused k) q e′ = absurd (let z : _≡_ {A = ℕ} 0 1 = cc in omega arith)
 
-of-value : {A : Type 0} (x : ℕ) (s : List ℕ) (rest : ℕ → List ℕ → Answer A) → x < 2097152 → readValue (encode x ++ s) rest ≡ rest x s
-of-value x s rest h = rw (read-written x s h, drop-append-seam (encode x) s)
+of-value : {A : Type 0} (x : ℕ) (s : List ℕ) (next : ℕ → List ℕ → Answer A) → x < 2097152 → readValue (encode x ++ s) next ≡ next x s
+of-value x s next h = rw (read-written x s h, drop-append-seam (encode x) s)
 
 -- From bytes to a zone and back.
-record Zone-of {A : Type 0} (s : List ℕ) (rest : Zone → List ℕ → Answer A) (a : A) : Type 0 where
+record Zone-of {A : Type 0} (s : List ℕ) (next : Zone → List ℕ → Answer A) (a : A) : Type 0 where
   zone : Zone
   after : List ℕ
-  bytes : zoneBytes zone ++ after ≡ s
-  after-bytes : Bytes after
-  go-on : rest zone after ≡ accepted a
+  bytes : Again (zoneBytes zone ++ after) s
+  go-on : next zone after ≡ accepted a
 
-zone-of : {A : Type 0} (s : List ℕ) (rest : Zone → List ℕ → Answer A) {a : A} → Bytes s → readZone s rest ≡ accepted a → Zone-of s rest a
-unfolding zoneOf afterMode afterCell zoneBytes
-zone-of s rest {a} b e = by (zoneOf s) refl e
-  where
-    by : (t : Answer Taken) → zoneOf s ≡ t → handZone t rest ≡ accepted a → Zone-of s rest a
-    by (refused k) q e′ = absurd (let z : _≡_ {A = ℕ} 0 1 = cc in omega arith)
-    by (accepted t) q e′ =
-        let m = value-of s afterMode b q in
-        let c = value-of (m .after) (afterCell (m .value)) (m .after-bytes) (m .go-on) in
-        let l = value-of (c .after) (λ n s₁. accepted (record { zone = record { mode = m .value; cell = c .value; slots = n }; rest = s₁ })) (c .after-bytes) (c .go-on) in
-        let is = same-accepted (l .go-on) in
-        record {
-          zone = t .zone;
-          after = t .rest;
-          bytes = rw (← is) (simp (append-assoc, l .bytes, c .bytes, m .bytes));
-          after-bytes = rw (← is) (l .after-bytes);
-          go-on = e′;
-        }
+zone-of : {A : Type 0} (s : List ℕ) (next : Zone → List ℕ → Answer A) {a : A} → readZone s next ≡ accepted a → Zone-of s next a
+unfolding zoneBytes
+zone-of s next e =
+    let m = value-of s _ e in
+    let c = value-of (m .after) _ (m .go-on) in
+    let l = value-of (c .after) _ (c .go-on) in
+    record {
+      zone = record { mode = m .value; cell = c .value; slots = l .value };
+      after = l .after;
+      bytes = simp append-assoc (again-then (encode (m .value)) (m .bytes) (again-then (encode (c .value)) (c .bytes) (l .bytes)));
+      go-on = l .go-on;
+    }
 
-of-zone : {A : Type 0} {z : Zone} (s : List ℕ) (rest : Zone → List ℕ → Answer A) → Small z → readZone (zoneBytes z ++ s) rest ≡ rest z s
-unfolding zoneOf afterMode afterCell zoneBytes
-of-zone {z = z} s rest h =
-    let is : zoneOf (zoneBytes z ++ s) ≡ accepted (record { zone = z; rest = s }) =
+of-zone : {A : Type 0} {z : Zone} (s : List ℕ) (next : Zone → List ℕ → Answer A) → Small z → readZone (zoneBytes z ++ s) next ≡ next z s
+unfolding zoneBytes
+of-zone {z = z} s next h =
     simp append-assoc
-    (of-value (z .mode) (encode (z .cell) ++ (encode (z .slots) ++ s)) afterMode (h .mode-most)
-    ∙ of-value (z .cell) (encode (z .slots) ++ s) (afterCell (z .mode)) (h .cell-most)
-    ∙ of-value (z .slots) s (λ n s₁. accepted (record { zone = record { mode = z .mode; cell = z .cell; slots = n }; rest = s₁ })) (h .slots-most)) in
-    ap (λ t. handZone t rest) is
+    (of-value (z .mode) (encode (z .cell) ++ (encode (z .slots) ++ s)) _ (omega arith)
+    ∙ of-value (z .cell) (encode (z .slots) ++ s) _ (omega arith)
+    ∙ of-value (z .slots) s _ (omega arith))
 
 -- From bytes to zones and back.
-record Zones-of {A : Type 0} (n size : ℕ) (before : Before) (s : List ℕ) (rest : List Zone → List ℕ → Answer A) (a : A) : Type 0 where
+record Zones-of {A : Type 0} (n size : ℕ) (before : Before) (s : List ℕ) (next : List Zone → List ℕ → Answer A) (a : A) : Type 0 where
   zones : List Zone
   after : List ℕ
   count : length zones ≡ n
-  bytes : zonesBytes zones ++ after ≡ s
+  bytes : Again (each zoneBytes zones ++ after) s
   judged : Judged size before zones
-  go-on : rest zones after ≡ accepted a
+  go-on : next zones after ≡ accepted a
 
-zones-of : {A : Type 0} (n size : ℕ) (before : Before) (s : List ℕ) (rest : List Zone → List ℕ → Answer A) {a : A} → Bytes s → readZones n size before s rest ≡ accepted a → Zones-of n size before s rest a
-unfolding readZones zonesBytes
-zones-of zero size before s rest b e = record { zones = []; after = s; count = refl; bytes = refl; judged = none; go-on = e }
-zones-of {A} (suc n) size before s rest {a} b e =
-    let h = zone-of s (λ zone s₁. askZone size before zone (further zone s₁)) b e in
-    let p = zone-yes size before (h .zone) (further (h .zone) (h .after)) (h .go-on) in
-    more h (p .0) (zones-of n size (After (h .zone .mode)) (h .after) (λ zones s₂. rest (h .zone ∷ zones) s₂) (h .after-bytes) (p .1))
-  where
-    further : Zone → List ℕ → Answer A
-    further zone s₁ = readZones n size (After (zone .mode)) s₁ (λ zones s₂. rest (zone ∷ zones) s₂)
-
-    more : (h : Zone-of s (λ zone s₁. askZone size before zone (further zone s₁)) a) → Passed size before (h .zone) → Zones-of n size (After (h .zone .mode)) (h .after) (λ zones s₂. rest (h .zone ∷ zones) s₂) a → Zones-of (suc n) size before s rest a
-    more h p t =
-        record {
-          zones = h .zone ∷ t .zones;
-          after = t .after;
-          count = ap suc (t .count);
-          bytes = rw (append-assoc, t .bytes) (h .bytes);
-          judged = then p (t .judged);
-          go-on = t .go-on;
-        }
-
-of-zones : {A : Type 0} {size : ℕ} {before : Before} {zones : List Zone} (s : List ℕ) (rest : List Zone → List ℕ → Answer A) → Judged size before zones → readZones (length zones) size before (zonesBytes zones ++ s) rest ≡ rest zones s
-unfolding readZones zonesBytes
-of-zones s rest none = refl
-of-zones {size = size} s rest (then {before = before} {z = z} {zones = zones} p j) =
-    rw append-assoc
-    (of-zone (zonesBytes zones ++ s) (λ z₁ s₁. askZone size before z₁ (readZones (length zones) size (After (z₁ .mode)) s₁ (λ zones₁ s₂. rest (z₁ ∷ zones₁) s₂))) (small p)
-    ∙ zone-passes size before z _ p
-    ∙ of-zones s (λ zones₁ s₁. rest (z ∷ zones₁) s₁) j)
-
--- A plan that was read is fit, and its bytes are those that were read.
-record Plan-of (s : List ℕ) (p : Plan) : Type 0 where
-  fit : Fit p
-  bytes : planBytes p ≡ s
-
-made : (size : ℕ) (zones : List Zone) → isCount (length zones) ≡ true → isFourSizes size ≡ true → Judged size First zones → Plan-of (encode (length zones) ++ (encode size ++ zonesBytes zones)) (planWith (length zones) size zones)
-unfolding planBytes
-made size zones c z j =
-    let m = count-most (length zones) c in
-    let used = take-places 8 zones m in
+zones-of : {A : Type 0} (n size : ℕ) (before : Before) (s : List ℕ) (next : List Zone → List ℕ → Answer A) {a : A} → readZones n size before s next ≡ accepted a → Zones-of n size before s next a
+unfolding readZones each
+zones-of zero size before s next e = record { zones = []; after = s; count = refl; bytes = record { length-is = refl; same = λ b. refl }; judged = none; go-on = e }
+zones-of (suc n) size before s next e =
+    let h = zone-of s (λ z s₁. askZone size before z (readZones n size (After (z .mode)) s₁ (λ zones s₂. next (z ∷ zones) s₂))) e in
+    let p = zone-yes size before (h .zone) _ (h .go-on) in
+    let t = zones-of n size (After (h .zone .mode)) (h .after) (λ zones s₂. next (h .zone ∷ zones) s₂) (p .1) in
     record {
-      fit = record { count-is = c; unused-are = drop-places 8 zones m; size-is = z; judged = rw used j };
-      bytes = rw used;
+      zones = h .zone ∷ t .zones;
+      after = t .after;
+      count = ap suc (t .count);
+      bytes = rw append-assoc (again-then (zoneBytes (h .zone)) (h .bytes) (t .bytes));
+      judged = then (p .0) (t .judged);
+      go-on = t .go-on;
+    }
+
+of-zones : {A : Type 0} {size : ℕ} {before : Before} {zones : List Zone} (s : List ℕ) (next : List Zone → List ℕ → Answer A) → Judged size before zones → readZones (length zones) size before (each zoneBytes zones ++ s) next ≡ next zones s
+unfolding readZones each
+of-zones s next none = refl
+of-zones {size = size} s next (then {before = before} {z = z} {zones = zones} p j) =
+    rw append-assoc
+    (of-zone (each zoneBytes zones ++ s) (λ z₁ s₁. askZone size before z₁ (readZones (length zones) size (After (z₁ .mode)) s₁ (λ zones₁ s₂. next (z₁ ∷ zones₁) s₂))) (small p)
+    ∙ zone-passes size before z _ p
+    ∙ of-zones s (λ zones₁ s₁. next (z ∷ zones₁) s₁) j)
+
+-- A plan that was read is fit, and written again.
+pub record Plan-of (s : List ℕ) (p : Plan) : Type 0 where
+  pub fit : Fit p
+  pub eight : Eight p
+  pub bytes : Again (planBytes p) s
+
+made : (n size : ℕ) (zones : List Zone) {s : List ℕ} → length zones ≡ n → isCount n ≡ true → isFourSizes size ≡ true → Judged size First zones → Again (encode n ++ (encode size ++ each zoneBytes zones)) s → Plan-of s (planWith n size zones)
+unfolding planBytes
+made n size zones e c z j b =
+    let m : length zones ≤ 8 = omega (arith, count-most n c) in
+    let used : take n (inPlaces 8 zones) ≡ zones = rw (← e) (take-places 8 zones m) in
+    record {
+      fit = record { count-is = c; unused-are = rw (← e) (drop-places 8 zones m); size-is = z; judged = rw used j };
+      eight = places-length 8 zones;
+      bytes = rw used b;
     }
 
 empty : (s : List ℕ) → length s ≡ 0 → s ≡ []
 empty [] e = refl
 empty (x ∷ s) e = absurd (omega arith)
 
-after-size : (n size : ℕ) (s : List ℕ) {p : Plan} → Bytes s → isCount n ≡ true → afterSize n size s ≡ accepted p → Plan-of (encode n ++ (encode size ++ s)) p
-unfolding afterSize zonesOf finish
-after-size n size s {p} b c e =
-    let e₁ = ask-yes (isFourSizes size) 2 (readZones n size First s (finish n size)) e in
-    whole (e₁ .0) (zones-of n size First s (finish n size) b (e₁ .1))
-  where
-    whole : isFourSizes size ≡ true → Zones-of n size First s (finish n size) p → Plan-of (encode n ++ (encode size ++ s)) p
-    whole z t =
-        let e₂ = ask-yes (eqb (length (t .after)) 0) 15 (accepted (planWith n size (t .zones))) (t .go-on) in
-        let end = empty (t .after) (eqb-true (length (t .after)) 0 (e₂ .0)) in
-        let bytes : zonesBytes (t .zones) ≡ s = sym (append-nil (zonesBytes (t .zones))) ∙ ap (λ l. zonesBytes (t .zones) ++ l) (sym end) ∙ t .bytes in
-        rw (← same-accepted (e₂ .1), ← bytes, ← t .count) (made size (t .zones) (rw (t .count) c) z (t .judged))
-
-after-count : (n : ℕ) (s : List ℕ) {p : Plan} → Bytes s → afterCount n s ≡ accepted p → Plan-of (encode n ++ s) p
-unfolding afterCount
-after-count n s b e =
-    let e₁ = ask-yes (isCount n) 12 (readValue s (afterSize n)) e in
-    let z = value-of s (afterSize n) b (e₁ .1) in
-    rw (z .bytes) at (after-size n (z .value) (z .after) (z .after-bytes) (e₁ .0) (z .go-on))
-
-plan-of : (s : List ℕ) {p : Plan} → Bytes s → planOf s ≡ accepted p → Plan-of s p
+pub plan-of : (s : List ℕ) {p : Plan} → planOf s ≡ accepted p → Plan-of s p
 unfolding planOf
-plan-of s b e =
-    let c = value-of s afterCount b e in
-    rw (c .bytes) at (after-count (c .value) (c .after) (c .after-bytes) (c .go-on))
+plan-of s e =
+    let c = value-of s _ e in
+    let e₁ = ask-yes (isCount (c .value)) 12 _ (c .go-on) in
+    let z = value-of (c .after) _ (e₁ .1) in
+    let e₂ = ask-yes (isFourSizes (z .value)) 2 _ (z .go-on) in
+    let t = zones-of (c .value) (z .value) First (z .after) _ (e₂ .1) in
+    let e₃ = ask-yes (eqb (length (t .after)) 0) 15 _ (t .go-on) in
+    let end = empty (t .after) (eqb-true (length (t .after)) 0 (e₃ .0)) in
+    let zones : Again (each zoneBytes (t .zones)) (z .after) = rw (end, append-nil) at (t .bytes) in
+    rw (← same-accepted (e₃ .1))
+    (made (c .value) (z .value) (t .zones) (t .count) (e₁ .0) (e₂ .0) (t .judged)
+    (again-then (encode (c .value)) (c .bytes) (again-then (encode (z .value)) (z .bytes) zones)))
 
 -- A fit plan's bytes are read as that plan.
-all-zones : {A : Type 0} {size n : ℕ} {zones : List Zone} (rest : List Zone → List ℕ → Answer A) → length zones ≡ n → Judged size First zones → readZones n size First (zonesBytes zones) rest ≡ rest zones []
-all-zones {size = size} {zones = zones} rest e j =
-    ap (λ k. readZones k size First (zonesBytes zones) rest) (sym e)
-    ∙ ap (λ s. readZones (length zones) size First s rest) (sym (append-nil (zonesBytes zones)))
-    ∙ of-zones [] rest j
-
-of-size : (p : Plan) → length (p .zones) ≡ 8 → Fit p → afterSize (p .count) (p .size) (zonesBytes (usedZones p)) ≡ accepted p
-unfolding afterSize zonesOf finish
-of-size p l f =
-    rw (f .size-is)
-    (all-zones (finish (p .count) (p .size)) (length-take-le (p .count) (p .zones) (omega (arith, count-most (p .count) (f .count-is)))) (f .judged)
-    ∙ ap (λ places. accepted (record { count = p .count; size = p .size; zones = places })) (places-of 8 (p .count) (p .zones) l (f .unused-are)))
-
-of-plan : (p : Plan) → length (p .zones) ≡ 8 → Fit p → planOf (planBytes p) ≡ accepted p
-unfolding planOf planBytes afterCount
+of-plan : (p : Plan) → Eight p → Fit p → planOf (planBytes p) ≡ accepted p
+unfolding planOf planBytes
 of-plan p l f =
-    of-value (p .count) (encode (p .size) ++ zonesBytes (usedZones p)) afterCount (omega (arith, count-most (p .count) (f .count-is)))
+    let most = count-most (p .count) (f .count-is) in
+    let few = size-small (p .size) (f .size-is) in
+    let used : length (usedZones p) ≡ p .count = length-take-le (p .count) (p .zones) (omega arith) in
+    of-value (p .count) (encode (p .size) ++ each zoneBytes (usedZones p)) _ (omega arith)
     ∙ rw (f .count-is)
-    (of-value (p .size) (zonesBytes (usedZones p)) (afterSize (p .count)) (omega (arith, size-small (p .size) (f .size-is)))
-    ∙ of-size p l f)
+    (of-value (p .size) (each zoneBytes (usedZones p)) _ (omega arith)
+    ∙ rw (f .size-is)
+    (ap (λ n. readZones n (p .size) First (each zoneBytes (usedZones p)) (finish (p .count) (p .size))) (sym used)
+    ∙ ap (λ s. readZones (length (usedZones p)) (p .size) First s (finish (p .count) (p .size))) (sym (append-nil (each zoneBytes (usedZones p))))
+    ∙ of-zones [] (finish (p .count) (p .size)) (f .judged)
+    ∙ ap (λ places. accepted (record { count = p .count; size = p .size; zones = places })) (places-of 8 (p .count) (p .zones) l (f .unused-are))))
 
--- An accepted plan written again is the same bytes, where the destination is long enough; further bytes stay.
+-- An accepted plan written again is the same bytes.
 pub same-bytes : (s : List ℕ) (p : Plan) (d : List ℕ) → Bytes s → planOf s ≡ accepted p → length s ≤ length d → writeOf p d ≡ record { answer = accepted (length s); dest = over s d }
 unfolding writeOf
 same-bytes s p d b e h =
-    let t = plan-of s b e in
-    rw (plan-passes (ask (leb (length (planBytes p)) (length d)) 16 (accepted (planBytes p))) (t .fit), t .bytes, le-leb (length s) (length d) h)
+    let t = plan-of s e in
+    rw (plan-passes (ask (leb (length (planBytes p)) (length d)) 16 (accepted (planBytes p))) (t .fit), t .bytes .same b, le-leb (length s) (length d) h)
 
--- What a write that is accepted leaves begins with the plan's bytes.
-record Laid (a : Answer (List ℕ)) (n : ℕ) (after : List ℕ) : Type 0 where
-  bytes : List ℕ
-  answer-is : a ≡ accepted bytes
-  front : take n after ≡ bytes
+-- A write that is accepted leaves a fit plan's bytes at the start.
+pub record Laid (p : Plan) (n : ℕ) (after : List ℕ) : Type 0 where
+  pub fit : Fit p
+  pub number : n ≡ length (planBytes p)
+  pub front : take n after ≡ planBytes p
 
-laid-of : (a : Answer (List ℕ)) (d : List ℕ) {n : ℕ} {after : List ℕ} → laid a d ≡ record { answer = accepted n; dest = after } → Laid a n after
-laid-of (accepted bytes₁) d e =
-    record {
-      bytes = bytes₁;
-      answer-is = refl;
-      front = rw (← same-accepted (ap (λ (o : Outcome). o .answer) e), ← ap (λ (o : Outcome). o .dest) e) (take-append-seam bytes₁ (drop (length bytes₁) d));
-    }
-laid-of (refused k) d e = absurd (let q = ap (λ (o : Outcome). o .answer) e in let z : _≡_ {A = ℕ} 0 1 = cc in omega arith)
-
--- A written plan, an array of eight places in it, read again is the same plan.
-pub same-plan : (p : Plan) (d after : List ℕ) (n : ℕ) → length (p .zones) ≡ 8 → writeOf p d ≡ record { answer = accepted n; dest = after } → planOf (take n after) ≡ accepted p
+pub laid : (p : Plan) (d after : List ℕ) (n : ℕ) → writeOf p d ≡ record { answer = accepted n; dest = after } → Laid p n after
 unfolding writeOf
-same-plan p d after n l e =
-    let t = laid-of (askPlan p (ask (leb (length (planBytes p)) (length d)) 16 (accepted (planBytes p)))) d e in
-    let h = plan-yes p (ask (leb (length (planBytes p)) (length d)) 16 (accepted (planBytes p))) (t .answer-is) in
-    let k = ask-yes (leb (length (planBytes p)) (length d)) 16 (accepted (planBytes p)) (h .1) in
-    rw (t .front, ← same-accepted (k .1)) (of-plan p l (h .0))
+laid p d after n e = by (askPlan p write) refl e
+  where
+    write : Answer (List ℕ)
+    write = ask (leb (length (planBytes p)) (length d)) 16 (accepted (planBytes p))
 
--- So no two accepted byte strings are one plan,
-pub one-string : (s t : List ℕ) (p : Plan) → Bytes s → Bytes t → planOf s ≡ accepted p → planOf t ≡ accepted p → s ≡ t
-one-string s t p b c e q = sym (plan-of s b e .bytes) ∙ plan-of t c q .bytes
+    by : (a : Answer (List ℕ)) → askPlan p write ≡ a → outcome a d ≡ record { answer = accepted n; dest = after } → Laid p n after
+    by (refused k) q e′ = absurd (let o = ap (λ (o : Outcome). o .answer) e′ in let z : _≡_ {A = ℕ} 0 1 = cc in omega arith)
+    by (accepted bytes) q e′ =
+        let h = plan-yes p write q in
+        let is = same-accepted (ask-yes (leb (length (planBytes p)) (length d)) 16 _ (h .1) .1) in
+        let long = same-accepted (ap (λ (o : Outcome). o .answer) e′) in
+        record {
+          fit = h .0;
+          number = rw is (sym long);
+          front = rw (← long, ← ap (λ (o : Outcome). o .dest) e′, is) (take-append-seam bytes (drop (length bytes) d));
+        }
 
--- and no two plans one byte string.
-pub one-plan : (p q : Plan) (d₁ d₂ after₁ after₂ : List ℕ) (n₁ n₂ : ℕ) → length (p .zones) ≡ 8 → length (q .zones) ≡ 8 → writeOf p d₁ ≡ record { answer = accepted n₁; dest = after₁ } → writeOf q d₂ ≡ record { answer = accepted n₂; dest = after₂ } → take n₁ after₁ ≡ take n₂ after₂ → p ≡ q
-one-plan p q d₁ d₂ after₁ after₂ n₁ n₂ l m e g h = same-accepted (sym (same-plan p d₁ after₁ n₁ l e) ∙ ap planOf h ∙ same-plan q d₂ after₂ n₂ m g)
+-- A written plan read again is the same plan.
+pub same-plan : (p : Plan) (d after : List ℕ) (n : ℕ) → Eight p → writeOf p d ≡ record { answer = accepted n; dest = after } → planOf (take n after) ≡ accepted p
+same-plan p d after n l e = let t = laid p d after n e in rw (t .front) (of-plan p l (t .fit))
+
+-- An accepted plan has at most 43 bytes, read or written.
+pub read-43 : (s : List ℕ) (p : Plan) → planOf s ≡ accepted p → length s ≤ 43
+read-43 s p e = let t = plan-of s e in omega (arith, t .bytes .length-is, plan-43 p (t .fit))
+
+pub written-43 : (p : Plan) (d after : List ℕ) (n : ℕ) → writeOf p d ≡ record { answer = accepted n; dest = after } → n ≤ 43
+written-43 p d after n e = let t = laid p d after n e in omega (arith, plan-43 p (t .fit), t .number)

@@ -7,24 +7,31 @@ use native.Mathlib.Numerals.{add-one}
 use lib.ListN.{length, drop, set, length-append, length-drop}
 use lib.Seq.{append-snoc}
 use borrow.Author.Tests.{eq-eqb, ne-eqb}
-use Rattle.base.specs.Answer.{accepted, refused}
+use Rattle.base.specs.Answer.{Answer, accepted, refused}
+use Rattle.base.proofs.Chain.{numbered, yes-all, no-first}
 use Rattle.value.specs.declared.Found.{Found as ValueFound}
 use Rattle.value.specs.declared.Found.the-variants.{Value}
 use Rattle.value.specs.Value.{found, valueOf}
-use Rattle.value.proofs.Laws.{within}
+use Rattle.value.proofs.Laws.{size-within}
 use Rattle.plan.specs.declared.Zone.{Zone}
+use Rattle.plan.specs.declared.Plan.{Plan}
 use Rattle.plan.specs.declared.ZoneFound.{ZoneFound}
 use Rattle.plan.specs.declared.ZoneFound.the-variants.{Found, Refused}
 use Rattle.plan.specs.declared.Before.{Before}
 use Rattle.plan.specs.declared.Before.the-variants.{First, After}
-use Rattle.plan.specs.Zone.{zoneRefusal, inPlaces}
-use Rattle.plan.specs.Read.{zoneOf, zoneFound, readZones, finish, zonesOf}
+use Rattle.plan.specs.Zone.{askZone, inPlaces}
+use Rattle.plan.specs.Read.{readZones, finish}
+use Rattle.plan.specs.Model.{zoneRefusal, zoneFound, ZoneAt}
 use Rattle.plan.proofs.Places.{set-places}
-use Rattle.plan.proofs.Number.{numbered, yes-all, no-first, zone-by}
+use Rattle.plan.proofs.Number.{zone-numbered}
 
--- what `value::read` found at a place lies within the bytes
-pub value-within : (s : List ℕ) (at : ℕ) {r : ValueFound} {x n : ℕ} → found r ≡ valueOf (drop at s) → r ≡ Value x n → at + n ≤ length s
-value-within s at e q = within s at (sym e ∙ ap found q)
+-- what `value::read` found lies within the bytes
+pub value-within : (s : List ℕ) {r : ValueFound} {x n : ℕ} → found r ≡ valueOf s → r ≡ Value x n → n ≤ length s
+value-within s e q = size-within 3 s (sym e ∙ ap found q)
+
+-- the zones from a place on, to the end
+abbrev zonesAt : (s : List ℕ) (at count size : ℕ) → Answer Plan
+zonesAt s at count size = readZones count size First (drop at s) (finish count size)
 
 -- While zones are read: those that are done stand in the first places, and the rest gives what the whole gives.
 pub record Reading (s : List ℕ) (at count size : ℕ) (zones : List Zone) (prior : Before) (next k : ℕ) : Type 0 where
@@ -32,28 +39,30 @@ pub record Reading (s : List ℕ) (at count size : ℕ) (zones : List Zone) (pri
   pub number-done : length done ≡ k
   pub below : k ≤ count
   pub places : zones ≡ inPlaces 8 done
-  pub rest : zonesOf count size (drop at s) ≡ readZones (count - k) size prior (drop next s) (λ further s₁. finish count size (done ++ further) s₁)
+  pub rest : zonesAt s at count size ≡ readZones (count - k) size prior (drop next s) (λ further s₁. finish count size (done ++ further) s₁)
 
 pub begin : (s : List ℕ) (at count size : ℕ) {zones : List Zone} → zones ≡ inPlaces 8 [] → Reading s at count size zones First at 0
-unfolding zonesOf
 begin s at count size e = record { done = []; number-done = refl; below = omega arith; places = e; rest = ap (λ n. readZones n size First (drop at s) (finish count size)) (omega arith) }
 
 module _ {s : List ℕ} {at count size : ℕ} {zones : List Zone} {prior : Before} {next k : ℕ} (h : Reading s at count size zones prior next k) where
   -- one zone more is to be read
-  module _ (l : k < count) (r : ZoneFound) (f : zoneFound s r ≡ zoneOf (drop next s)) where
-    ahead : zonesOf count size (drop at s) ≡ readZones (suc (count - suc k)) size prior (drop next s) (λ further s₁. finish count size (h .done ++ further) s₁)
+  module _ (l : k < count) (r : ZoneFound) (f : ZoneAt s next r) where
+    ahead : zonesAt s at count size ≡ readZones (suc (count - suc k)) size prior (drop next s) (λ further s₁. finish count size (h .done ++ further) s₁)
     ahead = h .rest ∙ ap (λ n. readZones n size prior (drop next s) (λ further s₁. finish count size (h .done ++ further) s₁)) (omega arith)
 
-    pub zone-none : {n : ℕ} → r ≡ Refused n → refused n ≡ zonesOf count size (drop at s)
+    abbrev go : Zone → List ℕ → Answer Plan
+    go z s₁ = askZone size prior z (readZones (count - suc k) size (After (z .mode)) s₁ (λ further s₂. finish count size (h .done ++ z ∷ further) s₂))
+
+    pub zone-none : {n : ℕ} → r ≡ Refused n → refused n ≡ zonesAt s at count size
     unfolding readZones
-    zone-none q = rw (ahead, ← f, q)
+    zone-none q = sym (ahead ∙ sym (f go) ∙ ap (λ x. zoneFound s x go) q)
 
     module _ {z : Zone} {after n : ℕ} (q : r ≡ Found z after) (e : n ≡ zoneRefusal size prior z) where
-      asked : zonesOf count size (drop at s) ≡ numbered n (readZones (count - suc k) size (After (z .mode)) (drop after s) (λ further s₁. finish count size (h .done ++ z ∷ further) s₁))
+      asked : zonesAt s at count size ≡ numbered n (readZones (count - suc k) size (After (z .mode)) (drop after s) (λ further s₁. finish count size (h .done ++ z ∷ further) s₁))
       unfolding readZones
-      asked = rw (ahead, ← f, q, e) (zone-by size prior z _)
+      asked = ahead ∙ sym (f go) ∙ ap (λ x. zoneFound s x go) q ∙ rw e (zone-numbered size prior z _)
 
-      pub zone-refused : (n ≡ 0 → ⊥) → refused n ≡ zonesOf count size (drop at s)
+      pub zone-refused : (n ≡ 0 → ⊥) → refused n ≡ zonesAt s at count size
       zone-refused nonzero = sym (asked ∙ no-first n _ nonzero)
 
       pub again : n ≡ 0 → count ≤ 8 → Reading s at count size (set zones k z) (After (z .mode)) after (k + 1)
@@ -68,17 +77,15 @@ module _ {s : List ℕ} {at count size : ℕ} {zones : List Zone} {prior : Befor
 
   -- all zones are read
   module _ (l : count ≤ k) where
-    ended : zonesOf count size (drop at s) ≡ finish count size (h .done) (drop next s)
+    ended : zonesAt s at count size ≡ finish count size (h .done) (drop next s)
     unfolding readZones
     ended = h .rest ∙ ap (λ n. readZones n size prior (drop next s) (λ further s₁. finish count size (h .done ++ further) s₁)) none ∙ ap (λ list. finish count size list (drop next s)) (append-nil (h .done))
       where
         none : count - k ≡ 0
         none = omega arith
 
-    pub too-long : next < length s → refused 15 ≡ zonesOf count size (drop at s)
-    unfolding finish
+    pub too-long : next < length s → refused 15 ≡ zonesAt s at count size
     too-long t = rw (ended, length-drop, ne-eqb (length s - next) 0 (λ z. omega arith))
 
-    pub whole : length s ≤ next → accepted (record { count = count; size = size; zones = zones }) ≡ zonesOf count size (drop at s)
-    unfolding finish
+    pub whole : length s ≤ next → accepted (record { count = count; size = size; zones = zones }) ≡ zonesAt s at count size
     whole t = rw (ended, length-drop, eq-eqb (length s - next) 0 (omega arith), ← h .places)

@@ -1,3 +1,5 @@
 pub mod Zone
 pub mod Read
 pub mod Write
+pub mod Law
+pub mod Model

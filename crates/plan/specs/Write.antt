@@ -1,11 +1,11 @@
 -- Writing a plan. Document 01: writing puts 12, 2, for each zone in turn 1, 2, 3, 13, 14, then 16.
 use mathlib.Core.Bool.{Bool, true, false}
 use mathlib.Core.List.{List, [], _∷_, _++_}
-use Prim.Native.Nat.{ℕ, _<_}
+use Prim.Native.Nat.{ℕ}
 use lib.Dec.{eqb, leb}
 use lib.ListN.{length, take, drop}
 use Rattle.base.specs.Choice.{pick}
-use Rattle.base.specs.Answer.{Answer, accepted, refused, ask, refusalOf}
+use Rattle.base.specs.Answer.{Answer, accepted, refused, ask}
 use Rattle.map.specs.Question.{isFourSizes}
 use Rattle.value.specs.Value.{encode}
 use Rattle.plan.specs.declared.Zone.{Zone}
@@ -14,54 +14,37 @@ use Rattle.plan.specs.declared.Written.{Written}
 use Rattle.plan.specs.declared.Written.the-variants.{Bytes, Refused}
 use Rattle.plan.specs.declared.Before.{Before}
 use Rattle.plan.specs.declared.Before.the-variants.{First, After}
-use Rattle.plan.specs.Zone.{askZone, isCount}
+use Rattle.plan.specs.Zone.{askZone, isCount, each}
 
 -- 12 (writing: and every place past it zero)
-unfoldable pub isUnused : Zone → Bool
+unfoldable pub isUnused : (zone : Zone) → Bool
 isUnused zone = pick (eqb (zone .mode) 0) (pick (eqb (zone .cell) 0) (eqb (zone .slots) 0) false) false
 
-unfoldable pub areUnused : List Zone → Bool
+unfoldable pub areUnused : (zones : List Zone) → Bool
 areUnused [] = true
 areUnused (zone ∷ zones) = pick (isUnused zone) (areUnused zones) false
 
-abbrev pub usedZones : Plan → List Zone
-usedZones p = take (p .count) (p .zones)
+abbrev pub usedZones : (plan : Plan) → List Zone
+usedZones plan = take (plan .count) (plan .zones)
 
 -- for each zone in turn 1, 2, 3, 13, 14
-unfoldable pub askZones : {A : Type 0} → ℕ → Before → List Zone → Answer A → Answer A
+unfoldable pub askZones : {A : Type 0} → (size : ℕ) (before : Before) (zones : List Zone) (rest : Answer A) → Answer A
 askZones size before [] rest = rest
 askZones size before (zone ∷ zones) rest = askZone size before zone (askZones size (After (zone .mode)) zones rest)
 
-abbrev pub askPlan : {A : Type 0} → Plan → Answer A → Answer A
-askPlan p rest =
-    ask (isCount (p .count)) 12
-    (ask (areUnused (drop (p .count) (p .zones))) 12
-    (ask (isFourSizes (p .size)) 2
-    (askZones (p .size) First (usedZones p) rest)))
-
--- the number of the first of them that is answered no, 0 where none is
-unfoldable pub zonesRefusal : ℕ → Before → List Zone → ℕ
-zonesRefusal size before zones = refusalOf (askZones {A = Unit {0}} size before zones (accepted tt))
-
-unfoldable pub planRefusal : Plan → ℕ
-planRefusal p = refusalOf (askPlan {A = Unit {0}} p (accepted tt))
-
--- a zone whose three values can be written
-pub record Small (z : Zone) : Type 0 where
-  pub mode-most : z .mode < 2097152
-  pub cell-most : z .cell < 2097152
-  pub slots-most : z .slots < 2097152
+abbrev pub askPlan : {A : Type 0} → (plan : Plan) (rest : Answer A) → Answer A
+askPlan plan rest =
+    ask (isCount (plan .count)) 12
+    (ask (areUnused (drop (plan .count) (plan .zones))) 12
+    (ask (isFourSizes (plan .size)) 2
+    (askZones (plan .size) First (usedZones plan) rest)))
 
 -- count of zones, size, then mode, cell and slots of each
-unfoldable pub zoneBytes : Zone → List ℕ
+unfoldable pub zoneBytes : (zone : Zone) → List ℕ
 zoneBytes zone = encode (zone .mode) ++ (encode (zone .cell) ++ encode (zone .slots))
 
-unfoldable pub zonesBytes : List Zone → List ℕ
-zonesBytes [] = []
-zonesBytes (zone ∷ zones) = zoneBytes zone ++ zonesBytes zones
-
-unfoldable pub planBytes : Plan → List ℕ
-planBytes p = encode (p .count) ++ (encode (p .size) ++ zonesBytes (usedZones p))
+unfoldable pub planBytes : (plan : Plan) → List ℕ
+planBytes plan = encode (plan .count) ++ (encode (plan .size) ++ each zoneBytes (usedZones plan))
 
 -- what a call of `write` leaves: its answer and the destination
 pub record Outcome : Type 0 where
@@ -69,19 +52,19 @@ pub record Outcome : Type 0 where
   pub dest : List ℕ
 
 -- The bytes at the destination's start; further bytes stay.
-abbrev pub over : List ℕ → List ℕ → List ℕ
+abbrev pub over : (bytes dest : List ℕ) → List ℕ
 over bytes dest = bytes ++ drop (length bytes) dest
 
 -- It gives the number of bytes written; on a refusal the destination keeps its contents.
-abbrev pub laid : Answer (List ℕ) → List ℕ → Outcome
-laid (accepted bytes) d = record { answer = accepted (length bytes); dest = over bytes d }
-laid (refused k) d = record { answer = refused k; dest = d }
+abbrev pub outcome : (answer : Answer (List ℕ)) (dest : List ℕ) → Outcome
+outcome (accepted bytes) dest = record { answer = accepted (length bytes); dest = over bytes dest }
+outcome (refused number) dest = record { answer = refused number; dest = dest }
 
 -- 16 Is the destination long enough?
-unfoldable pub writeOf : Plan → List ℕ → Outcome
-writeOf p d = laid (askPlan p (ask (leb (length (planBytes p)) (length d)) 16 (accepted (planBytes p)))) d
+unfoldable pub writeOf : (plan : Plan) (dest : List ℕ) → Outcome
+writeOf plan dest = outcome (askPlan plan (ask (leb (length (planBytes plan)) (length dest)) 16 (accepted (planBytes plan)))) dest
 
 -- what an answer of `write` says, with the destination that it leaves
-abbrev pub outcome : Written → List ℕ → Outcome
-outcome (Bytes n) d = record { answer = accepted n; dest = d }
-outcome (Refused k) d = record { answer = refused k; dest = d }
+abbrev pub written : (answer : Written) (dest : List ℕ) → Outcome
+written (Bytes number) dest = record { answer = accepted number; dest = dest }
+written (Refused number) dest = record { answer = refused number; dest = dest }

@@ -4,11 +4,12 @@ use value::Found;
 ghost use mathlib.Core.Path.{_≡_};
 ghost use Prim.Native.Nat.{_+_, _≤_};
 ghost use lib.ListN.{length, drop};
-ghost use Rattle.text.specs.Text.{written, wrote};
+ghost use Rattle.text.specs.Text.{Put};
 ghost use Rattle.base.specs.Answer.{refused as no};
-ghost use Rattle.plan.specs.Zone.{isOpening, isFollowing, isOrder, slotsRefusal, ownRefusal, zoneRefusal};
-ghost use Rattle.plan.specs.Write.{isUnused, areUnused, usedZones, zonesRefusal, planRefusal, Small, zoneBytes, planBytes, outcome, writeOf};
-ghost use Rattle.plan.specs.Read.{zoneFound, zoneOf, afterMode, afterCell, zonesOf, readValue, afterSize, planOf, answered};
+ghost use Rattle.plan.specs.Zone.{isUpTo, isOrder};
+ghost use Rattle.plan.specs.Write.{isUnused, areUnused, usedZones, zoneBytes, planBytes, written, writeOf};
+ghost use Rattle.plan.specs.Read.{readZones, finish, planOf, answered};
+ghost use Rattle.plan.specs.Model.{zoneRefusal, zonesRefusal, planRefusal, Small, ZoneAt};
 
 // One zone: mode, cell and how many slots.
 pub struct Zone {
@@ -48,21 +49,41 @@ pub enum ZoneFound {
     Refused(u8),
 }
 
-fn slots_refusal(slots: usize) -> u8
-    ensures { λ r. ⌜ r ≡ slotsRefusal slots ⌝ }
+// Is a number one of 1, 2, .., most?
+fn is_up_to(most: usize, number: usize) -> bool
+    ensures { λ r. ⌜ r ≡ isUpTo most number ⌝ }
 {
-    if slots == 0 {
-        return 13;
+    if number == 0 {
+        return false;
     }
-    if 512 < slots {
-        return 13;
-    }
-    0
+    number <= most
 }
 
-// The number of the first of a zone's own questions that is answered no, or 0.
-fn own_refusal(size: usize, zone: Zone) -> u8
-    ensures { λ r. ⌜ r ≡ ownRefusal size zone ⌝ }
+fn is_order(size: usize, prior: Before, zone: Zone) -> bool
+    ensures { λ r. ⌜ r ≡ isOrder prior size zone ⌝ }
+{
+    match prior {
+        Before::First => {
+            if size != 2048 {
+                return true;
+            }
+            if zone.mode != 0 {
+                return false;
+            }
+            zone.cell == 0
+        }
+        Before::After(mode) => {
+            if mode != 3 {
+                return true;
+            }
+            zone.mode == 3
+        }
+    }
+}
+
+// The number of the first question put to a zone in its plan that is answered no, or 0.
+fn zone_refusal(size: usize, prior: Before, zone: Zone) -> u8
+    ensures { λ r. ⌜ r ≡ zoneRefusal size prior zone ⌝ }
 {
     if zone.mode == 1 {
         return 1;
@@ -72,50 +93,11 @@ fn own_refusal(size: usize, zone: Zone) -> u8
         size: size,
         cell: zone.cell,
     });
-    let slots = slots_refusal(zone.slots);
     if setup != 0 {
         return setup;
     }
-    slots
-}
-
-fn is_opening(size: usize, zone: Zone) -> bool
-    ensures { λ r. ⌜ r ≡ isOpening size zone ⌝ }
-{
-    if size != 2048 {
-        return true;
-    }
-    if zone.mode != 0 {
-        return false;
-    }
-    zone.cell == 0
-}
-
-fn is_following(mode: usize, zone: Zone) -> bool
-    ensures { λ r. ⌜ r ≡ isFollowing mode zone ⌝ }
-{
-    if mode != 3 {
-        return true;
-    }
-    zone.mode == 3
-}
-
-fn is_order(size: usize, prior: Before, zone: Zone) -> bool
-    ensures { λ r. ⌜ r ≡ isOrder prior size zone ⌝ }
-{
-    match prior {
-        Before::First => is_opening(size, zone),
-        Before::After(mode) => is_following(mode, zone),
-    }
-}
-
-// The number of the first question put to a zone in its plan that is answered no, or 0.
-fn zone_refusal(size: usize, prior: Before, zone: Zone) -> u8
-    ensures { λ r. ⌜ r ≡ zoneRefusal size prior zone ⌝ }
-{
-    let own = own_refusal(size, zone);
-    if own != 0 {
-        return own;
+    if !is_up_to(512, zone.slots) {
+        return 13;
     }
     if is_order(size, prior, zone) {
         return 0;
@@ -140,45 +122,39 @@ fn refused(number: u8) -> ReadPlan
     }
 }
 
-// The zone whose first byte stands at a place.
+// The zone whose first byte stands at a place: its values in a row.
 fn zone_at(bytes: &[u8], at: usize) -> ZoneFound
-    ensures { λ r. ⌜ zoneFound (now (bytes .entry)) r ≡ zoneOf (drop at (now (bytes .entry))) ⌝ }
+    ensures { λ r. ⌜ ZoneAt (now (bytes .entry)) at r ⌝ }
 {
     match value::read(bytes, at) {
         Found::Refused(number) => ZoneFound::Refused(number),
-        Found::Value { value, size } => cell_at(bytes, at + size, value),
-    }
-}
-
-fn cell_at(bytes: &[u8], at: usize, mode: usize) -> ZoneFound
-    ensures { λ r. ⌜ zoneFound (now (bytes .entry)) r ≡ afterMode mode (drop at (now (bytes .entry))) ⌝ }
-{
-    match value::read(bytes, at) {
-        Found::Refused(number) => ZoneFound::Refused(number),
-        Found::Value { value, size } => slots_at(bytes, at + size, mode, value),
-    }
-}
-
-fn slots_at(bytes: &[u8], at: usize, mode: usize, cell: usize) -> ZoneFound
-    ensures { λ r. ⌜ zoneFound (now (bytes .entry)) r ≡ afterCell mode cell (drop at (now (bytes .entry))) ⌝ }
-{
-    match value::read(bytes, at) {
-        Found::Refused(number) => ZoneFound::Refused(number),
-        Found::Value { value, size } => ZoneFound::Found {
-            zone: Zone {
-                mode: mode,
-                cell: cell,
-                slots: value,
-            },
-            next: at + size,
-        },
+        Found::Value { value: mode, size } => {
+            let at = at + size;
+            match value::read(bytes, at) {
+                Found::Refused(number) => ZoneFound::Refused(number),
+                Found::Value { value: cell, size } => {
+                    let at = at + size;
+                    match value::read(bytes, at) {
+                        Found::Refused(number) => ZoneFound::Refused(number),
+                        Found::Value { value: slots, size } => ZoneFound::Found {
+                            zone: Zone {
+                                mode: mode,
+                                cell: cell,
+                                slots: slots,
+                            },
+                            next: at + size,
+                        },
+                    }
+                }
+            }
+        }
     }
 }
 
 // The zones whose first byte stands at a place, to the end of the bytes.
 fn zones_at(bytes: &[u8], at: usize, count: usize, size: usize) -> ReadPlan
     requires { ⌜ count ≤ 8 ⌝ }
-    ensures { λ r. ⌜ r ≡ answered (zonesOf count size (drop at (now (bytes .entry)))) ⌝ }
+    ensures { λ r. ⌜ r ≡ answered (readZones count size Before.First (drop at (now (bytes .entry))) (finish count size)) ⌝ }
 {
     let mut zones = [Zone {
         mode: 0,
@@ -216,35 +192,31 @@ fn zones_at(bytes: &[u8], at: usize, count: usize, size: usize) -> ReadPlan
     }
 }
 
-fn size_at(bytes: &[u8], at: usize, count: usize) -> ReadPlan
-    requires { ⌜ count ≤ 8 ⌝ }
-    ensures { λ r. ⌜ r ≡ answered (readValue (drop at (now (bytes .entry))) (afterSize count)) ⌝ }
-{
-    match value::read(bytes, at) {
-        Found::Refused(number) => refused(number),
-        Found::Value { value, size } => {
-            if !map::is_four_sizes(value) {
-                return refused(2);
-            }
-            zones_at(bytes, at + size, count, value)
-        }
-    }
-}
-
 // The plan that the bytes are, or the first refusal.
 pub fn read(bytes: &[u8]) -> ReadPlan
     ensures { λ r. ⌜ r ≡ answered (planOf (now (bytes .entry))) ⌝ }
 {
     match value::read(bytes, 0) {
         Found::Refused(number) => refused(number),
-        Found::Value { value, size } => {
-            if value == 0 {
+        Found::Value {
+            value: count,
+            size: at,
+        } => {
+            if !is_up_to(8, count) {
                 return refused(12);
             }
-            if 8 < value {
-                return refused(12);
+            match value::read(bytes, at) {
+                Found::Refused(number) => refused(number),
+                Found::Value {
+                    value: size,
+                    size: n,
+                } => {
+                    if !map::is_four_sizes(size) {
+                        return refused(2);
+                    }
+                    zones_at(bytes, at + n, count, size)
+                }
             }
-            size_at(bytes, size, value)
         }
     }
 }
@@ -303,10 +275,7 @@ fn zones_refusal(plan: Plan) -> u8
 fn plan_refusal(plan: Plan) -> u8
     ensures { λ r. ⌜ r ≡ planRefusal plan ⌝ }
 {
-    if plan.count == 0 {
-        return 12;
-    }
-    if 8 < plan.count {
+    if !is_up_to(8, plan.count) {
         return 12;
     }
     if !are_unused(plan) {
@@ -318,44 +287,20 @@ fn plan_refusal(plan: Plan) -> u8
     zones_refusal(plan)
 }
 
-// How many bytes a zone takes.
-fn zone_size(zone: Zone) -> usize
-    requires { ⌜ Small zone ⌝ }
-    ensures { λ r. ⌜ r ≡ length (zoneBytes zone) ⌝ }
-{
-    value::size(zone.mode) + (value::size(zone.cell) + value::size(zone.slots))
-}
-
-// How many bytes an accepted plan takes.
-fn plan_size(plan: Plan) -> usize
-    requires { ⌜ planRefusal plan ≡ 0 ⌝ }
-    ensures { λ r. ⌜ r ≡ length (planBytes plan) ⌝ }
-{
-    let count = plan.count;
-    let zones = plan.zones;
-    let mut n = value::size(count) + value::size(plan.size);
-    let mut k = 0;
-    while k < count {
-        n += zone_size(zones[k]);
-        k += 1;
-    }
-    n
-}
-
-// Puts a zone at a place where it fits; answers the place after it.
+// Puts a zone at a place, 5 bytes at most; answers the place after it.
 fn put_zone(dest: &mut [u8], at: usize, zone: Zone) -> usize
-    requires { ⌜ Small zone × (at + length (zoneBytes zone) ≤ length (now dest)) ⌝ }
-    ensures { λ r. ⌜ written (now (dest .exit)) r ≡ wrote (now (dest .entry)) at (zoneBytes zone) ⌝ }
+    requires { ⌜ Small zone × (at + 5 ≤ length (now dest)) ⌝ }
+    ensures { λ r. ⌜ Put (now (dest .entry)) at (zoneBytes zone) r (now (dest .exit)) × (r ≤ at + 5) ⌝ }
 {
     let cell = value::write(dest, at, zone.mode);
     let slots = value::write(dest, cell, zone.cell);
     value::write(dest, slots, zone.slots)
 }
 
-// Puts an accepted plan where it fits; answers how many bytes it takes.
+// Puts an accepted plan, 43 bytes at most; answers how many.
 fn put_plan(dest: &mut [u8], plan: Plan) -> usize
-    requires { ⌜ (planRefusal plan ≡ 0) × (length (planBytes plan) ≤ length (now dest)) ⌝ }
-    ensures { λ r. ⌜ written (now (dest .exit)) r ≡ wrote (now (dest .entry)) 0 (planBytes plan) ⌝ }
+    requires { ⌜ (planRefusal plan ≡ 0) × (43 ≤ length (now dest)) ⌝ }
+    ensures { λ r. ⌜ Put (now (dest .entry)) 0 (planBytes plan) r (now (dest .exit)) ⌝ }
 {
     let used = plan.count;
     let zones = plan.zones;
@@ -371,14 +316,16 @@ fn put_plan(dest: &mut [u8], plan: Plan) -> usize
 
 // Writes a plan at the destination's start: how many bytes, or the first refusal.
 pub fn write(plan: Plan, dest: &mut [u8]) -> Written
-    ensures { λ r. ⌜ outcome r (now (dest .exit)) ≡ writeOf plan (now (dest .entry)) ⌝ }
+    ensures { λ r. ⌜ written r (now (dest .exit)) ≡ writeOf plan (now (dest .entry)) ⌝ }
 {
     let number = plan_refusal(plan);
     if number != 0 {
         return Written::Refused(number);
     }
-    if dest.len() < plan_size(plan) {
+    let mut bytes = [0u8; 43];
+    let n = put_plan(&mut bytes, plan);
+    if dest.len() < n {
         return Written::Refused(16);
     }
-    Written::Bytes(put_plan(dest, plan))
+    Written::Bytes(text::put_bytes(dest, 0, &bytes[..n]))
 }

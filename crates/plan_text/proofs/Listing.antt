@@ -1,84 +1,26 @@
--- The lines of zones, one behind the other.
-use mathlib.Core.Path.{_≡_, refl, sym, ap, _∙_}
-use mathlib.Core.List.{List, [], _∷_, _++_, append-assoc, append-nil}
-use Prim.Native.Nat.{ℕ, _+_, _*_, _<_, _≤_}
+-- The text of what reading a plan answers.
+use mathlib.Core.Path.{_≡_, ap, _∙_}
+use mathlib.Core.List.{List}
+use Prim.Native.Nat.{ℕ, _+_, _≤_}
 use native.Mathlib.Omega.{arith}
-use native.Mathlib.Numerals.{add-one}
-use lib.ListN.{length, take, drop, getD, length-append}
-use lib.Seq.{take-suc, take-all}
+use lib.ListN.{length, drop, length-append}
 use borrow.Author.Tests.{eq-eqb, ne-eqb}
-use Rattle.text.specs.Text.{Written, written, put, wrote}
-use Rattle.text.proofs.Laws.{put-none, wrote-next, wrote-bytes, wrote-more}
-use Rattle.plan.specs.declared.Zone.{Zone}
+use Rattle.text.specs.Text.{put, Put}
 use Rattle.plan.specs.declared.ReadPlan.{ReadPlan}
-use Rattle.plan.specs.Zone.{unused}
 use Rattle.plan.specs.Write.{usedZones}
-use Rattle.plan_text.specs.Lines.{lineOf, linesOf, refusalLine, textOf}
-
-lines-append : (xs ys : List Zone) → linesOf (xs ++ ys) ≡ linesOf xs ++ linesOf ys
-unfolding linesOf
-lines-append [] ys = refl
-lines-append (x ∷ xs) ys = ap (λ l. lineOf x ++ l) (lines-append xs ys) ∙ sym (append-assoc (lineOf x) (linesOf xs) (linesOf ys))
-
--- the first zones and one more
-lines-more : (zones : List Zone) (k : ℕ) → k < length zones → linesOf (take (k + 1) zones) ≡ linesOf (take k zones) ++ lineOf (getD zones k unused)
-unfolding linesOf
-lines-more zones k h =
-    rw (add-one, take-suc zones k unused h)
-    (lines-append (take k zones) (getD zones k unused ∷ []) ∙ ap (λ l. linesOf (take k zones) ++ l) (append-nil (lineOf (getD zones k unused))))
-
--- While lines are put: those of the first k zones stand at the start.
-pub record Listing (d : List ℕ) (count : ℕ) (zones : List Zone) (dest : List ℕ) (at k : ℕ) : Type 0 where
-  pub places : length zones ≡ 8
-  pub within : k ≤ 8
-  pub below : k ≤ count
-  pub room : 504 ≤ length d
-  pub kept : length dest ≡ length d
-  pub so-far : at ≤ 63 * k
-  pub done : written dest at ≡ wrote d 0 (linesOf (take k zones))
-
-pub listing : (d : List ℕ) (count : ℕ) (zones : List Zone) → length zones ≡ 8 → 504 ≤ length d → Listing d count zones d 0 0
-unfolding linesOf
-listing d count zones p r =
-    record { places = p; within = omega arith; below = omega arith; room = r; kept = refl; so-far = omega arith; done = ap (λ l. written l 0) (sym (put-none d 0)) }
-
-module _ {d : List ℕ} {count : ℕ} {zones : List Zone} {dest : List ℕ} {at k : ℕ} (h : Listing d count zones dest at k) where
-  pub list-again : {dest₁ : List ℕ} {at₁ : ℕ} → k < 8 → k < count → length dest₁ ≡ length dest → written dest₁ at₁ ≡ wrote dest at (lineOf (getD zones k unused)) → at₁ ≤ at + 63
-      → Listing d count zones dest₁ at₁ (k + 1)
-  list-again {dest₁} {at₁} l m e w b =
-      record {
-        places = h .places;
-        within = omega arith;
-        below = omega arith;
-        room = h .room;
-        kept = e ∙ h .kept;
-        so-far = omega (arith, h .so-far);
-        done =
-            rw (lines-more zones k (omega (arith, h .places)))
-            (wrote-more d 0 (linesOf (take k zones)) (lineOf (getD zones k unused)) dest dest₁ at at₁ (omega arith) (h .done) w);
-      }
-
-  -- all zones of the count, or all that there are
-  pub listed : count ≤ k → written dest at ≡ wrote d 0 (linesOf (take count zones))
-  listed l = let e : k ≡ count = omega (arith, h .below) in rw e at (h .done)
-
-  pub listed-all : 8 ≤ k → written dest at ≡ wrote d 0 (linesOf (take count zones))
-  listed-all l =
-      let e : take k zones ≡ take count zones = take-all k zones (omega (arith, h .places)) ∙ sym (take-all count zones (omega (arith, h .places, h .below))) in
-      rw e at (h .done)
+use Rattle.plan_text.specs.Lines.{linesOf, refusalLine, textOf}
 
 -- the two kinds of answer
-module _ (d : List ℕ) (answer : ReadPlan) {w : Written} where
-  pub text-refused : (answer .refusal ≡ 0 → ⊥) → w ≡ wrote d 0 (refusalLine (answer .refusal)) → w ≡ wrote d 0 (textOf answer)
+module _ (answer : ReadPlan) {d after : List ℕ} {next : ℕ} where
+  pub text-refused : (answer .refusal ≡ 0 → ⊥) → Put d 0 (refusalLine (answer .refusal)) next after → Put d 0 (textOf answer) next after
   unfolding textOf
-  text-refused h e = rw (ne-eqb (answer .refusal) 0 h) e
+  text-refused h p = rw (ne-eqb (answer .refusal) 0 h) p
 
-  pub text-zones : answer .refusal ≡ 0 → w ≡ wrote d 0 (linesOf (usedZones (answer .plan))) → w ≡ wrote d 0 (textOf answer)
+  pub text-zones : answer .refusal ≡ 0 → Put d 0 (linesOf (usedZones (answer .plan))) next after → Put d 0 (textOf answer) next after
   unfolding textOf
-  text-zones h e = rw (eq-eqb (answer .refusal) 0 h) e
+  text-zones h p = rw (eq-eqb (answer .refusal) 0 h) p
 
 -- a text put at the start ends within a buffer that kept its length
-pub end-within : (d text dest : List ℕ) (end : ℕ) → written dest end ≡ wrote d 0 text → length dest ≡ length d → end ≤ length d
+pub end-within : {d text after : List ℕ} {end : ℕ} → Put d 0 text end after → length after ≡ length d → end ≤ length d
 unfolding put
-end-within d text dest end w e =
-    omega (arith, e, wrote-next d 0 text dest end w, ap length (wrote-bytes d 0 text dest end w) ∙ length-append text (drop (0 + length text) d))
+end-within {d} {text} p e = omega (arith, e, p .next-is, ap length (p .after-is) ∙ length-append text (drop (0 + length text) d))

@@ -6,6 +6,7 @@ use Rattle.base.specs.Choice.{pick}
 use Rattle.text.specs.Text.{decimal}
 use Rattle.plan.specs.declared.Zone.{Zone}
 use Rattle.plan.specs.declared.ReadPlan.{ReadPlan}
+use Rattle.plan.specs.Zone.{each}
 use Rattle.plan.specs.Write.{usedZones}
 
 -- in ASCII
@@ -16,23 +17,22 @@ abbrev pub lineFeed : ℕ
 lineFeed = 10
 
 -- a number in base ten and one byte behind it
-abbrev pub field : ℕ → ℕ → List ℕ
-field x mark = decimal x ++ (mark ∷ [])
+abbrev pub field : (number mark : ℕ) → List ℕ
+field number mark = decimal number ++ (mark ∷ [])
 
-unfoldable pub lineOf : Zone → List ℕ
+unfoldable pub lineOf : (zone : Zone) → List ℕ
 lineOf zone = field (zone .mode) space ++ (field (zone .cell) space ++ field (zone .slots) lineFeed)
 
-unfoldable pub linesOf : List Zone → List ℕ
-linesOf [] = []
-linesOf (zone ∷ zones) = lineOf zone ++ linesOf zones
+abbrev pub linesOf : (zones : List Zone) → List ℕ
+linesOf zones = each lineOf zones
 
 -- "refused " in ASCII
 abbrev pub refusedWord : List ℕ
 refusedWord = 114 ∷ 101 ∷ 102 ∷ 117 ∷ 115 ∷ 101 ∷ 100 ∷ space ∷ []
 
-unfoldable pub refusalLine : ℕ → List ℕ
+unfoldable pub refusalLine : (number : ℕ) → List ℕ
 refusalLine number = refusedWord ++ field number lineFeed
 
 -- the text of an answer of `read`
-unfoldable pub textOf : ReadPlan → List ℕ
+unfoldable pub textOf : (answer : ReadPlan) → List ℕ
 textOf answer = pick (eqb (answer .refusal) 0) (linesOf (usedZones (answer .plan))) (refusalLine (answer .refusal))

@@ -5,14 +5,14 @@ use plan::Zone;
 ghost use mathlib.Core.Path.{_≡_};
 ghost use Prim.Native.Nat.{_+_, _≤_};
 ghost use lib.ListN.{length};
-ghost use Rattle.text.specs.Text.{written, wrote};
+ghost use Rattle.text.specs.Text.{Put};
 ghost use Rattle.plan.specs.Write.{usedZones};
 ghost use Rattle.plan_text.specs.Lines.{field, lineOf, linesOf, refusalLine, textOf};
 
 // Puts a number in base ten and one byte behind it; 21 bytes at most.
 fn put_field(dest: &mut [u8], at: usize, x: usize, mark: u8) -> usize
     requires { ⌜ at + 21 ≤ length (now dest) ⌝ }
-    ensures { λ r. ⌜ (written (now (dest .exit)) r ≡ wrote (now (dest .entry)) at (field x mark)) × (r ≤ at + 21) ⌝ }
+    ensures { λ r. ⌜ (Put (now (dest .entry)) at (field x mark) r (now (dest .exit))) × (r ≤ at + 21) ⌝ }
 {
     let next = text::put_number(dest, at, x);
     text::put_byte(dest, next, mark)
@@ -21,7 +21,7 @@ fn put_field(dest: &mut [u8], at: usize, x: usize, mark: u8) -> usize
 // Puts a zone's line; 63 bytes at most.
 fn put_line(dest: &mut [u8], at: usize, zone: Zone) -> usize
     requires { ⌜ at + 63 ≤ length (now dest) ⌝ }
-    ensures { λ r. ⌜ (written (now (dest .exit)) r ≡ wrote (now (dest .entry)) at (lineOf zone)) × (r ≤ at + 63) ⌝ }
+    ensures { λ r. ⌜ (Put (now (dest .entry)) at (lineOf zone) r (now (dest .exit))) × (r ≤ at + 63) ⌝ }
 {
     let cell = put_field(dest, at, zone.mode, b' ');
     let slots = put_field(dest, cell, zone.cell, b' ');
@@ -31,7 +31,7 @@ fn put_line(dest: &mut [u8], at: usize, zone: Zone) -> usize
 // Puts a line for each zone of the plan.
 fn put_zones(dest: &mut [u8], plan: Plan) -> usize
     requires { ⌜ 504 ≤ length (now dest) ⌝ }
-    ensures { λ r. ⌜ written (now (dest .exit)) r ≡ wrote (now (dest .entry)) 0 (linesOf (usedZones plan)) ⌝ }
+    ensures { λ r. ⌜ Put (now (dest .entry)) 0 (linesOf (usedZones plan)) r (now (dest .exit)) ⌝ }
 {
     let count = plan.count;
     let zones = plan.zones;
@@ -49,7 +49,7 @@ fn put_zones(dest: &mut [u8], plan: Plan) -> usize
 
 fn put_refusal(dest: &mut [u8], number: u8) -> usize
     requires { ⌜ 504 ≤ length (now dest) ⌝ }
-    ensures { λ r. ⌜ written (now (dest .exit)) r ≡ wrote (now (dest .entry)) 0 (refusalLine number) ⌝ }
+    ensures { λ r. ⌜ Put (now (dest .entry)) 0 (refusalLine number) r (now (dest .exit)) ⌝ }
 {
     let at = text::put_bytes(dest, 0, b"refused ");
     put_field(dest, at, number as usize, b'\n')
@@ -58,7 +58,7 @@ fn put_refusal(dest: &mut [u8], number: u8) -> usize
 // Puts the text of what reading a plan answers, where eight lines of 63 bytes have room; answers its length.
 pub fn lines(answer: ReadPlan, dest: &mut [u8]) -> usize
     requires { ⌜ 504 ≤ length (now dest) ⌝ }
-    ensures { λ r. ⌜ written (now (dest .exit)) r ≡ wrote (now (dest .entry)) 0 (textOf answer) ⌝ }
+    ensures { λ r. ⌜ Put (now (dest .entry)) 0 (textOf answer) r (now (dest .exit)) ⌝ }
 {
     if answer.refusal != 0 {
         return put_refusal(dest, answer.refusal);

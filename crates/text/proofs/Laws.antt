@@ -11,7 +11,7 @@ use lib.Dec.{ltb}
 use lib.ListN.{length, getD, take, drop, set, length-append, take-append-drop}
 use lib.Seq.{take-length, take-suc, set-split, drop-cons, set-at, append-snoc, take-at, drop-at, drop-drop, length-take-le}
 use borrow.Author.Tests.{ltb-true, ltb-false, lt-ltb, le-ltb}
-use Rattle.text.specs.Text.{digits, decimal, Written, written, put, wrote}
+use Rattle.text.specs.Text.{digits, decimal, put, Put}
 
 -- ---- digits
 
@@ -117,27 +117,17 @@ put-put dest at a b h =
 
 -- ---- what the `put_` functions answer
 
-same : {b b′ : List ℕ} {n n′ : ℕ} → b ≡ b′ → n ≡ n′ → written b n ≡ written b′ n′
-same e f = cc
+-- a second text behind a first, and a third
+pub put-then : {d d₁ d₂ : List ℕ} {at q r : ℕ} (a b : List ℕ) → at ≤ length d → Put d at a q d₁ → Put d₁ q b r d₂ → Put d at (a ++ b) r d₂
+put-then {d} {at = at} a b h x y =
+    record { next-is = omega (arith, x .next-is, y .next-is, length-append a b); after-is = y .after-is ∙ rw (x .after-is, x .next-is) (put-put d at a b h) }
 
-pub wrote-next : (dest : List ℕ) (at : ℕ) (text b : List ℕ) (n : ℕ) → written b n ≡ wrote dest at text → n ≡ at + length text
-wrote-next dest at text b n w = ap (λ (x : Written). x .next) w
+pub put-three : {d d₁ d₂ d₃ : List ℕ} {at p q r : ℕ} (a b c : List ℕ) → at ≤ length d → Put d at a p d₁ → Put d₁ p b q d₂ → Put d₂ q c r d₃ → Put d at (a ++ (b ++ c)) r d₃
+put-three a b c h x y z = rw (← append-assoc a b c) (put-then (a ++ b) c h (put-then a b h x y) z)
 
-pub wrote-bytes : (dest : List ℕ) (at : ℕ) (text b : List ℕ) (n : ℕ) → written b n ≡ wrote dest at text → b ≡ put dest at text
-wrote-bytes dest at text b n w = ap (λ (x : Written). x .bytes) w
-
--- a second text behind a first
-pub wrote-more : (dest : List ℕ) (at : ℕ) (a b d e : List ℕ) (m n : ℕ) → at ≤ length dest
-    → written d m ≡ wrote dest at a → written e n ≡ wrote d m b → written e n ≡ wrote dest at (a ++ b)
-wrote-more dest at a b d e m n h first second =
-    let next : m ≡ at + length a = wrote-next dest at a d m first in
-    same
-    (wrote-bytes d m b e n second ∙ rw (wrote-bytes dest at a d m first, next) (put-put dest at a b h))
-    (wrote-next d m b e n second ∙ rw (next, length-append) (add-assoc at (length a) (length b)))
-
-pub one-byte : (dest : List ℕ) (at byte : ℕ) → at < length dest → written (set dest at byte) (at + 1) ≡ wrote dest at (byte ∷ [])
+pub one-byte : (dest : List ℕ) (at byte : ℕ) → at < length dest → Put dest at (byte ∷ []) (at + 1) (set dest at byte)
 unfolding put
-one-byte dest at byte h = same (set-split dest at byte h ∙ sym (append-snoc (take at dest) byte (drop (suc at) dest)) ∙ rw add-one) refl
+one-byte dest at byte h = record { next-is = refl; after-is = set-split dest at byte h ∙ sym (append-snoc (take at dest) byte (drop (suc at) dest)) ∙ rw add-one }
 
 -- a turn of the copying loop
 pub put-next : (dest : List ℕ) (at : ℕ) (text : List ℕ) (i : ℕ) → at + length text ≤ length dest → i < length text
@@ -152,25 +142,15 @@ put-next dest at text i room h =
 pub length-more : (x : ℕ) → 10 ≤ x → length (decimal x) ≡ length (decimal (x / 10)) + 1
 length-more x h = rw (decimal-more x h) (length-append (decimal (x / 10)) ((48 + x % 10) ∷ []))
 
-pub one-digit : (dest : List ℕ) (at x : ℕ) (w : Written) → x < 10 → w ≡ wrote dest at ((48 + x) ∷ []) → w ≡ wrote dest at (decimal x)
-one-digit dest at x w h e = rw (decimal-one x h) e
+pub one-digit : {d a : List ℕ} {at n x : ℕ} → x < 10 → Put d at ((48 + x) ∷ []) n a → Put d at (decimal x) n a
+one-digit {x = x} h p = rw (decimal-one x h) p
 
-pub more-digits : (dest : List ℕ) (at x : ℕ) (d e : List ℕ) (m n : ℕ) → 10 ≤ x → at + length (decimal x) ≤ length dest
-    → written d m ≡ wrote dest at (decimal (x / 10)) → written e n ≡ wrote d m ((48 + x % 10) ∷ []) → written e n ≡ wrote dest at (decimal x)
-more-digits dest at x d e m n h room first second =
-    rw (decimal-more x h) (wrote-more dest at (decimal (x / 10)) ((48 + x % 10) ∷ []) d e m n (omega arith) first second)
-
-pub room-more : (dest : List ℕ) (at x m : ℕ) (d : List ℕ) → 10 ≤ x → at + length (decimal x) ≤ length dest
-    → written d m ≡ wrote dest at (decimal (x / 10)) → m < length dest
-room-more dest at x m d h room first =
-    omega (arith, length-more x h, wrote-next dest at (decimal (x / 10)) d m first)
-
-pub room-one : (n at x : ℕ) → x < 10 → at + length (decimal x) ≤ n → at < n
-room-one n at x h room = omega (arith, ap length (decimal-one x h))
+pub more-digits : {d d₁ d₂ : List ℕ} {at m n : ℕ} (x : ℕ) → 10 ≤ x → at ≤ length d → Put d at (decimal (x / 10)) m d₁ → Put d₁ m ((48 + x % 10) ∷ []) n d₂ → Put d at (decimal x) n d₂
+more-digits x h room first second = rw (decimal-more x h) (put-then (decimal (x / 10)) ((48 + x % 10) ∷ []) room first second)
 
 -- the copying loop at its end
 pub all-bytes : (dest : List ℕ) (at : ℕ) (text d : List ℕ) (i : ℕ) → i ≤ length text → length text ≤ i → d ≡ put dest at (take i text)
-    → written d (at + i) ≡ wrote dest at text
+    → Put dest at text (at + i) d
 all-bytes dest at text d i h g e =
     let end : i ≡ length text = omega arith in
-    same (e ∙ rw (end, take-length)) (rw end)
+    record { next-is = rw end; after-is = e ∙ rw (end, take-length) }

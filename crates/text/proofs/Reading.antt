@@ -1,18 +1,17 @@
 -- Laws of numbers read from text.
-use Prim.Native.Nat.{ℕ, zero, suc, _+_, _-_, _^_, _/_, _%_, _<_, _≤_}
-use native.Mathlib.Nat.{add-assoc}
+use Prim.Native.Nat.{ℕ, suc, _+_, _-_, _<_, _≤_}
 use native.Mathlib.Numerals.{add-one}
 use native.Mathlib.Omega.{arith}
 use mathlib.Core.Logic.{⊎-elim}
 use mathlib.Core.Path.{_≡_, refl, ap, _∙_}
 use mathlib.Core.Bool.{true, false}
-use mathlib.Core.List.{List, [], _∷_, _++_}
+use mathlib.Core.List.{List, [], _∷_}
 use lib.ListN.{length, getD, drop, drop-of-length-le, List·getD-eq-default}
-use lib.Seq.{drop-cons, append-snoc}
+use lib.Seq.{drop-cons}
 use lib.Dec.{eqb}
 use borrow.Author.Tests.{lt-ltb, le-ltb}
-use Rattle.text.proofs.Laws.{below, decimal-one, decimal-more, length-more}
-use Rattle.text.specs.Text.{decimal, found, digitOf, withDigit, readOn, pastSpaces}
+use Rattle.text.proofs.Laws.{below}
+use Rattle.text.specs.Text.{found, digitOf, withDigit, readOn, pastSpaces}
 
 pub digit-low : (byte : ℕ) → byte < 48 → digitOf byte ≡ 10
 unfolding digitOf
@@ -76,37 +75,3 @@ space-none src at inside h = ap (pastSpaces at) (drop-cons src at 0 inside) ∙ 
 pub space-end : (src : List ℕ) (at : ℕ) → length src ≤ at → pastSpaces at (drop at src) ≡ at
 unfolding pastSpaces
 space-end src at past = ap (pastSpaces at) (drop-of-length-le src past)
-
--- a number's last digit, read
-read-last : (x next : ℕ) (rest : List ℕ) → x < 2 ^ 64 → readOn (x / 10) next ((48 + x % 10) ∷ rest) ≡ readOn x (next + 1) rest
-unfolding withDigit
-read-last x next rest fits =
-    let digit : digitOf (48 + x % 10) ≡ x % 10 = digit-in (48 + x % 10) (omega arith) (omega arith) ∙ omega arith in
-    let small : digitOf (48 + x % 10) < 10 = rw digit (omega arith) in
-    let whole : withDigit (x / 10) (x % 10) ≡ x = omega arith in
-    read-digit (x / 10) next (48 + x % 10) rest small ∙ rw (digit, whole, add-one)
-
-read-one : (x next : ℕ) (rest : List ℕ) → x < 2 ^ 64 → x < 10 → readOn 0 next (decimal x ++ rest) ≡ readOn x (next + length (decimal x)) rest
-read-one x next rest fits small =
-    let none : x / 10 ≡ 0 = omega arith in
-    let all : x % 10 ≡ x = omega arith in
-    rw (decimal-one x small) (rw (none, all) at (read-last x next rest fits))
-
--- k is a bound that falls in the proof
-read-back-to : (k x next : ℕ) (rest : List ℕ) → x ≤ k → x < 2 ^ 64 → readOn 0 next (decimal x ++ rest) ≡ readOn x (next + length (decimal x)) rest
-read-back-to zero x next rest h fits = read-one x next rest fits (omega arith)
-read-back-to (suc k) x next rest h fits =
-    ⊎-elim
-    (λ small. read-one x next rest fits small)
-    (λ large.
-    let long : length (decimal x) ≡ length (decimal (x / 10)) + 1 = length-more x large in
-    ap (λ (l : List ℕ). readOn 0 next (l ++ rest)) (decimal-more x large)
-    ∙ ap (readOn 0 next) (append-snoc (decimal (x / 10)) (48 + x % 10) rest)
-    ∙ read-back-to k (x / 10) next ((48 + x % 10) ∷ rest) (omega arith) (omega arith)
-    ∙ read-last x (next + length (decimal (x / 10))) rest fits
-    ∙ rw (long, add-assoc next (length (decimal (x / 10))) 1))
-    (below x 10)
-
--- a number put and read again is the same number
-pub read-back : (x next : ℕ) (rest : List ℕ) → x < 2 ^ 64 → readOn 0 next (decimal x ++ rest) ≡ readOn x (next + length (decimal x)) rest
-read-back x next rest fits = read-back-to x x next rest (omega arith) fits

@@ -1,18 +1,18 @@
 // Text in byte buffers: bytes and numbers in base ten put one behind the other, and read back.
 //
 // Each `put_` function answers the place after what it wrote, where the next one goes on. Its
-// contract is one equation: the buffer and that place are those of `wrote`.
+// contract is `Put`: the text at the place, all else as it was, and that answer.
 ghost use mathlib.Core.Path.{_≡_};
 ghost use mathlib.Core.List.{[], _∷_};
 ghost use Prim.Native.Nat.{_+_, _≤_, _<_};
 ghost use lib.ListN.{length, getD, drop};
-ghost use Rattle.text.specs.Text.{decimal, written, wrote};
+ghost use Rattle.text.specs.Text.{decimal, Put};
 ghost use Rattle.text.specs.Text.{found, digitOf, withDigit, pastSpaces, numberAt};
 
 // Puts one byte.
 pub fn put_byte(dest: &mut [u8], at: usize, byte: u8) -> usize
     requires { ⌜ at < length (now dest) ⌝ }
-    ensures { λ r. ⌜ written (now (dest .exit)) r ≡ wrote (now (dest .entry)) at (byte ∷ []) ⌝ }
+    ensures { λ r. ⌜ Put (now (dest .entry)) at (byte ∷ []) r (now (dest .exit)) ⌝ }
 {
     dest[at] = byte;
     at + 1
@@ -21,7 +21,7 @@ pub fn put_byte(dest: &mut [u8], at: usize, byte: u8) -> usize
 // Puts all bytes of `bytes`.
 pub fn put_bytes(dest: &mut [u8], at: usize, bytes: &[u8]) -> usize
     requires { ⌜ at + length (now bytes) ≤ length (now dest) ⌝ }
-    ensures { λ r. ⌜ written (now (dest .exit)) r ≡ wrote (now (dest .entry)) at (now (bytes .entry)) ⌝ }
+    ensures { λ r. ⌜ Put (now (dest .entry)) at (now (bytes .entry)) r (now (dest .exit)) ⌝ }
 {
     let mut i = 0;
     while i < bytes.len() {
@@ -34,7 +34,7 @@ pub fn put_bytes(dest: &mut [u8], at: usize, bytes: &[u8]) -> usize
 // Puts x in base ten: 20 digits at most.
 pub fn put_number(dest: &mut [u8], at: usize, x: usize) -> usize
     requires { ⌜ at + 20 ≤ length (now dest) ⌝ }
-    ensures { λ r. ⌜ written (now (dest .exit)) r ≡ wrote (now (dest .entry)) at (decimal x) ⌝ }
+    ensures { λ r. ⌜ Put (now (dest .entry)) at (decimal x) r (now (dest .exit)) ⌝ }
 {
     put_digits(dest, at, x)
 }
@@ -42,7 +42,7 @@ pub fn put_number(dest: &mut [u8], at: usize, x: usize) -> usize
 // The same where there is just room for the digits.
 fn put_digits(dest: &mut [u8], at: usize, x: usize) -> usize
     requires { ⌜ at + length (decimal x) ≤ length (now dest) ⌝ }
-    ensures { λ r. ⌜ written (now (dest .exit)) r ≡ wrote (now (dest .entry)) at (decimal x) ⌝ }
+    ensures { λ r. ⌜ Put (now (dest .entry)) at (decimal x) r (now (dest .exit)) ⌝ }
 {
     if x < 10 {
         return put_byte(dest, at, 48 + x as u8);

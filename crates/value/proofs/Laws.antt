@@ -1,18 +1,16 @@
 -- The laws of the values of a plan file.
 use mathlib.Core.Path.{_≡_, refl, sym, ap, _∙_}
-use mathlib.Core.List.{List, [], _∷_, _++_, append-assoc}
+use mathlib.Core.List.{List, [], _∷_, _++_}
 use Prim.Native.Nat.{ℕ, zero, suc, _+_, _*_, _/_, _%_, _<_, _≤_}
 use native.Mathlib.Omega.{arith}
 use lib.Dec.{ltb}
-use lib.ListN.{length, take, drop, getD, length-append, length-drop, drop-of-length-le}
-use lib.Seq.{drop-at, length-take-le}
+use lib.ListN.{length, take, drop, length-append, length-take}
+use lib.Seq.{getD-append-add}
 use borrow.Author.Tests.{ltb-true, ltb-false, lt-ltb, le-ltb}
-use Rattle.text.specs.Text.{written, put, wrote}
-use Rattle.text.proofs.Laws.{wrote-next, wrote-bytes, wrote-more}
 use Rattle.base.specs.Answer.{Answer, accepted, refused}
 use Rattle.base.proofs.Chain.{ask-yes, same-accepted}
 use Rattle.base.proofs.Test.{cases}
-use Rattle.value.specs.Value.{Value, more, valueIn, valueOf, encodeIn, encode}
+use Rattle.value.specs.Value.{Bytes, Value, more, valueIn, valueOf, encodeIn, encode}
 
 -- A first byte that is the last one, and one that more follow, whose further groups are worth something or nothing.
 module _ (g a : ℕ) (s : List ℕ) where
@@ -67,61 +65,30 @@ read-written x rest h =
         rw (encode-3 x m h, follow 2 (x % 128 + 128) ((x / 128 % 128 + 128) ∷ x / 16384 ∷ rest) (omega arith), follow 1 (x / 128 % 128 + 128) (x / 16384 ∷ rest) (omega arith), last 0 (x / 16384) rest (omega arith), some (x / 128 % 128 + 128) (x / 16384) 1 (λ z. omega arith))
         (some (x % 128 + 128) ((x / 128 % 128 + 128) % 128 + 128 * (x / 16384)) 2 (λ z. omega arith) ∙ ap (λ y. accepted (record { value = y; size = 3 })) (omega arith))
 
--- So it is where it was put into a buffer.
-pub read-put : (dest : List ℕ) (at x : ℕ) → x < 2097152 → at ≤ length dest → valueOf (drop at (put dest at (encode x))) ≡ accepted (record { value = x; size = length (encode x) })
-unfolding put
-read-put dest at x h fits =
-    rw (append-assoc (take at dest) (encode x) (drop (at + length (encode x)) dest), drop-at (take at dest) (encode x ++ drop (at + length (encode x)) dest) at (length-take-le at dest fits))
-    (read-written x (drop (at + length (encode x)) dest) h)
-
 -- how many bytes a value takes
 module _ (x : ℕ) where
   pub size-1 : x < 128 → 1 ≡ length (encode x)
   size-1 h = rw (encode-1 x h)
 
-  pub size-2 : 128 ≤ x → x < 16384 → 2 ≡ length (encode x)
+  size-2 : 128 ≤ x → x < 16384 → 2 ≡ length (encode x)
   size-2 m h = rw (encode-2 x m h)
 
-  pub size-3 : 16384 ≤ x → x < 2097152 → 3 ≡ length (encode x)
-  size-3 m h = rw (encode-3 x m h)
+pub size-two : (x : ℕ) → x < 16384 → length (encode x) ≤ 2
+size-two x h = cases (ltb x 128) (λ e. omega (arith, size-1 x (ltb-true x 128 e))) (λ e. omega (arith, size-2 x (ltb-false x 128 e) h))
 
-most : (g x : ℕ) → length (encodeIn g x) ≤ g
-unfolding encodeIn
-most zero x = omega arith
-most (suc g) x = cases (ltb x 128) (λ e. rw e (omega arith)) (λ e. let h = most g (x / 128) in rw e (omega arith))
+-- What was read is written again: as many bytes, and the same where they are bytes.
+pub record Again (written read : List ℕ) : Type 0 where
+  pub length-is : length written ≡ length read
+  pub same : Bytes read → written ≡ read
 
-pub size-most : (x : ℕ) → length (encode x) ≤ 3
-size-most x = most 3 x
-
--- Bytes that were put, taken apart: the place after them, and the buffer.
-pub record Put (d : List ℕ) (at : ℕ) (bytes : List ℕ) (next : ℕ) (after : List ℕ) : Type 0 where
-  pub next-is : next ≡ at + length bytes
-  pub after-is : after ≡ put d at bytes
-
-pub put-of : (d : List ℕ) (at : ℕ) (bytes after : List ℕ) (next : ℕ) → written after next ≡ wrote d at bytes → Put d at bytes next after
-put-of d at bytes after next e = record { next-is = wrote-next d at bytes after next e; after-is = wrote-bytes d at bytes after next e }
-
-pub of-put : {d : List ℕ} {at : ℕ} {bytes after : List ℕ} {next : ℕ} → Put d at bytes next after → written after next ≡ wrote d at bytes
-of-put p = let e = p .next-is in let f = p .after-is in cc
-
-pub put-next : {d d₁ d₂ : List ℕ} {at q r : ℕ} (a b : List ℕ) → at ≤ length d → Put d at a q d₁ → Put d₁ q b r d₂ → Put d at (a ++ b) r d₂
-put-next {d} {d₁} {d₂} {at} {q} {r} a b h x y = put-of d at (a ++ b) d₂ r (wrote-more d at a b d₁ d₂ q r h (of-put x) (of-put y))
-
-pub put-three : {d d₁ d₂ d₃ : List ℕ} {at p q r : ℕ} (a b c : List ℕ) → at ≤ length d → Put d at a p d₁ → Put d₁ p b q d₂ → Put d₂ q c r d₃ → Put d at (a ++ (b ++ c)) r d₃
-put-three a b c h x y z = rw (← append-assoc a b c) (put-next (a ++ b) c h (put-next a b h x y) z)
-
-pub put-length : (d : List ℕ) (at : ℕ) (bytes : List ℕ) → at + length bytes ≤ length d → length (put d at bytes) ≡ length d
-unfolding put
-put-length d at bytes h = rw (length-append, length-append, length-take-le at d (omega arith), length-drop) (omega arith)
-
--- bytes are numbers below 256
-abbrev pub Bytes : List ℕ → Type 0
-Bytes s = (k : ℕ) → getD s k 0 < 256
-
--- A value that was read is written as the same bytes.
-pub record Same (groups : ℕ) (s : List ℕ) (v : Value) : Type 0 where
-  pub size-is : v .size ≡ length (encodeIn groups (v .value))
-  pub bytes : encodeIn groups (v .value) ++ drop (v .size) s ≡ s
+-- and so is what follows the first that was read
+pub again-then : {s after written : List ℕ} (first : List ℕ) → Again (first ++ after) s → Again written after → Again (first ++ written) s
+again-then {s} {after} {written} first a b =
+    record {
+      length-is = omega (arith, length-append first written, b .length-is, length-append first after, a .length-is);
+      same = λ bytes. let e = a .same bytes in
+          ap (λ l. first ++ l) (b .same (λ k. rw (← getD-append-add first after k 0, e) (bytes (length first + k)))) ∙ e;
+    }
 
 -- a value whose first byte more follow: its further groups are worth something
 record Followed (a : ℕ) (rest : Answer Value) (v : Value) : Type 0 where
@@ -137,7 +104,7 @@ followed a (accepted w) e =
 followed a (refused k) e = absurd (let z : _≡_ {A = ℕ} 0 1 = cc in omega arith)
 
 -- A value that was read lies within the bytes.
-size-within : (g : ℕ) (s : List ℕ) {v : Value} → valueIn g s ≡ accepted v → v .size ≤ length s
+pub size-within : (g : ℕ) (s : List ℕ) {v : Value} → valueIn g s ≡ accepted v → v .size ≤ length s
 unfolding valueIn
 size-within zero s e = absurd (let z : _≡_ {A = ℕ} 0 1 = cc in omega arith)
 size-within (suc g) [] e = absurd (let z : _≡_ {A = ℕ} 0 1 = cc in omega arith)
@@ -148,44 +115,42 @@ size-within (suc g) (a ∷ s) {v} e =
     let h = size-within g s (f .rest-is) in
     rw (f .value-is) (omega arith))
 
-pub within : (s : List ℕ) (at : ℕ) {v : Value} → valueOf (drop at s) ≡ accepted v → at + v .size ≤ length s
+-- It is decided by as many bytes as it may have groups, and takes no more.
+pub first-decide : (g k : ℕ) (s : List ℕ) → g ≤ k → valueIn g (take k s) ≡ valueIn g s
 unfolding valueIn
-within s at e =
-    cases (ltb at (length s))
-    (λ l. omega (arith, ltb-true at (length s) l, rw length-drop at (size-within 3 (drop at s) e)))
-    (λ m. absurd (none (rw (drop-of-length-le s (ltb-false at (length s) m)) at e)))
-  where
-    none : {w : Value} → valueOf [] ≡ accepted w → ⊥
-    none q = let z : _≡_ {A = ℕ} 0 1 = cc in omega arith
+first-decide zero k s h = refl
+first-decide (suc g) zero s h = absurd (omega arith)
+first-decide (suc g) (suc k) [] h = refl
+first-decide (suc g) (suc k) (a ∷ s) h = rw (first-decide g k s (omega arith))
 
-more-byte : (g a x : ℕ) → a < 256 → 128 ≤ a → 0 < x → encodeIn (suc g) (a % 128 + 128 * x) ≡ a ∷ encodeIn g x
+pub at-most-three : (s : List ℕ) {v : Value} → valueOf s ≡ accepted v → v .size ≤ 3
+at-most-three s e = omega (arith, size-within 3 (take 3 s) (first-decide 3 3 s (omega arith) ∙ e), length-take 3 s)
+
+-- A value that was read is written again.
+more-byte : (g a x : ℕ) → 0 < x → encodeIn (suc g) (a % 128 + 128 * x) ≡ (a % 128 + 128) ∷ encodeIn g x
 unfolding encodeIn
-more-byte g a x b m w = rw (le-ltb (a % 128 + 128 * x) 128 (omega arith), low, high)
+more-byte g a x w = rw (le-ltb (a % 128 + 128 * x) 128 (omega arith), low, high)
   where
-    low : (a % 128 + 128 * x) % 128 + 128 ≡ a
+    low : (a % 128 + 128 * x) % 128 + 128 ≡ a % 128 + 128
     low = omega arith
 
     high : (a % 128 + 128 * x) / 128 ≡ x
     high = omega arith
 
-one-byte : (g a : ℕ) → a < 128 → encodeIn (suc g) a ≡ a ∷ []
-unfolding encodeIn
-one-byte g a l = rw (lt-ltb a 128 l)
-
-pub same : (g : ℕ) (s : List ℕ) {v : Value} → Bytes s → valueIn g s ≡ accepted v → Same g s v
-unfolding valueIn
-same zero s b e = absurd (let z : _≡_ {A = ℕ} 0 1 = cc in omega arith)
-same (suc g) [] b e = absurd (let z : _≡_ {A = ℕ} 0 1 = cc in omega arith)
-same (suc g) (a ∷ s) {v} b e =
+pub again : (g : ℕ) (s : List ℕ) {v : Value} → valueIn g s ≡ accepted v → Again (encodeIn g (v .value) ++ drop (v .size) s) s
+unfolding valueIn encodeIn
+again zero s e = absurd (let z : _≡_ {A = ℕ} 0 1 = cc in omega arith)
+again (suc g) [] e = absurd (let z : _≡_ {A = ℕ} 0 1 = cc in omega arith)
+again (suc g) (a ∷ s) {v} e =
     cases (ltb a 128)
-    (λ l. alone (ltb-true a 128 l) (same-accepted (sym (last g a s (ltb-true a 128 l)) ∙ e)))
+    (λ l. rw (← same-accepted (sym (last g a s (ltb-true a 128 l)) ∙ e), l) (record { length-is = refl; same = λ b. refl }))
     (λ m. let f = followed a (valueIn g s) (sym (follow g a s (ltb-false a 128 m)) ∙ e) in
-    longer (ltb-false a 128 m) f (same g s (λ k. b (suc k)) (f .rest-is)))
+    let t = again g s (f .rest-is) in
+    rw (f .value-is, more-byte g a (f .further .value) (f .worth))
+    (record {
+      length-is = ap suc (t .length-is);
+      same = λ b. cc (top a (ltb-false a 128 m) (b 0), t .same (λ k. b (suc k)));
+    }))
   where
-    alone : a < 128 → record { value = a; size = 1 } ≡ v → Same (suc g) (a ∷ s) v
-    alone l q = rw (← q) (record { size-is = rw (one-byte g a l); bytes = rw (one-byte g a l) })
-
-    longer : 128 ≤ a → (f : Followed a (valueIn g s) v) → Same g s (f .further) → Same (suc g) (a ∷ s) v
-    longer m f t =
-        let byte = more-byte g a (f .further .value) (b 0) m (f .worth) in
-        rw (f .value-is) (record { size-is = rw (byte, t .size-is); bytes = rw (byte, t .bytes) })
+    top : (a : ℕ) → 128 ≤ a → a < 256 → a % 128 + 128 ≡ a
+    top a m h = omega arith

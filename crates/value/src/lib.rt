@@ -4,7 +4,7 @@ ghost use mathlib.Core.Path.{_≡_};
 ghost use Prim.Native.Nat.{_+_, _<_, _≤_};
 ghost use lib.ListN.{length, drop};
 ghost use Rattle.value.specs.Value.{found, valueOf, encode};
-ghost use Rattle.text.specs.Text.{written, wrote};
+ghost use Rattle.text.specs.Text.{Put};
 
 // A value and how many bytes it takes, or the refusal.
 pub enum Found {
@@ -52,24 +52,10 @@ pub fn read(s: &[u8], at: usize) -> Found
     Found::Refused(11)
 }
 
-// How many bytes a value takes.
-pub fn size(x: usize) -> usize
-    requires { ⌜ x < 2097152 ⌝ }
-    ensures { λ r. ⌜ r ≡ length (encode x) ⌝ }
-{
-    if x < 128 {
-        return 1;
-    }
-    if x < 16384 {
-        return 2;
-    }
-    3
-}
-
 // Puts a value below 2^21 at a place where it fits; answers the place after it.
 pub fn write(dest: &mut [u8], at: usize, x: usize) -> usize
     requires { ⌜ (x < 2097152) × (at + length (encode x) ≤ length (now dest)) ⌝ }
-    ensures { λ r. ⌜ written (now (dest .exit)) r ≡ wrote (now (dest .entry)) at (encode x) ⌝ }
+    ensures { λ r. ⌜ Put (now (dest .entry)) at (encode x) r (now (dest .exit)) ⌝ }
 {
     if x < 128 {
         dest[at] = x as u8;

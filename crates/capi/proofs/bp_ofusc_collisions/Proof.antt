@@ -4,11 +4,10 @@ use Rattle.capi.proofs.Collision.{ofusc-whole}
 use Rattle.capi.proofs.bp_ofusc_collisions.Statement.{statement}
 use Rattle.capi.proofs.bp_ofusc_collisions.Tie as tie
 
-hand-over-requires : tie.Need-hand-over-requires
-hand-over-requires c κs = rw (c .before .before .ofusc .ensures) (ofusc-whole _ _ _ _ _)
-
-returns : tie.Need-returns
-returns c = rw (c .before .before .before .ofusc .ensures) at (c .hand-over .ensures)
-
 pub bp-ofusc-collisions-spec : {M : Type 1} → statement M
-bp-ofusc-collisions-spec = tie.close (tie.spec (λ c κs. search needs) hand-over-requires returns)
+bp-ofusc-collisions-spec =
+    tie.close
+    (tie.spec
+    (λ c κs. search needs)
+    (λ c κs. rw (c .before .before .ofusc .ensures) (ofusc-whole _ _ _ _ _))
+    (λ c. rw (c .before .before .before .ofusc .ensures) at (c .hand-over .ensures)))

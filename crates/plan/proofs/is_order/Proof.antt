@@ -1,15 +1,19 @@
--- `plan::is_order` meets its contract.
+-- `plan::is_order` meets its contract: of the first zone, and of a zone after another.
 use borrow.Author.Needs.{needs}
+use borrow.Author.Tests.{eq-eqb, ne-eqb}
+use Rattle.plan.specs.Zone.{isOpening, isFollowing}
 use Rattle.plan.proofs.is_order.Statement.{statement}
 use Rattle.plan.proofs.is_order.Tie as tie
 
-returns : tie.Need-returns
-returns c = rw (c .before .enum-told .given .1) (c .is-opening .ensures)
-
-returns-2 : tie.Need-returns-2
-returns-2 c = rw (c .before .before .prior .given .1) (c .is-following .ensures)
-
 pub is-order-spec : {M : Type 1} → statement M
+unfolding isOpening isFollowing
 is-order-spec =
     tie.close
-    (tie.spec (λ c. search needs) (λ c κs. search needs) (λ c. search needs) (λ c κs. search needs) returns returns-2)
+    (tie.spec
+    (λ c. search needs)
+    (λ c. rw (c .before .enum-told .given .1, ne-eqb _ 2048 (c .if1 .taken)))
+    (λ c. rw (c .before .before .before .enum-told .given .1, eq-eqb _ 2048 (c .before .before .if1 .left), ne-eqb _ 0 (c .if2 .taken)))
+    (λ c. search needs)
+    (λ c. rw (c .before .before .prior .given .1, ne-eqb _ 3 (c .if3 .taken)))
+    (λ c. rw (c .before .before .before .before .enum-told .given .1, eq-eqb _ 2048 (c .before .before .before .if1 .left), eq-eqb _ 0 (c .before .if2 .left)))
+    (λ c. rw (c .before .before .before .prior .given .1, eq-eqb _ 3 (c .before .if3 .left))))

@@ -1,27 +1,35 @@
 -- `plan::put_zone` meets its contract.
 use mathlib.Core.Path.{_∙_}
 use native.Mathlib.Omega.{arith}
-use Rattle.value.specs.Value.{encode}
-use Rattle.value.proofs.Laws.{put-of, of-put, put-three}
+use Rattle.text.proofs.Laws.{put-three}
 use Rattle.plan.specs.Write.{zoneBytes}
-use Rattle.plan.proofs.Bytes.{zone-length}
+use Rattle.plan.proofs.Bytes.{five}
 use Rattle.plan.proofs.put_zone.Statement.{statement}
 use Rattle.plan.proofs.put_zone.Tie as tie
 
 write-requires : tie.Need-write-requires
 write-requires c κs =
     let start = c .before .before in
-    (start .pre .0 .mode-most, omega (arith, zone-length (start .args .zone)))
+    let s = start .pre .0 in
+    let f = five (start .args .zone) s in
+    (omega arith, omega (arith, start .pre .1))
 
 write-requires-2 : tie.Need-write-requires-2
 write-requires-2 c κs =
+    let first = c .before .before .before .write in
     let start = c .before .before .before .before .before .before in
-    (start .pre .0 .cell-most, omega (arith, zone-length (start .args .zone), put-of _ _ _ _ _ (c .before .before .before .write .ensures) .next-is, c .before .before .before .write .kept .0))
+    let s = start .pre .0 in
+    let f = five (start .args .zone) s in
+    (omega arith, omega (arith, start .pre .1, first .ensures .next-is, first .kept .0))
 
 write-requires-3 : tie.Need-write-requires-3
 write-requires-3 c κs =
+    let second = c .before .before .before .write2 in
+    let first = c .before .before .before .before .before .before .before .write in
     let start = c .before .before .before .before .before .before .before .before .before .before in
-    (start .pre .0 .slots-most, omega (arith, zone-length (start .args .zone), put-of _ _ _ _ _ (c .before .before .before .before .before .before .before .write .ensures) .next-is, c .before .before .before .before .before .before .before .write .kept .0, put-of _ _ _ _ _ (c .before .before .before .write2 .ensures) .next-is, c .before .before .before .write2 .kept .0))
+    let s = start .pre .0 in
+    let f = five (start .args .zone) s in
+    (omega arith, omega (arith, start .pre .1, first .ensures .next-is, first .kept .0, second .ensures .next-is, second .kept .0))
 
 same-length : tie.Need-same-length
 same-length c = c .before .before .write3 .kept .0 ∙ c .before .before .before .before .before .before .write2 .kept .0 ∙ c .before .before .before .before .before .before .before .before .before .before .write .kept .0
@@ -29,9 +37,12 @@ same-length c = c .before .before .write3 .kept .0 ∙ c .before .before .before
 returns : tie.Need-returns
 unfolding zoneBytes
 returns c =
+    let third = c .before .before .write3 .ensures in
+    let second = c .before .before .before .before .before .before .write2 .ensures in
+    let first = c .before .before .before .before .before .before .before .before .before .before .write .ensures in
     let start = c .before .before .before .before .before .before .before .before .before .before .before .before .before in
-    let z = start .args .zone in
-    of-put (put-three (encode (z .mode)) (encode (z .cell)) (encode (z .slots)) (omega arith) (put-of _ _ _ _ _ (c .before .before .before .before .before .before .before .before .before .before .write .ensures)) (put-of _ _ _ _ _ (c .before .before .before .before .before .before .write2 .ensures)) (put-of _ _ _ _ _ (c .before .before .write3 .ensures)))
+    let f = five (start .args .zone) (start .pre .0) in
+    (put-three _ _ _ (omega (arith, start .pre .1)) first second third, omega (arith, first .next-is, second .next-is, third .next-is))
 
 pub put-zone-spec : {M : Type 1} → statement M
 put-zone-spec = tie.close (tie.spec write-requires write-requires-2 write-requires-3 same-length returns)

@@ -24,13 +24,21 @@ loop-holds : tie.Need-loop-holds Inv-loop μ-loop
 loop-holds c = begin (c .before .args .bytes .now) (c .before .args .at) (c .before .args .count) (c .before .args .size) eight-unused
 
 returns : tie.Need-returns Inv-loop μ-loop
-returns c = c .refused .ensures ∙ ap answered (zone-none (c .before .before .before .before .before .before .loop .inv) (c .before .before .before .before .before .loop-test .taken) (c .before .before .before .before .zone-at .result) (c .before .before .before .before .zone-at .ensures) (c .before .before .number .given .1))
+returns c =
+    let found = c .before .before .before .before in
+    c .refused .ensures ∙ ap answered (zone-none (found .before .before .loop .inv) (found .before .loop-test .taken) _ (found .zone-at .ensures) (c .before .before .number .given .1))
 
 returns-2 : tie.Need-returns-2 Inv-loop μ-loop
-returns-2 c = c .refused2 .ensures ∙ ap answered (zone-refused (c .before .before .before .before .before .before .before .before .loop .inv) (c .before .before .before .before .before .before .before .loop-test .taken) (c .before .before .before .before .before .before .zone-at .result) (c .before .before .before .before .before .before .zone-at .ensures) (c .before .before .before .before .zone .given .1) (c .before .before .zone-refusal .ensures) (c .before .if1 .taken))
+returns-2 c =
+    let found = c .before .before .before .before .before .before in
+    c .refused2 .ensures
+    ∙ ap answered
+    (zone-refused (found .before .before .loop .inv) (found .before .loop-test .taken) _ (found .zone-at .ensures) (c .before .before .before .before .zone .given .1) (c .before .before .zone-refusal .ensures) (c .before .if1 .taken))
 
 loop-again : tie.Need-loop-again Inv-loop μ-loop
-loop-again c = again (c .before .before .before .before .before .before .before .loop .inv) (c .before .before .before .before .before .before .loop-test .taken) (c .before .before .before .before .before .zone-at .result) (c .before .before .before .before .before .zone-at .ensures) (c .before .before .before .zone .given .1) (c .before .zone-refusal .ensures) (c .if1 .left) (c .before .before .before .before .before .before .before .before .before .pre)
+loop-again c =
+    let found = c .before .before .before .before .before in
+    again (found .before .before .loop .inv) (found .before .loop-test .taken) _ (found .zone-at .ensures) (c .before .before .before .zone .given .1) (c .before .zone-refusal .ensures) (c .if1 .left) (found .before .before .before .before .pre)
 
 returns-3 : tie.Need-returns-3 Inv-loop μ-loop
 returns-3 c = c .refused3 .ensures ∙ ap answered (too-long (c .before .before .before .loop .inv) (c .before .before .loop-test .left) (c .before .if2 .taken))

@@ -5,7 +5,7 @@ use native.Mathlib.Omega.{arith}
 use borrow.Author.Needs.{needs}
 use lib.ListN.{length, take, drop}
 use Rattle.plan.specs.declared.Before.the-variants.{First}
-use Rattle.plan.specs.Write.{zonesRefusal}
+use Rattle.plan.specs.Model.{zonesRefusal}
 use Rattle.plan.proofs.Places.{length-mapped}
 use Rattle.plan.proofs.Number.{zones-no, zones-next, zones-end}
 use Rattle.plan.proofs.zones_refusal.Statement.{statement}
@@ -23,17 +23,17 @@ loop-holds c = (search (length-mapped, needs) depth 8, c .before .pre, refl)
 returns : tie.Need-returns Inv-loop μ-loop
 returns c =
     let inv = c .before .before .before .before .loop .inv in
-    zones-no _ _ _ _ _ _ (c .before .before .before .loop-test .taken) (omega (arith, inv .0, inv .1)) (c .before .zone-refusal .ensures) (c .if1 .taken) ∙ inv .2
+    zones-no _ _ _ _ _ (omega (arith, inv .0, inv .1)) (c .before .before .before .loop-test .taken) (c .before .zone-refusal .ensures) (c .if1 .taken) ∙ inv .2
 
 loop-again : tie.Need-loop-again Inv-loop μ-loop
 loop-again c =
     let inv = c .before .before .before .before .loop .inv in
-    (inv .0, inv .1, zones-next _ _ _ _ _ _ (c .before .before .before .loop-test .taken) (omega (arith, inv .0, inv .1)) (c .before .zone-refusal .ensures) (c .if1 .left) ∙ inv .2)
+    (inv .0, inv .1, zones-next _ _ _ _ _ (omega (arith, inv .0, inv .1)) (c .before .before .before .loop-test .taken) (c .before .zone-refusal .ensures) (c .if1 .left) ∙ inv .2)
 
 returns-2 : tie.Need-returns-2 Inv-loop μ-loop
 returns-2 c =
     let inv = c .before .loop .inv in
-    zones-end _ _ _ _ _ (c .loop-test .left) (omega (arith, inv .0, inv .1)) ∙ inv .2
+    zones-end _ _ _ _ _ (omega (arith, inv .0, inv .1)) (c .loop-test .left) ∙ inv .2
 
 pub zones-refusal-spec : {M : Type 1} → statement M
 zones-refusal-spec =

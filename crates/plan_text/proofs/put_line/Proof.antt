@@ -2,7 +2,7 @@
 use mathlib.Core.Path.{_∙_}
 use native.Mathlib.Omega.{arith}
 use borrow.Author.Needs.{needs}
-use Rattle.value.proofs.Laws.{put-of, of-put, put-three}
+use Rattle.text.proofs.Laws.{put-three}
 use Rattle.plan_text.specs.Lines.{lineOf}
 use Rattle.plan_text.proofs.put_line.Statement.{statement}
 use Rattle.plan_text.proofs.put_line.Tie as tie
@@ -27,7 +27,7 @@ returns c =
     let third = c .before .before .put-field3 in
     let second = c .before .before .before .before .before .before .put-field2 in
     let first = c .before .before .before .before .before .before .before .before .before .before .put-field in (
-      of-put (put-three _ _ _ (omega arith) (put-of _ _ _ _ _ (first .ensures .0)) (put-of _ _ _ _ _ (second .ensures .0)) (put-of _ _ _ _ _ (third .ensures .0))),
+      put-three _ _ _ (omega arith) (first .ensures .0) (second .ensures .0) (third .ensures .0),
       omega (arith, first .ensures .1, second .ensures .1, third .ensures .1),
     )
 

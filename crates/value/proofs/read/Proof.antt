@@ -1,14 +1,14 @@
 -- `value::read` meets its contract: what each answer says is the value of the bytes from the place on.
 use mathlib.Core.Path.{_≡_, sym, ap, _∙_}
 use mathlib.Core.List.{List}
-use Prim.Native.Nat.{ℕ, suc, _<_, _≤_}
+use Prim.Native.Nat.{ℕ, suc, _+_, _<_, _≤_}
 use native.Mathlib.Omega.{arith}
-use native.Mathlib.Numerals.{add-one, add-two}
+use native.Mathlib.Numerals.{add-one}
 use lib.ListN.{length, drop, getD, drop-of-length-le}
 use lib.Seq.{drop-cons}
 use borrow.Author.Needs.{needs}
-use Rattle.base.specs.Answer.{accepted, refused}
-use Rattle.value.specs.Value.{more, valueIn, valueOf}
+use Rattle.base.specs.Answer.{Answer, accepted, refused}
+use Rattle.value.specs.Value.{Value, more, valueIn, valueOf}
 use Rattle.value.proofs.Laws.{last, follow, some, nil}
 use Rattle.value.proofs.read.Statement.{statement}
 use Rattle.value.proofs.read.Tie as tie
@@ -22,27 +22,51 @@ module _ (g : ℕ) (s : List ℕ) (at : ℕ) where
   last-at : (a : ℕ) → a ≡ getD s at 0 → at < length s → a < 128 → valueIn (suc g) (drop at s) ≡ accepted (record { value = a; size = 1 })
   last-at a e h l = rw (drop-cons s at 0, ← e) (last g a (drop (suc at) s) l)
 
-  follow-at : (a : ℕ) → a ≡ getD s at 0 → at < length s → 128 ≤ a → valueIn (suc g) (drop at s) ≡ more a (valueIn g (drop (suc at) s))
-  follow-at a e h m = rw (drop-cons s at 0, ← e) (follow g a (drop (suc at) s) m)
+record Follows (s : List ℕ) (at a : ℕ) : Type 0 where
+  is : a ≡ getD s at 0
+  inside : at < length s
+  top : 128 ≤ a
 
--- a first byte that more follow, and a second one
-first : (c : tie.Else2) → valueOf (drop (c .before .before .before .before .before .args .at) (c .before .before .before .before .before .args .s .now)) ≡ more (c .before .wide .result) (valueIn 2 (drop (suc (c .before .before .before .before .before .args .at)) (c .before .before .before .before .before .args .s .now)))
-first c = follow-at 2 _ _ _ (c .before .wide .ensures .0) (c .before .before .before .if1 .left) (c .if2 .left)
+follow-at : (g : ℕ) {s : List ℕ} {at a : ℕ} → Follows s at a → valueIn (suc g) (drop at s) ≡ more a (valueIn g (drop (at + 1) s))
+follow-at g {s} {at} {a} f = rw (drop-cons s at 0 (f .inside), ← f .is, add-one) (follow g a (drop (suc at) s) (f .top))
 
-second-is : (c : tie.After-wide2) → c .wide2 .result ≡ getD (c .before .before .before .before .before .before .before .before .args .s .now) (suc (c .before .before .before .before .before .before .before .before .args .at)) 0
-second-is c = rw (← add-one) (c .wide2 .ensures .0)
+-- one such byte: nothing is behind it, or a last byte
+module _ {s : List ℕ} {at a : ℕ} (f : Follows s at a) where
+  one : {r : Answer Value} → valueIn 2 (drop (at + 1) s) ≡ r → more a r ≡ valueOf (drop at s)
+  one e = sym (follow-at 2 f ∙ ap (more a) e)
 
-second-last : (c : tie.After-wide2) → c .wide2 .result < 128 → valueOf (drop (c .before .before .before .before .before .before .before .before .args .at) (c .before .before .before .before .before .before .before .before .args .s .now)) ≡ more (c .before .before .before .before .wide .result) (accepted (record { value = c .wide2 .result; size = 1 }))
-second-last c l = first (c .before .before .before) ∙ ap (more (c .before .before .before .before .wide .result)) (last-at 1 (c .before .before .before .before .before .before .before .before .args .s .now) (suc (c .before .before .before .before .before .before .before .before .args .at)) _ (second-is c) (omega arith) l)
+  one-none : length s ≤ at + 1 → refused 10 ≡ valueOf (drop at s)
+  one-none h = one (none-at 1 s (at + 1) h)
 
-second : (c : tie.Else5) → valueOf (drop (c .before .before .before .before .before .before .before .before .before .before .args .at) (c .before .before .before .before .before .before .before .before .before .before .args .s .now)) ≡ more (c .before .before .before .before .before .before .wide .result) (more (c .before .before .wide2 .result) (valueIn 1 (drop (suc (suc (c .before .before .before .before .before .before .before .before .before .before .args .at))) (c .before .before .before .before .before .before .before .before .before .before .args .s .now))))
-second c = first (c .before .before .before .before .before) ∙ ap (more (c .before .before .before .before .before .before .wide .result)) (follow-at 1 (c .before .before .before .before .before .before .before .before .before .before .args .s .now) (suc (c .before .before .before .before .before .before .before .before .before .before .args .at)) _ (second-is (c .before .before)) (omega arith) (c .if5 .left))
+  one-last : {b : ℕ} → b ≡ getD s (at + 1) 0 → at + 1 < length s → b < 128 → more a (accepted (record { value = b; size = 1 })) ≡ valueOf (drop at s)
+  one-last {b} e h l = one (last-at 1 s (at + 1) b e h l)
 
-third-is : (c : tie.After-wide3) → c .wide3 .result ≡ getD (c .before .before .before .before .before .before .before .before .before .before .before .before .before .args .s .now) (suc (suc (c .before .before .before .before .before .before .before .before .before .before .before .before .before .args .at))) 0
-third-is c = rw (← add-two) (c .wide3 .ensures .0)
+  -- two such bytes, and then a third too
+  module _ {b : ℕ} (g : Follows s (at + 1) b) where
+    next : at + 1 + 1 ≡ at + 2
+    next = omega arith
 
-third-last : (c : tie.After-wide3) → c .wide3 .result < 128 → valueOf (drop (c .before .before .before .before .before .before .before .before .before .before .before .before .before .args .at) (c .before .before .before .before .before .before .before .before .before .before .before .before .before .args .s .now)) ≡ more (c .before .before .before .before .before .before .before .before .before .wide .result) (more (c .before .before .before .before .before .wide2 .result) (accepted (record { value = c .wide3 .result; size = 1 })))
-third-last c l = second (c .before .before .before) ∙ ap (λ r. more (c .before .before .before .before .before .before .before .before .before .wide .result) (more (c .before .before .before .before .before .wide2 .result) r)) (last-at 0 (c .before .before .before .before .before .before .before .before .before .before .before .before .before .args .s .now) (suc (suc (c .before .before .before .before .before .before .before .before .before .before .before .before .before .args .at))) _ (third-is c) (omega arith) l)
+    two : {r : Answer Value} → valueIn 1 (drop (at + 2) s) ≡ r → more a (more b r) ≡ valueOf (drop at s)
+    two {r} e = let e′ : valueIn 1 (drop (at + 1 + 1) s) ≡ r = rw next e in one (follow-at 1 g ∙ ap (more b) e′)
+
+    two-none : length s ≤ at + 2 → refused 10 ≡ valueOf (drop at s)
+    two-none h = two (none-at 0 s (at + 2) h)
+
+    two-last : {x : ℕ} → x ≡ getD s (at + 2) 0 → at + 2 < length s → x < 128 → more a (more b (accepted (record { value = x; size = 1 }))) ≡ valueOf (drop at s)
+    two-last {x} e h l = two (last-at 0 s (at + 2) x e h l)
+
+    three : {x : ℕ} → Follows s (at + 2) x → refused 11 ≡ valueOf (drop at s)
+    unfolding valueIn
+    three h = two (follow-at 0 h)
+
+first : (c : tie.Else2) → let a = c .before .before .before .before .before .args in Follows (a .s .now) (a .at) (c .before .wide .result)
+first c = record { is = c .before .wide .ensures .0; inside = c .before .before .before .if1 .left; top = c .if2 .left }
+
+second : (c : tie.Else5) → let a = c .before .before .before .before .before .before .before .before .before .before .args in Follows (a .s .now) (a .at + 1) (c .before .before .wide2 .result)
+second c = record { is = c .before .before .wide2 .ensures .0; inside = omega arith; top = c .if5 .left }
+
+third : (c : tie.Else8) → let a = c .before .before .before .before .before .before .before .before .before .before .before .before .before .before .before .args in Follows (a .s .now) (a .at + 2) (c .before .before .wide3 .result)
+third c = record { is = c .before .before .wide3 .ensures .0; inside = omega arith; top = c .if8 .left }
 
 returns : tie.Need-returns
 returns c = sym (none-at 2 _ _ (c .if1 .taken))
@@ -51,29 +75,31 @@ returns-2 : tie.Need-returns-2
 returns-2 c = sym (last-at 2 _ _ _ (c .before .wide .ensures .0) (c .before .before .before .if1 .left) (c .if2 .taken))
 
 returns-3 : tie.Need-returns-3
-returns-3 c = rw (first (c .before), none-at 1 (c .before .before .before .before .before .before .args .s .now) (suc (c .before .before .before .before .before .before .args .at)) (omega arith))
+returns-3 c = one-none (first (c .before)) (omega arith)
 
 returns-4 : tie.Need-returns-4
-returns-4 c = rw (second-last (c .before) (omega arith)) (sym (nil _ _ 1 (c .if4 .taken)))
+returns-4 c = sym (nil _ _ 1 (c .if4 .taken)) ∙ one-last (first (c .before .before .before .before)) (c .before .wide2 .ensures .0) (omega arith) (omega arith)
 
 returns-5 : tie.Need-returns-5
-returns-5 c = rw (second-last (c .before .before) (c .if5 .taken)) (sym (some _ _ 1 (c .before .if4 .left)))
+returns-5 c = sym (some _ _ 1 (c .before .if4 .left)) ∙ one-last (first (c .before .before .before .before .before)) (c .before .before .wide2 .ensures .0) (omega arith) (c .if5 .taken)
 
 returns-6 : tie.Need-returns-6
-returns-6 c = rw (second (c .before), none-at 0 (c .before .before .before .before .before .before .before .before .before .before .before .args .s .now) (suc (suc (c .before .before .before .before .before .before .before .before .before .before .before .args .at))) (omega arith))
+returns-6 c = two-none (first (c .before .before .before .before .before .before)) (second (c .before)) (omega arith)
 
 returns-7 : tie.Need-returns-7
-returns-7 c = rw (third-last (c .before) (omega arith), nil _ _ 1 (c .if7 .taken))
+returns-7 c =
+    ap (more _) (sym (nil _ _ 1 (c .if7 .taken)))
+    ∙ two-last (first (c .before .before .before .before .before .before .before .before .before)) (second (c .before .before .before .before)) (c .before .wide3 .ensures .0) (omega arith) (omega arith)
 
 returns-8 : tie.Need-returns-8
 returns-8 c =
     let nonzero = c .before .if7 .left in
-    rw (third-last (c .before .before) (c .if8 .taken), some _ _ 1 nonzero)
-    (sym (some _ _ 2 (λ z. nonzero (omega arith))))
+    sym (some _ _ 2 (λ z. nonzero (omega arith)))
+    ∙ ap (more _) (sym (some _ _ 1 nonzero))
+    ∙ two-last (first (c .before .before .before .before .before .before .before .before .before .before)) (second (c .before .before .before .before .before)) (c .before .before .wide3 .ensures .0) (omega arith) (c .if8 .taken)
 
 returns-9 : tie.Need-returns-9
-unfolding valueIn
-returns-9 c = rw (second (c .before .before .before .before .before), follow-at 0 (c .before .before .before .before .before .before .before .before .before .before .before .before .before .before .before .args .s .now) (suc (suc (c .before .before .before .before .before .before .before .before .before .before .before .before .before .before .before .args .at))) _ (third-is (c .before .before)) (omega arith) (c .if8 .left))
+returns-9 c = three (first (c .before .before .before .before .before .before .before .before .before .before)) (second (c .before .before .before .before .before)) (third c)
 
 pub read-spec : {M : Type 1} → statement M
 read-spec =

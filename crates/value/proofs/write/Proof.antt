@@ -10,9 +10,9 @@ use borrow.Author.Needs.{needs}
 use lib.Dec.{ltb}
 use borrow.Author.Tests.{le-ltb}
 use Rattle.base.proofs.Test.{cases}
-use Rattle.text.specs.Text.{put}
+use Rattle.text.specs.Text.{put, Put}
 use Rattle.value.specs.Value.{encodeIn, encode}
-use Rattle.value.proofs.Laws.{encode-1, encode-2, encode-3, Put, of-put}
+use Rattle.value.proofs.Laws.{encode-1, encode-2, encode-3}
 use Rattle.value.proofs.write.Statement.{statement}
 use Rattle.value.proofs.write.Tie as tie
 
@@ -52,36 +52,15 @@ module _ (d : List ℕ) (at x : ℕ) (fits : at + length (encode x) ≤ length d
   put-3 : 16384 ≤ x → x < 2097152 → Put d at (encode x) (at + 3) (set (set (set d at (x % 128 + 128)) (at + 1) (x / 128 % 128 + 128)) (at + 2) (x / 16384))
   put-3 m h = rw (add-one, add-two) (made ((x % 128 + 128) ∷ (x / 128 % 128 + 128) ∷ x / 16384 ∷ []) (encode-3 x m h))
 
-slice-write-dest : tie.Need-slice-write-dest
-slice-write-dest c = search (room-1, needs)
-
-returns : tie.Need-returns
-returns c = of-put (put-1 (c .before .args .dest .now) (c .before .args .at) (c .before .args .x) (c .before .pre .1) (c .if1 .taken))
-
-slice-write-dest-2 : tie.Need-slice-write-dest-2
-slice-write-dest-2 c = search (room-1, needs)
-
-slice-write-dest-3 : tie.Need-slice-write-dest-3
-slice-write-dest-3 c = search (room-2, needs)
-
-returns-2 : tie.Need-returns-2
-returns-2 c = of-put (put-2 (c .before .before .args .dest .now) (c .before .before .args .at) (c .before .before .args .x) (c .before .before .pre .1) (c .before .if1 .left) (c .if2 .taken))
-
-slice-write-dest-4 : tie.Need-slice-write-dest-4
-slice-write-dest-4 c = search (room-2, needs)
-
-slice-write-dest-5 : tie.Need-slice-write-dest-5
-slice-write-dest-5 c = search (room-3, needs)
-
-returns-3 : tie.Need-returns-3
-returns-3 c = of-put (put-3 (c .before .before .args .dest .now) (c .before .before .args .at) (c .before .before .args .x) (c .before .before .pre .1) (c .if2 .left) (c .before .before .pre .0))
-
 pub write-spec : {M : Type 1} → statement M
 write-spec =
     tie.close
     (tie.spec
-    (λ c. search needs) slice-write-dest (λ c. search needs) (λ c. search needs) returns (λ c. search needs)
-    (λ c. search needs) slice-write-dest-2 (λ c. search needs) (λ c. search needs) slice-write-dest-3
-    (λ c. search needs) (λ c. search needs) returns-2 (λ c. search needs) (λ c. search needs) (λ c. search needs)
-    slice-write-dest-4 (λ c. search needs) (λ c. search needs) slice-write-dest-5 (λ c. search needs)
-    (λ c. search needs) returns-3)
+    (λ c. search needs) (λ c. search (room-1, needs)) (λ c. search needs) (λ c. search needs)
+    (λ c. put-1 _ _ _ (c .before .pre .1) (c .if1 .taken))
+    (λ c. search needs) (λ c. search needs) (λ c. search (room-1, needs))
+    (λ c. search needs) (λ c. search needs) (λ c. search (room-2, needs)) (λ c. search needs) (λ c. search needs)
+    (λ c. put-2 _ _ _ (c .before .before .pre .1) (c .before .if1 .left) (c .if2 .taken))
+    (λ c. search needs) (λ c. search needs) (λ c. search needs) (λ c. search (room-2, needs))
+    (λ c. search needs) (λ c. search needs) (λ c. search (room-3, needs)) (λ c. search needs) (λ c. search needs)
+    (λ c. put-3 _ _ _ (c .before .before .pre .1) (c .if2 .left) (c .before .before .pre .0)))

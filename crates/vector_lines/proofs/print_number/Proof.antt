@@ -3,14 +3,14 @@ use borrow.Author.Needs.{needs}
 use mathlib.Core.Path.{sym}
 use native.Mathlib.Omega.{arith}
 use lib.Seq.{length-take-le}
-use Rattle.text.proofs.Laws.{wrote-next, decimal-fits}
+use Rattle.text.proofs.Laws.{decimal-fits}
 use Rattle.vector_lines.proofs.print_number.Statement.{statement}
 use Rattle.vector_lines.proofs.print_number.Tie as tie
 
 put-number-requires : tie.Need-put-number-requires
 put-number-requires c κs =
     let put-byte = c .before .before .put-byte in
-    omega (arith, wrote-next _ _ _ _ _ (put-byte .ensures), put-byte .kept .0)
+    omega (arith, put-byte .ensures .next-is, put-byte .kept .0)
 
 array-share-prefix-out : tie.Need-array-share-prefix-out
 array-share-prefix-out c =
@@ -19,9 +19,9 @@ array-share-prefix-out c =
     let at-start = c .before .before .before .before .before .before in
     omega (
       arith,
-      wrote-next _ _ _ _ _ (put-byte .ensures),
+      put-byte .ensures .next-is,
       put-byte .kept .0,
-      wrote-next _ _ _ _ _ (put-number .ensures),
+      put-number .ensures .next-is,
       put-number .kept .0,
       decimal-fits (at-start .args .x) (omega arith),
     )

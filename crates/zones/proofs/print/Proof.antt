@@ -10,7 +10,7 @@ use Rattle.zones.proofs.print.Tie as tie
 array-share-prefix-out : tie.Need-array-share-prefix-out
 array-share-prefix-out c =
     let lines = c .before .lines in
-    omega (arith, lines .kept .1 .0, end-within _ _ _ _ (lines .ensures) (lines .kept .1 .0))
+    omega (arith, lines .kept .1 .0, end-within (lines .ensures) (lines .kept .1 .0))
 
 slice-aggregate-write-all : tie.Need-slice-aggregate-write-all
 slice-aggregate-write-all c = sym (length-take-le _ _ (array-share-prefix-out (c .before)))

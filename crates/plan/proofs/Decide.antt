@@ -1,0 +1,73 @@
+-- The first bytes decide: each value looks at three bytes at most, and the last question at whether there is one more.
+use mathlib.Core.Path.{_≡_, refl, sym, ap, _∙_}
+use mathlib.Core.List.{List, [], _∷_}
+use Prim.Native.Nat.{ℕ, zero, suc, _+_, _-_, _*_, _≤_}
+use native.Mathlib.Omega.{arith}
+use lib.ListN.{length, take, drop}
+use lib.Seq.{take-nil}
+use borrow.Author.Tests.{ne-eqb}
+use Rattle.base.specs.Answer.{Answer, accepted, refused, ask}
+use Rattle.base.proofs.Test.{cases}
+use Rattle.map.specs.Question.{isFourSizes}
+use Rattle.value.specs.Value.{Value, valueOf}
+use Rattle.value.proofs.Laws.{first-decide, at-most-three}
+use Rattle.plan.specs.declared.Zone.{Zone}
+use Rattle.plan.specs.declared.Before.{Before}
+use Rattle.plan.specs.declared.Before.the-variants.{First, After}
+use Rattle.plan.specs.Zone.{askZone, isCount}
+use Rattle.plan.specs.Read.{handOn, readValue, readZone, readZones, finish, planOf}
+use Rattle.plan.proofs.Judge.{count-most}
+
+-- k bytes decide what is read, and so do more
+abbrev Decided : {A : Type 0} → ℕ → (List ℕ → Answer A) → Type 0
+Decided k read = (j : ℕ) → k ≤ j → (s : List ℕ) → read (take j s) ≡ read s
+
+drop-take : (n j m : ℕ) (s : List ℕ) → j ≡ n + m → drop n (take j s) ≡ take m (drop n s)
+drop-take zero j m s e = let same : j ≡ m = omega arith in rw same
+drop-take (suc n) zero m s e = absurd (omega arith)
+drop-take (suc n) (suc j) m [] e = sym (take-nil m)
+drop-take (suc n) (suc j) m (x ∷ s) e = drop-take n j m s (omega arith)
+
+value-decided : {A : Type 0} (k : ℕ) (next : ℕ → List ℕ → Answer A) → ((value : ℕ) → Decided k (next value)) → Decided (3 + k) (λ s. readValue s next)
+value-decided k next d j h s = ap (λ v. handOn v (take j s) next) (first-decide 3 j s (omega arith)) ∙ by (valueOf s) refl
+  where
+    by : (v : Answer Value) → valueOf s ≡ v → handOn v (take j s) next ≡ handOn v s next
+    by (refused number) q = refl
+    by (accepted v) q =
+        let few = at-most-three s q in
+        ap (next (v .value)) (drop-take (v .size) j (j - v .size) s (omega arith)) ∙ d (v .value) (j - v .size) (omega arith) (drop (v .size) s)
+
+zone-decided : {A : Type 0} (k : ℕ) (next : Zone → List ℕ → Answer A) → ((zone : Zone) → Decided k (next zone)) → Decided (9 + k) (λ s. readZone s next)
+zone-decided k next d j h s =
+    value-decided (6 + k) (λ mode s₁. readValue s₁ (λ cell s₂. readValue s₂ (λ slots s₃. next (record { mode = mode; cell = cell; slots = slots }) s₃)))
+    (λ mode j₁ h₁ s₁. value-decided (3 + k) (λ cell s₂. readValue s₂ (λ slots s₃. next (record { mode = mode; cell = cell; slots = slots }) s₃))
+    (λ cell j₂ h₂ s₂. value-decided k (λ slots s₃. next (record { mode = mode; cell = cell; slots = slots }) s₃)
+    (λ slots. d (record { mode = mode; cell = cell; slots = slots })) j₂ (omega arith) s₂) j₁ (omega arith) s₁) j (omega arith) s
+
+zones-decided : {A : Type 0} (count k size : ℕ) (before : Before) (next : List Zone → List ℕ → Answer A) → ((zones : List Zone) → Decided k (next zones))
+    → Decided (9 * count + k) (λ s. readZones count size before s next)
+unfolding readZones
+zones-decided zero k size before next d j h s = d [] j (omega arith) s
+zones-decided (suc count) k size before next d j h s =
+    zone-decided (9 * count + k) (λ zone s₁. askZone size before zone (readZones count size (After (zone .mode)) s₁ (λ zones s₂. next (zone ∷ zones) s₂)))
+    (λ zone i l t. ap (askZone size before zone) (zones-decided count k size (After (zone .mode)) (λ zones. next (zone ∷ zones)) (λ zones. d (zone ∷ zones)) i l t))
+    j (omega arith) s
+
+finish-decided : (count size : ℕ) (zones : List Zone) → Decided 1 (finish count size zones)
+finish-decided count size zones zero h s = absurd (omega arith)
+finish-decided count size zones (suc j) h [] = refl
+finish-decided count size zones (suc j) h (x ∷ s) = rw (ne-eqb (length (x ∷ take j s)) 0 (λ z. omega arith), ne-eqb (length (x ∷ s)) 0 (λ z. omega arith))
+
+-- Count, size and three values of each of eight zones are 26, so 78 bytes and one more decide; a count above 8 has no zone read.
+count-decided : (count : ℕ) → Decided 76 (λ s. ask (isCount count) 12 (readValue s (λ size s₁. ask (isFourSizes size) 2 (readZones count size First s₁ (finish count size)))))
+count-decided count j h s =
+    cases (isCount count)
+    (λ e. rw e
+    (value-decided 73 _ (λ size i l t.
+    ap (ask (isFourSizes size) 2) (zones-decided count 1 size First (finish count size) (finish-decided count size) i (omega (arith, count-most count e)) t))
+    j (omega arith) s))
+    (λ e. rw e)
+
+pub first-bytes : (k : ℕ) (s : List ℕ) → 79 ≤ k → planOf (take k s) ≡ planOf s
+unfolding planOf
+first-bytes k s h = value-decided 76 _ count-decided k h s

@@ -1,0 +1,106 @@
+-- Rows of numbers and places, one after the other, and that the numbers of a plan that was read fit into 32 bits.
+use mathlib.Core.Path.{_≡_, refl, sym, ap, _∙_}
+use mathlib.Core.List.{List, [], _∷_, _++_}
+use Prim.Native.Nat.{ℕ, _+_, _*_, _<_, _≤_}
+use native.Mathlib.Omega.{arith}
+use native.Mathlib.Numerals.{add-one, add-two}
+use lib.ListN.{length, take, getD, set, length-set}
+use lib.Seq.{take-suc, take-all, take-suc-set, sets-eq}
+use Rattle.base.specs.Answer.{Answer, accepted, refused}
+use Rattle.base.specs.Tabulate.{tabulate}
+use Rattle.base.proofs.Tabulate.{length-tabulate, getD-tabulate}
+use Rattle.text.specs.Text.{put}
+use Rattle.text.proofs.Laws.{take-put}
+use Rattle.plan.specs.declared.Zone.{Zone}
+use Rattle.plan.specs.declared.Plan.{Plan}
+use Rattle.plan.specs.declared.ReadPlan.{ReadPlan}
+use Rattle.plan.specs.Zone.{unused}
+use Rattle.plan.specs.Read.{planWith, planOf, answered}
+use Rattle.plan.specs.Model.{Small}
+use Rattle.plan.proofs.Places.{drop-places}
+use Rattle.plan.proofs.Judge.{unused-small, all-small, count-most, size-small}
+use Rattle.plan.proofs.Each.{each-none, each-more}
+use Rattle.plan.proofs.Round.{plan-of}
+use Rattle.plan_numbers.specs.Numbers.{threeOf, numbersOf, placeIn, placesOf}
+use Rattle.plan_numbers.specs.Model.{AllSmall}
+
+three : (l : List ℕ) (i a b c : ℕ) → i + 3 ≤ length l → take (i + 3) (set (set (set l i a) (i + 1) b) (i + 2) c) ≡ take i l ++ (a ∷ b ∷ c ∷ [])
+unfolding put
+three l i a b c h = rw (add-one, add-two) (ap (take (i + 3)) (sets-eq (a ∷ b ∷ c ∷ []) l i h) ∙ take-put l i (a ∷ b ∷ c ∷ []) (omega arith))
+
+-- While numbers are laid out: those of the first k zones are.
+pub record Row (zones : List Zone) (numbers : List ℕ) (k : ℕ) : Type 0 where
+  pub places : length zones ≡ 8
+  pub room : length numbers ≡ 24
+  pub small : AllSmall zones
+  pub done : take (3 * k) numbers ≡ numbersOf (take k zones)
+
+pub row-begin : (zones : List Zone) (numbers : List ℕ) → length zones ≡ 8 → length numbers ≡ 24 → AllSmall zones → Row zones numbers 0
+row-begin zones numbers p r a = record { places = p; room = r; small = a; done = sym (each-none threeOf zones) }
+
+module _ {zones : List Zone} {numbers : List ℕ} {k : ℕ} (f : Row zones numbers k) where
+  pub now-small : Small (getD zones k unused)
+  now-small = f .small k
+
+  pub row-again : k < 8 → (z : Zone) → z ≡ getD zones k unused → Row zones (set (set (set numbers (3 * k) (z .mode)) (3 * k + 1) (z .cell)) (3 * k + 2) (z .slots)) (k + 1)
+  row-again h z e =
+      let next : 3 * (k + 1) ≡ 3 * k + 3 = omega arith in
+      record {
+        places = f .places;
+        room = simp length-set (f .room);
+        small = f .small;
+        done =
+            rw next
+            (three numbers (3 * k) (z .mode) (z .cell) (z .slots) (omega (arith, f .room))
+            ∙ ap (λ l. l ++ threeOf z) (f .done)
+            ∙ rw e (sym (each-more threeOf zones k (omega (arith, f .places)))));
+      }
+
+  pub row-end : 8 ≤ k → numbers ≡ numbersOf zones
+  row-end h = sym (take-all (3 * k) numbers (omega (arith, f .room))) ∙ f .done ∙ ap numbersOf (take-all k zones (omega (arith, f .places)))
+
+-- While places are taken: the first k are.
+pub record Placing (numbers : List ℕ) (zones : List Zone) (k : ℕ) : Type 0 where
+  pub room : length zones ≡ 8
+  pub done : take k zones ≡ take k (placesOf numbers)
+
+pub placing : (numbers : List ℕ) (zones : List Zone) → length zones ≡ 8 → Placing numbers zones 0
+placing numbers zones r = record { room = r; done = refl }
+
+module _ {numbers : List ℕ} {zones : List Zone} {k : ℕ} (p : Placing numbers zones k) where
+  pub placing-again : {m c n : ℕ} → k < 8 → m ≡ getD numbers (3 * k) 0 → c ≡ getD numbers (3 * k + 1) 0 → n ≡ getD numbers (3 * k + 2) 0
+      → Placing numbers (set zones k (record { mode = m; cell = c; slots = n })) (k + 1)
+  unfolding placesOf
+  placing-again {m} {c} {n} h e₁ e₂ e₃ =
+      let e : _≡_ {A = Zone} (record { mode = m; cell = c; slots = n }) (placeIn numbers k) = cc in
+      record {
+        room = simp length-set (p .room);
+        done =
+            rw (e, add-one)
+            (take-suc-set zones k (placeIn numbers k) (omega (arith, p .room))
+            ∙ ap (λ l. l ++ (placeIn numbers k ∷ [])) (p .done)
+            ∙ ap (λ z. take k (tabulate 8 (placeIn numbers)) ++ (z ∷ [])) (sym (getD-tabulate 8 (placeIn numbers) k unused h))
+            ∙ sym (take-suc (tabulate 8 (placeIn numbers)) k unused (rw (length-tabulate 8 (placeIn numbers)) h)));
+      }
+
+  pub placing-end : 8 ≤ k → zones ≡ placesOf numbers
+  unfolding placesOf
+  placing-end h = sym (take-all k zones (omega (arith, p .room))) ∙ p .done ∙ take-all k (placesOf numbers) (rw (length-tabulate 8 (placeIn numbers)) h)
+
+-- The numbers of a plan that was read are small, and those of a refusal are zero.
+pub record Read-small (p : Plan) : Type 0 where
+  pub count-is : p .count ≤ 8
+  pub size-is : p .size ≤ 2048
+  pub zones-are : AllSmall (p .zones)
+
+pub read-small : (s : List ℕ) (r : ReadPlan) → r ≡ answered (planOf s) → Read-small (r .plan)
+read-small s r e = by (planOf s) refl
+  where
+    by : (a : Answer Plan) → planOf s ≡ a → Read-small (r .plan)
+    by (accepted p) q =
+        let same : r ≡ record { refusal = 0; plan = p } = e ∙ ap answered q in
+        let t = plan-of s q in
+        rw same (record { count-is = count-most (p .count) (t .fit .count-is); size-is = size-small (p .size) (t .fit .size-is); zones-are = all-small p (t .fit) (t .eight) })
+    by (refused k) q =
+        let same : r ≡ record { refusal = k; plan = planWith 0 0 [] } = e ∙ ap answered q in
+        rw same (record { count-is = omega arith; size-is = omega arith; zones-are = λ i. unused-small (planWith 0 0 [] .zones) i (drop-places 8 [] (omega arith)) })

@@ -1,0 +1,11 @@
+-- What inner functions say. No reader needs this to know what the calls do.
+use mathlib.Core.List.{List}
+use Prim.Native.Nat.{ℕ}
+use lib.ListN.{getD}
+use Rattle.plan.specs.declared.Zone.{Zone}
+use Rattle.plan.specs.Zone.{unused}
+use Rattle.plan.specs.Model.{Small}
+
+-- places whose numbers fit into 32 bits
+abbrev pub AllSmall : (zones : List Zone) → Type 0
+AllSmall zones = (k : ℕ) → Small (getD zones k unused)

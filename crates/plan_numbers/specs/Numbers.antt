@@ -1,0 +1,31 @@
+-- A plan's eight places as a row of 24 numbers, and back.
+use mathlib.Core.List.{List, [], _∷_}
+use Prim.Native.Nat.{ℕ, _+_, _*_}
+use lib.ListN.{getD}
+use Rattle.base.specs.Tabulate.{tabulate}
+use Rattle.plan.specs.declared.Zone.{Zone}
+use Rattle.plan.specs.declared.Plan.{Plan}
+use Rattle.plan.specs.declared.ReadPlan.{ReadPlan}
+use Rattle.plan.specs.Zone.{each}
+use Rattle.plan_numbers.specs.declared.ReadNumbers.{ReadNumbers}
+
+-- mode, cell and slots of each place
+abbrev pub threeOf : (zone : Zone) → List ℕ
+threeOf zone = zone .mode ∷ zone .cell ∷ zone .slots ∷ []
+
+abbrev pub numbersOf : (zones : List Zone) → List ℕ
+numbersOf zones = each threeOf zones
+
+-- The reverse: the eight places of 24 numbers.
+abbrev pub placeIn : (numbers : List ℕ) (place : ℕ) → Zone
+placeIn numbers place = record { mode = getD numbers (3 * place) 0; cell = getD numbers (3 * place + 1) 0; slots = getD numbers (3 * place + 2) 0 }
+
+unfoldable pub placesOf : (numbers : List ℕ) → List Zone
+placesOf numbers = tabulate 8 (placeIn numbers)
+
+abbrev pub planIn : (count size : ℕ) (numbers : List ℕ) → Plan
+planIn count size numbers = record { count = count; size = size; zones = placesOf numbers }
+
+-- an answer of `plan::read`, its plan in numbers
+abbrev pub readNumbers : (answer : ReadPlan) → ReadNumbers
+readNumbers answer = record { refusal = answer .refusal; count = answer .plan .count; size = answer .plan .size; zones = numbersOf (answer .plan .zones) }

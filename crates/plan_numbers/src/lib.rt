@@ -1,0 +1,87 @@
+// A plan as C hands it over: its eight places are a row of 24 numbers, mode, cell and slots of each.
+use plan::Plan;
+use plan::Zone;
+ghost use mathlib.Core.Path.{_≡_};
+ghost use Rattle.plan.specs.Read.{planOf, answered};
+ghost use Rattle.plan_numbers.specs.Numbers.{numbersOf, placesOf, planIn, readNumbers};
+ghost use Rattle.plan_numbers.specs.Model.{AllSmall};
+
+// The refusal, or 0 and the plan; with a refusal all else is zero.
+pub struct ReadNumbers {
+    pub refusal: u32,
+    pub count: u32,
+    pub size: u32,
+    pub zones: [u32; 24],
+}
+
+// Mode, cell and slots of each place.
+fn numbers(zones: [Zone; 8]) -> [u32; 24]
+    requires { ⌜ AllSmall zones ⌝ }
+    ensures { λ r. ⌜ r ≡ numbersOf zones ⌝ }
+{
+    let mut numbers = [0u32; 24];
+    let mut k = 0;
+    while k < 8 {
+        let zone = zones[k];
+        numbers[3 * k] = zone.mode as u32;
+        numbers[3 * k + 1] = zone.cell as u32;
+        numbers[3 * k + 2] = zone.slots as u32;
+        k += 1;
+    }
+    numbers
+}
+
+fn wide(x: u32) -> usize
+    ensures { λ r. ⌜ r ≡ x ⌝ }
+{
+    x as usize
+}
+
+// The eight places of 24 numbers.
+fn places(numbers: &[u32; 24]) -> [Zone; 8]
+    ensures { λ r. ⌜ r ≡ placesOf (now (numbers .entry)) ⌝ }
+{
+    let mut zones = [Zone {
+        mode: 0,
+        cell: 0,
+        slots: 0,
+    }; 8];
+    let mut k = 0;
+    while k < 8 {
+        zones[k] = Zone {
+            mode: wide(numbers[3 * k]),
+            cell: wide(numbers[3 * k + 1]),
+            slots: wide(numbers[3 * k + 2]),
+        };
+        k += 1;
+    }
+    zones
+}
+
+// The plan that the bytes are, in numbers, or the first refusal.
+pub fn read(bytes: &[u8]) -> ReadNumbers
+    ensures { λ r. ⌜ r ≡ readNumbers (answered (planOf (now (bytes .entry)))) ⌝ }
+{
+    let answer = plan::read(bytes);
+    let plan = answer.plan;
+    let zones = plan.zones;
+    let row = numbers(zones);
+    ReadNumbers {
+        refusal: answer.refusal as u32,
+        count: plan.count as u32,
+        size: plan.size as u32,
+        zones: row,
+    }
+}
+
+// The plan of a count, a size and 24 numbers.
+pub fn plan_in(count: u32, size: u32, numbers: &[u32; 24]) -> Plan
+    ensures { λ r. ⌜ r ≡ planIn count size (now (numbers .entry)) ⌝ }
+{
+    let zones = places(numbers);
+    Plan {
+        count: count as usize,
+        size: size as usize,
+        zones: zones,
+    }
+}
