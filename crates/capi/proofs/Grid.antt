@@ -11,10 +11,10 @@ use Rattle.map.specs.Mode.{symbols}
 use Rattle.map.specs.Question.{isMode, isSize, isCell, isSymbol, isCarrier}
 use Rattle.map.specs.Place.{Content, guard, dc, pilot, point, contentOf, locateOf}
 use Rattle.map.proofs.Law.{point-small}
-use Rattle.grid.specs.declared.Point.{Point}
+use Rattle.points.specs.declared.Point.{Point}
 use Rattle.grid.specs.declared.Seen.{Seen}
 use Rattle.grid.specs.declared.Seen.the-variants.{Data}
-use Rattle.grid.specs.Points.{pointAt}
+use Rattle.points.specs.Points.{pointAt}
 use Rattle.grid.specs.Row.{position}
 use Rattle.grid.specs.Question.{isGrid}
 use Rattle.grid.specs.Grid.{Sight, nothing, pilot-with, data-with, sight, lookOf, seen}

@@ -3,8 +3,8 @@ use mathlib.Core.List.{List, [], _∷_}
 use Prim.Native.Nat.{ℕ}
 use lib.Ieee.{Float}
 use Rattle.base.specs.Answer.{Answer, accepted, refused}
-use Rattle.grid.specs.declared.Point.{Point}
-use Rattle.grid.specs.Points.{pointAt}
+use Rattle.points.specs.declared.Point.{Point}
+use Rattle.points.specs.Points.{pointAt}
 use Rattle.grid.specs.Grid.{Sight, nothing, pilot-with, data-with}
 
 -- the point in a lent pair of floats

@@ -1,6 +1,5 @@
 // The C interface: thin functions over the engine. Each returns 0, or document 01's refusal number; on a refusal nothing is written.
 use collision::Collisions;
-use grid::Point;
 use grid::Seen;
 use map::Located;
 use map::Placed;
@@ -8,6 +7,7 @@ use map::Setup;
 use plan::Plan;
 use plan::Written;
 use plan::Zone;
+use points::Point;
 ghost use mathlib.Core.Path.{_≡_};
 ghost use Prim.Native.Nat.{ℕ, _≤_};
 ghost use lib.ListN.{length};

@@ -12,12 +12,13 @@ use Rattle.map.specs.declared.Setup.{Setup}
 use Rattle.map.specs.Mode.{subchannels, symbols}
 use Rattle.map.specs.Place.{Content, guard, dc, pilot, point}
 use Rattle.map.specs.Valid.{Valid}
-use Rattle.grid.specs.declared.Point.{Point}
-use Rattle.grid.specs.Points.{zero32, zeroPoint, pointAt}
+use Rattle.points.specs.declared.Point.{Point}
+use Rattle.points.specs.Points.{zero32, zeroPoint, pointAt}
 use Rattle.grid.specs.Row.{gridPoints}
 use Rattle.grid.specs.Grid.{held, filled, standsAt, emptied, pointNumber}
-use Rattle.grid.specs.Model.{puts, pilotRows, laidOne, laid, takenOne, taken}
-use Rattle.grid.proofs.Points.{by-points, length-puts, puts-miss, puts-hit, puts-more}
+use Rattle.points.specs.Model.{puts}
+use Rattle.grid.specs.Model.{pilotRows, laidOne, laid, takenOne, taken}
+use Rattle.points.proofs.Points.{by-points, length-puts, puts-miss, puts-hit, puts-more}
 use Rattle.grid.proofs.Slot.{contentAt, stands-holds, stands-alone, row-lt, point-stands}
 use Rattle.grid.proofs.PilotRows.{length-rows, rows-miss, rows-hit}
 

@@ -15,7 +15,7 @@ use Rattle.map.specs.Place.{Content, contentOf, locateOf}
 use Rattle.map.specs.Valid.{Valid}
 use Rattle.map.proofs.Law.{Locating, locating}
 use Rattle.map.proofs.Accept.{passes}
-use Rattle.grid.specs.Points.{pointAt}
+use Rattle.points.specs.Points.{pointAt}
 use Rattle.grid.specs.Row.{gridPoints, position}
 use Rattle.grid.specs.Question.{isGrid}
 use Rattle.grid.specs.Grid.{Sight, sight, sightOf, lookOf}

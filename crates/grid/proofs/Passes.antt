@@ -9,13 +9,13 @@ use lib.Ieee.{Float}
 use Rattle.base.specs.Answer.{Answer, accepted}
 use Rattle.map.specs.declared.Setup.{Setup}
 use Rattle.map.specs.Mode.{subchannels, symbols}
-use Rattle.grid.specs.declared.Point.{Point}
-use Rattle.grid.specs.Points.{zero32, pointAt}
+use Rattle.points.specs.declared.Point.{Point}
+use Rattle.points.specs.Points.{zero32, pointAt}
 use Rattle.grid.specs.Row.{gridPoints}
 use Rattle.grid.specs.Question.{slotRefusal}
 use Rattle.grid.specs.Grid.{outcome, filled, fillOf, emptied, emptyOf, standsAt}
 use Rattle.grid.specs.Model.{pilotRows, laidOne, laid, takenOne, taken}
-use Rattle.grid.proofs.Points.{length-puts}
+use Rattle.points.proofs.Points.{length-puts}
 use Rattle.grid.proofs.PilotRows.{length-rows}
 use Rattle.grid.proofs.Filled.{laid-is, taken-is, filled-is, emptied-is}
 use Rattle.grid.proofs.Refusal.{SlotAccepted, slot-accepted, slot-refused, slot-passes}

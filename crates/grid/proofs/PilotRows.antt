@@ -15,13 +15,14 @@ use Rattle.map.specs.Mode.{symbols, band, isPilot}
 use Rattle.map.specs.Place.{pilot}
 use Rattle.map.specs.Valid.{Valid}
 use Rattle.map.proofs.Law.{pilot-content, pilot-at}
-use Rattle.grid.specs.declared.Point.{Point}
+use Rattle.points.specs.declared.Point.{Point}
 use Rattle.map.specs.declared.Comb.{Comb}
-use Rattle.grid.specs.Points.{zero32, pointAt}
+use Rattle.points.specs.Points.{zero32, pointAt}
 use Rattle.grid.specs.Row.{gridPoints, usedPosition, rowOf, columnOf}
-use Rattle.grid.specs.Model.{putPoint, puts, pilotPlace, pilotRow, pilotRows}
+use Rattle.points.specs.Model.{putPoint, puts}
+use Rattle.grid.specs.Model.{pilotPlace, pilotRow, pilotRows}
 use Rattle.map.specs.Model.{combOf, pilotNumber}
-use Rattle.grid.proofs.Points.{length-puts, puts-miss, puts-one, puts-next}
+use Rattle.points.proofs.Points.{length-puts, puts-miss, puts-one, puts-next}
 use Rattle.map.proofs.Pilots.{CombLaw, pilots-law, Small, comb-small}
 use Rattle.grid.proofs.Slot.{contentAt, used-row, used-column, used-position-lt, at-place}
 

@@ -15,12 +15,12 @@ use Rattle.map.specs.Place.{Place, Content, guard, dc, pilot, point, placeOf, l
 use Rattle.map.specs.Valid.{Valid}
 use Rattle.map.proofs.ByMode.{symbols-range}
 use Rattle.map.proofs.Law.{locating, located-where-placed, in-own-slot}
-use Rattle.grid.specs.declared.Point.{Point}
-use Rattle.grid.specs.Points.{zeroPoint, pointAt}
+use Rattle.points.specs.declared.Point.{Point}
+use Rattle.points.specs.Points.{zeroPoint, pointAt}
 use Rattle.grid.specs.Row.{gridPoints, position}
 use Rattle.grid.specs.Question.{arePoints, isGrid, askSlot, slotRefusal}
 use Rattle.grid.specs.Grid.{outcome, pointNumber, held, filled, fillOf, standsAt, emptied, emptyOf, pilot-with, data-with, sight, sightOf, lookOf}
-use Rattle.grid.proofs.Points.{length-floats, point-floats, by-points}
+use Rattle.points.proofs.Points.{length-floats, point-floats, by-points}
 use Rattle.grid.proofs.Slot.{contentAt, row-position, column-position, position-lt, stands-lt, stands-holds}
 use Rattle.grid.proofs.Refusal.{SlotAccepted, slot-accepted, slot-passes}
 use Rattle.grid.proofs.Looked.{look-done}

@@ -23,7 +23,7 @@ use Rattle.map.proofs.Slot.{slot-law, band-law}
 use Rattle.map.proofs.Law.{content-placed, locate-accepts, placed-where-located, placing}
 use Rattle.grid.specs.Row.{gridPoints, position, usedPosition, rowOf, columnOf}
 use Rattle.grid.specs.Grid.{standsAt, pointNumber}
-use Rattle.grid.specs.Model.{Within}
+use Rattle.points.specs.Model.{Within}
 use Rattle.map.specs.Model.{shiftOf}
 use Rattle.map.proofs.Row.{shift-lt, row-start}
 

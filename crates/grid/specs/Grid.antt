@@ -7,10 +7,10 @@ use Rattle.base.specs.Answer.{Answer, accepted, refused}
 use Rattle.map.specs.declared.Setup.{Setup}
 use Rattle.map.specs.Mode.{subchannels, symbols, spotOf}
 use Rattle.map.specs.Place.{Content, guard, dc, pilot, point, contentOf}
-use Rattle.grid.specs.declared.Point.{Point}
+use Rattle.points.specs.declared.Point.{Point}
 use Rattle.grid.specs.declared.Seen.{Seen}
 use Rattle.grid.specs.declared.Seen.the-variants.{Nothing, Pilot, Data, Refused}
-use Rattle.grid.specs.Points.{pointAt, floatsOf, zeroPoint}
+use Rattle.points.specs.Points.{pointAt, floatsOf, zeroPoint}
 use Rattle.grid.specs.Row.{gridPoints, position, usedPosition, rowOf, columnOf}
 use Rattle.grid.specs.Question.{askSlot, askLook}
 

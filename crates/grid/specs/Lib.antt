@@ -1,4 +1,3 @@
-pub mod Points
 pub mod Row
 pub mod Question
 pub mod Length

@@ -1,30 +1,16 @@
 -- How fill and empty go about it, put by put: what the inner functions' contracts cite. No reader needs these to know what the calls do.
 use mathlib.Core.List.{List}
-use Prim.Native.Nat.{ℕ, zero, suc, _+_, _*_, _<_}
-use lib.ListN.{set}
+use Prim.Native.Nat.{ℕ, zero, suc, _+_, _*_}
 use lib.Ieee.{Float}
-use Rattle.base.specs.Steps.{entry}
 use Rattle.map.specs.declared.Setup.{Setup}
 use Rattle.map.specs.Mode.{symbols}
-use Rattle.grid.specs.declared.Point.{Point}
+use Rattle.points.specs.declared.Point.{Point}
 use Rattle.map.specs.declared.Comb.{Comb}
 use Rattle.map.specs.Model.{combOf, pilotNumber}
-use Rattle.grid.specs.Points.{pointAt}
+use Rattle.points.specs.Points.{pointAt}
+use Rattle.points.specs.Model.{puts}
 use Rattle.grid.specs.Row.{usedPosition}
 use Rattle.grid.specs.Grid.{standsAt, pointNumber}
-
--- a buffer with point n put
-unfoldable pub putPoint : List Float → ℕ → Point → List Float
-putPoint floats n p = set (set floats (n * 2) (p .i)) (n * 2 + 1) (p .q)
-
--- the first m points of a source put at their places
-unfoldable pub puts : (ℕ → ℕ) → (ℕ → Point) → ℕ → List Float → List Float
-puts place source zero floats = floats
-puts place source (suc m) floats = putPoint (puts place source m floats) (place m) (source m)
-
--- each of the 48 places of a row is a point of a buffer of so many floats
-abbrev pub Within : List ℕ → ℕ → Type 0
-Within row floats = (k : ℕ) → k < 48 → entry row k * 2 + 1 < floats
 
 abbrev pub pilotPlace : Setup → ℕ → Comb → ℕ → ℕ
 pilotPlace c row b j = usedPosition c row (pilotNumber b j)

@@ -1,9 +1,8 @@
 // Grids: laying a slot's points on the carriers, taking them off again, and looking at one carrier.
-use base::wide16;
 use map::Located;
 use map::Setup;
+use points::Point;
 ghost use mathlib.Core.Path.{_≡_};
-ghost use lib.Ieee.{Float};
 ghost use Prim.Native.Nat.{_+_, _*_, _%_, _<_, _≤_};
 ghost use lib.ListN.{length, replicate};
 ghost use Rattle.map.specs.Mode.{symbols, subchannels, band};
@@ -11,19 +10,13 @@ ghost use Rattle.map.specs.Place.{located};
 ghost use Rattle.map.specs.Valid.{Valid};
 ghost use Rattle.map.specs.Model.{TableOf};
 ghost use Rattle.base.specs.Answer.{refusalOf};
-ghost use Rattle.base.specs.Steps.{entry};
-ghost use Rattle.grid.specs.Points.{zero32, pointAt};
+ghost use Rattle.points.specs.Points.{zero32};
+ghost use Rattle.points.specs.Model.{putPoint};
 ghost use Rattle.grid.specs.Row.{gridPoints, position as Position, usedPosition};
 ghost use Rattle.grid.specs.Question.{slotRefusal};
 ghost use Rattle.grid.specs.Length.{pointsLength, gridLength};
 ghost use Rattle.grid.specs.Grid.{fillOf, emptyOf, seen, sightOf, lookOf};
-ghost use Rattle.grid.specs.Model.{putPoint, puts, Within, pilotRow, pilotRows, laidOne, takenOne};
-
-// A point, in-phase first.
-pub struct Point {
-    pub i: f32,
-    pub q: f32,
-}
+ghost use Rattle.grid.specs.Model.{pilotRow, pilotRows, laidOne, takenOne};
 
 // What `look` finds on a carrier, or the first refusal.
 pub enum Seen {
@@ -36,34 +29,6 @@ pub enum Seen {
         index: usize,
     },
     Refused(u8),
-}
-
-// Point n of a buffer.
-fn point_at(floats: &[f32], n: usize) -> Point
-    requires { ⌜ n * 2 + 1 < length (now floats) ⌝ }
-    ensures { λ r. ⌜ r ≡ pointAt (now (floats .entry)) n ⌝ }
-{
-    Point {
-        i: floats[n * 2],
-        q: floats[n * 2 + 1],
-    }
-}
-
-fn put_point(floats: &mut [f32], n: usize, p: Point)
-    requires { ⌜ n * 2 + 1 < length (now floats) ⌝ }
-    ensures { λ _. ⌜ now (floats .exit) ≡ putPoint (now (floats .entry)) n p ⌝ }
-{
-    floats[n * 2] = p.i;
-    floats[n * 2 + 1] = p.q;
-}
-
-// Zeros everywhere.
-fn clear(floats: &mut [f32])
-    ensures { λ _. ⌜ now (floats .exit) ≡ replicate (length (now (floats .entry))) zero32 ⌝ }
-{
-    for j in 0..floats.len() {
-        floats[j] = 0.0;
-    }
 }
 
 // Where a used number of a row stands in the grid.
@@ -80,7 +45,7 @@ fn put_used(c: Setup, row: usize, used: usize, p: Point, grid: &mut [f32])
     requires { ⌜ (row < symbols c) × (used < band c .used) × (length (now grid) ≡ 2 * gridPoints c) ⌝ }
     ensures { λ _. ⌜ now (grid .exit) ≡ putPoint (now (grid .entry)) (usedPosition c row used) p ⌝ }
 {
-    put_point(grid, position(c, row, used), p);
+    points::put_point(grid, position(c, row, used), p);
 }
 
 // The pilot point on the pilots of a row.
@@ -104,25 +69,12 @@ fn ground(c: Setup, slot: usize, p: Point, grid: &mut [f32])
     requires { ⌜ (slot < 512) × (length (now grid) ≡ 2 * gridPoints c) ⌝ }
     ensures { λ _. ⌜ now (grid .exit) ≡ pilotRows c slot p (symbols c) (replicate (2 * gridPoints c) zero32) ⌝ }
 {
-    clear(grid);
+    points::clear(grid);
     let rows = map::symbols(c);
     let mut row = 0;
     while row < rows {
         pilot_row(c, slot, row, p, grid);
         row += 1;
-    }
-}
-
-// The n points from `first` on laid on the places of a row from q on.
-fn lay_run(row: &[u16; 48], q: usize, n: usize, first: usize, points: &[f32], grid: &mut [f32])
-    requires { ⌜ (q + n ≤ 48) × (first < 65536) × ((first + n) * 2 ≤ length (now points)) × Within (now row) (length (now grid)) ⌝ }
-    ensures { λ _. ⌜ now (grid .exit) ≡ puts (λ m. entry (now (row .entry)) (q + m)) (λ m. pointAt (now (points .entry)) (first + m)) n (now (grid .entry)) ⌝ }
-{
-    let mut m = 0;
-    while m < n {
-        let k = wide16(row[q + m]);
-        put_point(grid, k, point_at(points, first + m));
-        m += 1;
     }
 }
 
@@ -143,21 +95,8 @@ fn lay(
     let row = map::carrier_row(c, slot, subchannel, table);
     let by = map::shift(c, subchannel);
     let first = subchannel * 48;
-    lay_run(&row, by, 48 - by, first, points, grid);
-    lay_run(&row, 0, by, first + (48 - by), points, grid);
-}
-
-// The n points from `first` on taken off the places of a row from q on.
-fn take_run(row: &[u16; 48], q: usize, n: usize, first: usize, grid: &[f32], points: &mut [f32])
-    requires { ⌜ (q + n ≤ 48) × (first < 65536) × ((first + n) * 2 ≤ length (now points)) × Within (now row) (length (now grid)) ⌝ }
-    ensures { λ _. ⌜ now (points .exit) ≡ puts (λ m. first + m) (λ m. pointAt (now (grid .entry)) (entry (now (row .entry)) (q + m))) n (now (points .entry)) ⌝ }
-{
-    let mut m = 0;
-    while m < n {
-        let k = wide16(row[q + m]);
-        put_point(points, first + m, point_at(grid, k));
-        m += 1;
-    }
+    points::lay_run(&row, by, 48 - by, first, points, grid);
+    points::lay_run(&row, 0, by, first + (48 - by), points, grid);
 }
 
 // The points of one subchannel taken off the grid.
@@ -177,8 +116,8 @@ fn take(
     let row = map::carrier_row(c, slot, subchannel, table);
     let by = map::shift(c, subchannel);
     let first = subchannel * 48;
-    take_run(&row, by, 48 - by, first, grid, points);
-    take_run(&row, 0, by, first + (48 - by), grid, points);
+    points::take_run(&row, by, 48 - by, first, grid, points);
+    points::take_run(&row, 0, by, first + (48 - by), grid, points);
 }
 
 // The number of the first of questions 1, 2, 3, 4, 8 and 9 that is answered no, or 0.
@@ -336,5 +275,8 @@ pub fn look(c: Setup, symbol: usize, grid: &[f32], carrier: usize) -> Seen
     if grid.len() != 2 * grid_points(c) {
         return Seen::Refused(9);
     }
-    sight(found, point_at(grid, carrier_position(c, symbol, carrier)))
+    sight(
+        found,
+        points::point_at(grid, carrier_position(c, symbol, carrier)),
+    )
 }

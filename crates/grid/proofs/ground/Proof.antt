@@ -1,6 +1,6 @@
 -- `grid::ground` meets its contract.
 use Rattle.grid.specs.Model.{pilotRows}
-use Rattle.grid.specs.Points.{zero32}
+use Rattle.points.specs.Points.{zero32}
 use lib.ListN.{replicate}
 use borrow.Author.Needs.{needs}
 use mathlib.Core.Path.{sym, ap, _∙_}

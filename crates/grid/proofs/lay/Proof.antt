@@ -4,12 +4,13 @@ use Prim.Native.Nat.{ℕ, _-_}
 use native.Mathlib.Omega.{arith}
 use lib.ListN.{length}
 use Rattle.map.proofs.ByMode.{subchannels-few}
-use Rattle.grid.specs.Points.{pointAt}
+use Rattle.points.specs.Points.{pointAt}
 use Rattle.grid.specs.Grid.{standsAt, pointNumber}
-use Rattle.grid.specs.Model.{puts, laidOne}
-use Rattle.grid.proofs.Points.{length-puts}
+use Rattle.points.specs.Model.{puts}
+use Rattle.grid.specs.Model.{laidOne}
+use Rattle.points.proofs.Points.{length-puts}
 use Rattle.grid.proofs.Slot.{first-run, second-run, row-within}
-use Rattle.grid.proofs.Copy.{two-runs}
+use Rattle.points.proofs.Copy.{two-runs}
 use Rattle.grid.proofs.lay.Statement.{statement}
 use Rattle.grid.proofs.lay.Tie as tie
 

@@ -1,5 +1,5 @@
 -- `grid::look` meets its contract.
-use Rattle.grid.specs.Points.{pointAt}
+use Rattle.points.specs.Points.{pointAt}
 use Rattle.grid.specs.Grid.{sightOf}
 use denote.Ref.{now}
 use Rattle.base.specs.Answer.{refusalOf}

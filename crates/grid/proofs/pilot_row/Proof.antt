@@ -4,7 +4,7 @@ use Prim.Native.Nat.{_-_, _*_}
 use native.Mathlib.Omega.{arith}
 use borrow.Author.Needs.{needs}
 use Rattle.map.proofs.ByMode.{slot-few, symbols-range}
-use Rattle.grid.proofs.Points.{puts-none}
+use Rattle.points.proofs.Points.{puts-none}
 use Rattle.grid.proofs.PilotRows.{RowTurn, turn-small, turn-number, turn-long, turn-next, turn-two, turn-done}
 use Rattle.grid.proofs.pilot_row.Statement.{statement}
 use Rattle.grid.proofs.pilot_row.Tie as tie

@@ -1,7 +1,7 @@
 -- `grid::put_used` meets its contract.
 use mathlib.Core.Path.{ap, _∙_}
 use denote.Ref.{now}
-use Rattle.grid.specs.Model.{putPoint}
+use Rattle.points.specs.Model.{putPoint}
 use borrow.Author.Needs.{needs}
 use Rattle.grid.proofs.put_used.Statement.{statement}
 use Rattle.grid.proofs.put_used.Tie as tie

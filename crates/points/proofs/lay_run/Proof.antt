@@ -1,15 +1,15 @@
--- `grid::lay_run` meets its contract.
+-- `points::lay_run` meets its contract.
 use mathlib.Core.Path.{ap₂, _∙_}
 use Prim.Native.Nat.{_+_, _-_}
 use native.Mathlib.Omega.{arith}
 use borrow.Author.Needs.{needs}
 use Rattle.base.specs.Steps.{entry}
-use Rattle.grid.specs.Points.{pointAt}
-use Rattle.grid.specs.Model.{putPoint}
-use Rattle.grid.proofs.Points.{puts-none}
-use Rattle.grid.proofs.Copy.{CopyTurn, copy-long, copy-next, copy-done}
-use Rattle.grid.proofs.lay_run.Statement.{statement}
-use Rattle.grid.proofs.lay_run.Tie as tie
+use Rattle.points.specs.Points.{pointAt}
+use Rattle.points.specs.Model.{putPoint}
+use Rattle.points.proofs.Points.{puts-none}
+use Rattle.points.proofs.Copy.{CopyTurn, copy-long, copy-next, copy-done}
+use Rattle.points.proofs.lay_run.Statement.{statement}
+use Rattle.points.proofs.lay_run.Tie as tie
 
 abbrev Inv-loop : tie.InvT-loop
 Inv-loop row q n first points grid₀ m₀ grid m = CopyTurn (λ i. entry row (q + i)) (λ i. pointAt points (first + i)) n grid₀ grid m

@@ -1,8 +1,8 @@
--- `grid::put_point` meets its contract.
-use Rattle.grid.specs.Model.{putPoint}
+-- `points::put_point` meets its contract.
+use Rattle.points.specs.Model.{putPoint}
 use borrow.Author.Needs.{needs}
-use Rattle.grid.proofs.put_point.Statement.{statement}
-use Rattle.grid.proofs.put_point.Tie as tie
+use Rattle.points.proofs.put_point.Statement.{statement}
+use Rattle.points.proofs.put_point.Tie as tie
 
 returns : tie.Need-returns
 unfolding putPoint

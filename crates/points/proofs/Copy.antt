@@ -5,9 +5,9 @@ use Prim.Native.Nat.{ℕ, _+_, _<_, _≤_}
 use native.Mathlib.Omega.{arith}
 use lib.ListN.{length}
 use lib.Ieee.{Float}
-use Rattle.grid.specs.declared.Point.{Point}
-use Rattle.grid.specs.Model.{putPoint, puts}
-use Rattle.grid.proofs.Points.{length-puts, puts-next, puts-as, puts-more}
+use Rattle.points.specs.declared.Point.{Point}
+use Rattle.points.specs.Model.{putPoint, puts}
+use Rattle.points.proofs.Points.{length-puts, puts-next, puts-as, puts-more}
 
 -- what holds before each turn of a run of n points: the destination as far as it is written
 pub record CopyTurn (place : ℕ → ℕ) (source : ℕ → Point) (n : ℕ) (dest₀ dest : List Float) (m : ℕ) : Type 0 where

@@ -1,14 +1,14 @@
--- `grid::clear` meets its contract.
+-- `points::clear` meets its contract.
 use borrow.Author.Needs.{needs}
 use native.Mathlib.Omega.{arith}
 use lib.Ieee.{nan}
 use lib.ListN.{length, getD, length-set}
 use Prim.Native.Nat.{ℕ, _-_, _<_, _≤_}
 use mathlib.Core.Path.{_≡_, refl}
-use Rattle.grid.proofs.Points.{cleared-more, cleared-all}
-use Rattle.grid.specs.Points.{zero32}
-use Rattle.grid.proofs.clear.Statement.{statement}
-use Rattle.grid.proofs.clear.Tie as tie
+use Rattle.points.proofs.Points.{cleared-more, cleared-all}
+use Rattle.points.specs.Points.{zero32}
+use Rattle.points.proofs.clear.Statement.{statement}
+use Rattle.points.proofs.clear.Tie as tie
 
 abbrev Inv-loop : tie.InvT-loop
 Inv-loop floats₀ j₀ j-end floats j = (j ≤ j-end) × (j-end ≡ length floats₀) × (length floats ≡ length floats₀) × ((k : ℕ) → k < j → getD floats k nan ≡ zero32)

@@ -14,9 +14,9 @@ use Rattle.base.specs.Choice.{pick}
 use Rattle.base.specs.Tabulate.{tabulate}
 use Rattle.base.proofs.Test.{cases}
 use Rattle.base.proofs.Tabulate.{length-tabulate, getD-tabulate, tabulated}
-use Rattle.grid.specs.declared.Point.{Point}
-use Rattle.grid.specs.Points.{zero32, pointAt, floatsOf}
-use Rattle.grid.specs.Model.{putPoint, puts}
+use Rattle.points.specs.declared.Point.{Point}
+use Rattle.points.specs.Points.{zero32, pointAt, floatsOf}
+use Rattle.points.specs.Model.{putPoint, puts}
 
 -- ---- a buffer by its points
 

@@ -6,7 +6,7 @@ use lib.ListN.{getD}
 use lib.Ieee.{Float, ofBits, binary32, nan}
 use Rattle.base.specs.Choice.{pick}
 use Rattle.base.specs.Tabulate.{tabulate}
-use Rattle.grid.specs.declared.Point.{Point}
+use Rattle.points.specs.declared.Point.{Point}
 
 -- +0.0
 abbrev pub zero32 : Float

@@ -1,8 +1,8 @@
--- `grid::point_at` meets its contract.
-use Rattle.grid.specs.Points.{pointAt}
+-- `points::point_at` meets its contract.
+use Rattle.points.specs.Points.{pointAt}
 use borrow.Author.Needs.{needs}
-use Rattle.grid.proofs.point_at.Statement.{statement}
-use Rattle.grid.proofs.point_at.Tie as tie
+use Rattle.points.proofs.point_at.Statement.{statement}
+use Rattle.points.proofs.point_at.Tie as tie
 
 returns : tie.Need-returns
 unfolding pointAt
