@@ -1,97 +1,81 @@
--- The loops of fill and empty over the subchannels, and what they come to.
-use mathlib.Core.Path.{_≡_, sym, ap, _∙_}
+-- The loops of fill and empty over the subchannels, and what the calls come to.
+use mathlib.Core.Path.{_≡_, ap, _∙_, subst}
 use mathlib.Core.List.{List}
 use Prim.Native.Nat.{ℕ, _+_, _*_, _<_, _≤_}
-use native.Mathlib.Numerals.{add-one}
 use native.Mathlib.Omega.{arith}
-use lib.ListN.{length, replicate, length-replicate}
+use lib.ListN.{length}
 use lib.Ieee.{Float}
 use Rattle.base.specs.Answer.{Answer, accepted}
 use Rattle.map.specs.declared.Setup.{Setup}
-use Rattle.map.specs.Mode.{subchannels, symbols}
+use Rattle.map.specs.Mode.{subchannels}
+use Rattle.map.proofs.ByMode.{subchannels-few}
 use Rattle.points.specs.declared.Point.{Point}
-use Rattle.points.specs.Points.{zero32, pointAt}
-use Rattle.grid.specs.Row.{gridPoints}
-use Rattle.grid.specs.Question.{slotRefusal}
-use Rattle.grid.specs.Grid.{outcome, filled, fillOf, emptied, emptyOf, standsAt}
-use Rattle.grid.specs.Model.{pilotRows, laidOne, laid, takenOne, taken}
-use Rattle.points.proofs.Points.{length-puts}
-use Rattle.grid.proofs.PilotRows.{length-rows}
-use Rattle.grid.proofs.Filled.{laid-is, taken-is, filled-is, emptied-is}
-use Rattle.grid.proofs.Refusal.{SlotAccepted, slot-accepted, slot-refused, slot-passes}
+use Rattle.points.specs.Points.{pointAt}
+use Rattle.points.specs.Model.{puts}
+use Rattle.points.proofs.Copy.{Putting, putting-none, putting-long, putting-run, putting-done}
+use Rattle.lengths.specs.Question.{askSlot}
+use Rattle.lengths.specs.Model.{slotRefusal}
+use Rattle.lengths.proofs.Refusal.{SlotAccepted, slot-refused, slot-passes}
+use Rattle.grid.specs.Grid.{outcome, fillOf, standsAt, emptyOf}
+use Rattle.grid.specs.Model.{grounded}
+use Rattle.grid.proofs.Filled.{length-ground, filled-is, emptied-is}
 
--- a refusal leaves the buffer
-pub fill-refused : (c : Setup) (slot : ℕ) (p : Point) (points grid : List Float) (k : ℕ) → k ≡ slotRefusal c slot (length points) (length grid) → (k ≡ 0 → ⊥)
-    → record { number = k; buffer = grid } ≡ fillOf c slot p points grid
-unfolding fillOf
-fill-refused c slot p points grid k e ne = rw (slot-refused c slot (length points) (length grid) k (accepted (filled c slot p points)) e ne)
+-- a refusal leaves the buffer, and an accepted request has it anew
+pub refused-leaves : (setup : Setup) (slot points grid : ℕ) (rest : Answer (List Float)) (old : List Float) (k : ℕ) → k ≡ slotRefusal setup slot points grid → (k ≡ 0 → ⊥)
+    → record { refusal = k; buffer = old } ≡ outcome (askSlot setup slot points grid rest) old
+refused-leaves setup slot points grid rest old k e ne = rw (slot-refused setup slot points grid rest k e ne)
 
-pub empty-refused : (c : Setup) (slot : ℕ) (grid points : List Float) (k : ℕ) → k ≡ slotRefusal c slot (length points) (length grid) → (k ≡ 0 → ⊥)
-    → record { number = k; buffer = points } ≡ emptyOf c slot grid points
-unfolding emptyOf
-empty-refused c slot grid points k e ne = rw (slot-refused c slot (length points) (length grid) k (accepted (emptied c slot grid)) e ne)
+accepted-anew : {setup : Setup} {slot points grid : ℕ} → SlotAccepted setup slot points grid → (new defined old : List Float) → new ≡ defined
+    → record { refusal = 0; buffer = new } ≡ outcome (askSlot setup slot points grid (accepted defined)) old
+accepted-anew a new defined old e = rw (slot-passes a, e)
 
-pub now-accepted : (c : Setup) (slot points grid k : ℕ) → k ≡ slotRefusal c slot points grid → k ≡ 0 → SlotAccepted c slot points grid
-now-accepted c slot points grid k e z = slot-accepted c slot points grid (sym e ∙ z)
+-- what holds before each turn: the points of the first s subchannels are put
+pub record SlotTurn (setup : Setup) (slot points grid : ℕ) (place : ℕ → ℕ) (source : ℕ → Point) (n : ℕ) (dest₀ dest : List Float) (s : ℕ) : Type 0 where
+  pub fits : SlotAccepted setup slot points grid
+  pub n-is : n ≡ subchannels setup
+  pub put : Putting place source (n * 48) dest₀ dest (s * 48)
 
--- what holds before each turn of fill, over the ground
-pub record FillTurn (c : Setup) (slot : ℕ) (points ground : List Float) (n : ℕ) (grid : List Float) (s : ℕ) : Type 0 where
-  pub fits : SlotAccepted c slot (length points) (length ground)
-  pub n-is : n ≡ subchannels c
-  pub at-most : s ≤ n
-  pub so-far : grid ≡ laid c slot points s ground
+pub slot-start : {setup : Setup} {slot points grid : ℕ} {place : ℕ → ℕ} {source : ℕ → Point} {dest₀ : List Float} → SlotAccepted setup slot points grid
+    → (n : ℕ) → n ≡ subchannels setup → SlotTurn setup slot points grid place source n dest₀ dest₀ 0
+slot-start a n e = record { fits = a; n-is = e; put = putting-none _ _ _ _ }
 
-module _ {c : Setup} {slot : ℕ} {points ground : List Float} {n : ℕ} {grid : List Float} {s : ℕ} (t : FillTurn c slot points ground n grid s) where
-  pub fill-long : length grid ≡ length ground
-  fill-long = ap length (t .so-far ∙ laid-is c slot points s ground) ∙ length-puts (standsAt c slot) (pointAt points) (s * 48) ground
+module _ {setup : Setup} {slot points grid : ℕ} {place : ℕ → ℕ} {source : ℕ → Point} {n : ℕ} {dest₀ dest : List Float} {s : ℕ}
+    (t : SlotTurn setup slot points grid place source n dest₀ dest s) where
+  pub slot-long : length dest ≡ length dest₀
+  slot-long = putting-long (t .put)
 
-  pub fill-next : s < n → (grid′ : List Float) → grid′ ≡ laidOne c slot points s grid → FillTurn c slot points ground n grid′ (s + 1)
-  unfolding laid
-  fill-next h grid′ e =
-      record { fits = t .fits; n-is = t .n-is; at-most = omega arith; so-far = rw (add-one s) (e ∙ ap (laidOne c slot points s) (t .so-far)) }
+  pub slot-few : n ≤ 70
+  slot-few = rw (t .n-is) (subchannels-few (t .fits .valid))
 
-  pub fill-done : n ≤ s → (p : Point) (grid₀ : List Float) → SlotAccepted c slot (length points) (length grid₀)
-      → ground ≡ pilotRows c slot p (symbols c) (replicate (2 * gridPoints c) zero32) → record { number = 0; buffer = grid } ≡ fillOf c slot p points grid₀
-  unfolding fillOf
-  fill-done h p grid₀ a q =
-      let e : s ≡ subchannels c = omega (arith, t .at-most, t .n-is) in
-      let g : grid ≡ filled c slot p points =
-      t .so-far ∙ ap (λ (x : ℕ). laid c slot points x ground) e ∙ ap (laid c slot points (subchannels c)) q
-      ∙ filled-is c (t .fits .valid) slot (t .fits .slot-lt) p points in
-      ap (λ (x : List Float). outcome (accepted x) grid₀) g ∙ ap (λ (x : Answer (List Float)). outcome x grid₀) (sym (slot-passes a))
+  pub slot-next : s < n → (dest′ : List Float) → dest′ ≡ puts (λ j. place (s * 48 + j)) (λ j. source (s * 48 + j)) 48 dest
+      → SlotTurn setup slot points grid place source n dest₀ dest′ (s + 1)
+  slot-next h dest′ e =
+      record {
+        fits = t .fits;
+        n-is = t .n-is;
+        put = subst (Putting place source (n * 48) dest₀ dest′) (omega arith) (putting-run (t .put) 48 (omega arith) dest′ e);
+      }
+
+  slot-done : n ≤ s → dest ≡ puts place source (subchannels setup * 48) dest₀
+  slot-done h = putting-done (t .put) (omega arith) ∙ ap (λ (x : ℕ). puts place source (x * 48) dest₀) (t .n-is)
 
 -- the ground is as long as the grid was
-pub ground-fits : {c : Setup} {slot : ℕ} (p : Point) {points grid : ℕ} (ground : List Float) → SlotAccepted c slot points grid
-    → ground ≡ pilotRows c slot p (symbols c) (replicate (2 * gridPoints c) zero32) → SlotAccepted c slot points (length ground)
-ground-fits {c = c} {slot = slot} p ground a e =
-    record {
-      valid = a .valid;
-      slot-lt = a .slot-lt;
-      points-long = a .points-long;
-      grid-long = ap length e ∙ length-rows c (a .valid) slot p (symbols c) (replicate (2 * gridPoints c) zero32) ∙ length-replicate (2 * gridPoints c) zero32;
-    }
+pub ground-fits : {setup : Setup} {slot points grid : ℕ} (p : Point) (ground : List Float) → SlotAccepted setup slot points grid → ground ≡ grounded setup slot p
+    → SlotAccepted setup slot points (length ground)
+ground-fits {setup = setup} {slot = slot} p ground a e =
+    record { valid = a .valid; slot-lt = a .slot-lt; points-long = a .points-long; grid-long = ap length e ∙ length-ground setup slot p }
 
--- what holds before each turn of empty
-pub record EmptyTurn (c : Setup) (slot : ℕ) (grid points₀ : List Float) (n : ℕ) (points : List Float) (s : ℕ) : Type 0 where
-  pub fits : SlotAccepted c slot (length points₀) (length grid)
-  pub n-is : n ≡ subchannels c
-  pub at-most : s ≤ n
-  pub so-far : points ≡ taken c slot grid s points₀
+pub fill-done : {setup : Setup} {slot k n : ℕ} (points : List Float) {ground grid : List Float} {s : ℕ} → SlotTurn setup slot (length points) k (standsAt setup slot) (pointAt points) n ground grid s
+    → n ≤ s → (p : Point) (grid₀ : List Float) → SlotAccepted setup slot (length points) (length grid₀) → ground ≡ grounded setup slot p
+    → record { refusal = 0; buffer = grid } ≡ fillOf setup slot p points grid₀
+unfolding fillOf
+fill-done {setup = setup} {slot = slot} points t h p grid₀ a e =
+    accepted-anew a _ _ grid₀
+    (slot-done t h ∙ ap (puts (standsAt setup slot) (pointAt points) (subchannels setup * 48)) e ∙ filled-is setup (a .valid) slot (a .slot-lt) p points)
 
-module _ {c : Setup} {slot : ℕ} {grid points₀ : List Float} {n : ℕ} {points : List Float} {s : ℕ} (t : EmptyTurn c slot grid points₀ n points s) where
-  pub empty-long : length points ≡ length points₀
-  empty-long =
-      ap length (t .so-far ∙ taken-is c slot grid s points₀) ∙ length-puts (λ k. k) (λ k. pointAt grid (standsAt c slot k)) (s * 48) points₀
-
-  pub empty-next : s < n → (points′ : List Float) → points′ ≡ takenOne c slot grid s points → EmptyTurn c slot grid points₀ n points′ (s + 1)
-  unfolding taken
-  empty-next h points′ e =
-      record { fits = t .fits; n-is = t .n-is; at-most = omega arith; so-far = rw (add-one s) (e ∙ ap (takenOne c slot grid s) (t .so-far)) }
-
-  pub empty-done : n ≤ s → record { number = 0; buffer = points } ≡ emptyOf c slot grid points₀
-  unfolding emptyOf
-  empty-done h =
-      let e : s ≡ subchannels c = omega (arith, t .at-most, t .n-is) in
-      let g : points ≡ emptied c slot grid =
-      t .so-far ∙ ap (λ (x : ℕ). taken c slot grid x points₀) e ∙ emptied-is c slot grid points₀ (t .fits .points-long) in
-      ap (λ (x : List Float). outcome (accepted x) points₀) g ∙ ap (λ (a : Answer (List Float)). outcome a points₀) (sym (slot-passes (t .fits)))
+pub empty-done : {setup : Setup} {slot n : ℕ} (grid points₀ : List Float) {points : List Float} {s : ℕ}
+    → SlotTurn setup slot (length points₀) (length grid) (λ k. k) (λ k. pointAt grid (standsAt setup slot k)) n points₀ points s → n ≤ s
+    → record { refusal = 0; buffer = points } ≡ emptyOf setup slot grid points₀
+unfolding emptyOf
+empty-done {setup = setup} {slot = slot} grid points₀ t h =
+    accepted-anew (t .fits) _ _ points₀ (slot-done t h ∙ emptied-is setup slot grid points₀ (t .fits .points-long))

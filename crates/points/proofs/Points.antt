@@ -3,7 +3,6 @@ use mathlib.Core.Path.{_≡_, refl, sym, ap, ap₂, _∙_, subst}
 use mathlib.Core.List.{List}
 use Prim.Native.Nat.{ℕ, zero, suc, _+_, _*_, _/_, _%_, _<_}
 use native.Mathlib.Nat.{add-zero, add-suc}
-use native.Mathlib.Numerals.{add-one}
 use native.Mathlib.Omega.{arith}
 use lib.Dec.{eqb}
 use lib.ListN.{length, getD, set, length-set, replicate, length-replicate, getD-replicate}
@@ -15,7 +14,7 @@ use Rattle.base.specs.Tabulate.{tabulate}
 use Rattle.base.proofs.Test.{cases}
 use Rattle.base.proofs.Tabulate.{length-tabulate, getD-tabulate, tabulated}
 use Rattle.points.specs.declared.Point.{Point}
-use Rattle.points.specs.Points.{zero32, pointAt, floatsOf}
+use Rattle.points.specs.Points.{zero32, zeroPoint, pointAt, floatsOf}
 use Rattle.points.specs.Model.{putPoint, puts}
 
 -- ---- a buffer by its points
@@ -130,6 +129,14 @@ cleared-all l n e h =
     ext-getD nan l (replicate n zero32) (e ∙ sym (length-replicate n zero32))
     (λ k lt. h k (rw (← e) lt) ∙ sym (getD-replicate n k zero32 nan (rw (← e) lt)))
 
+pub point-cleared : (n k : ℕ) → k * 2 + 1 < n → pointAt (replicate n zero32) k ≡ zeroPoint
+unfolding pointAt
+point-cleared n k h =
+    λ t. record {
+      i = getD-replicate n (k * 2) zero32 nan (omega arith) t;
+      q = getD-replicate n (k * 2 + 1) zero32 nan h t;
+    }
+
 -- ---- one point put at many places
 
 pub puts-one : (place : ℕ → ℕ) (p : Point) (m : ℕ) (l : List Float) (j : ℕ) → j < m → place j * 2 + 1 < length l → pointAt (puts place (λ i. p) m l) (place j) ≡ p
@@ -145,17 +152,6 @@ puts-one place p (suc m) l j lt room =
   where
     lower : (a b : ℕ) → a < suc b → (a ≡ b → ⊥) → a < b
     lower a b l ne = omega arith
-
--- ---- a loop that puts, turn by turn
-
-pub puts-none : (place : ℕ → ℕ) (source : ℕ → Point) (l : List Float) → l ≡ puts place source 0 l
-unfolding puts
-puts-none place source l = refl
-
-pub puts-next : (place : ℕ → ℕ) (source : ℕ → Point) (m : ℕ) (l l′ before : List Float) → l′ ≡ putPoint l (place m) (source m) → l ≡ puts place source m before
-    → l′ ≡ puts place source (m + 1) before
-unfolding puts
-puts-next place source m l l′ before e h = rw (add-one m) (e ∙ ap (λ (x : List Float). putPoint x (place m) (source m)) h)
 
 -- the same puts, by another way to say the places and the source
 pub puts-as : (place place′ : ℕ → ℕ) (source source′ : ℕ → Point) (m : ℕ) (l : List Float) → ((j : ℕ) → j < m → place j ≡ place′ j)

@@ -5,7 +5,7 @@ ghost use Prim.Native.Nat.{_+_, _*_, _<_, _≤_};
 ghost use lib.ListN.{length, replicate};
 ghost use Rattle.base.specs.Steps.{entry};
 ghost use Rattle.points.specs.Points.{zero32, pointAt};
-ghost use Rattle.points.specs.Model.{putPoint, puts, Within};
+ghost use Rattle.points.specs.Model.{putPoint, puts, turned, Within};
 
 // A point, in-phase first.
 pub struct Point {
@@ -42,8 +42,8 @@ pub fn clear(floats: &mut [f32])
 }
 
 // The n points from `first` on laid on the places of a row from q on.
-pub fn lay_run(row: &[u16; 48], q: usize, n: usize, first: usize, points: &[f32], grid: &mut [f32])
-    requires { ⌜ (q + n ≤ 48) × (first < 65536) × ((first + n) * 2 ≤ length (now points)) × Within (now row) (length (now grid)) ⌝ }
+fn lay_run(row: &[u16; 48], q: usize, n: usize, first: usize, points: &[f32], grid: &mut [f32])
+    requires { ⌜ (q + n ≤ 48) × ((first + n) * 2 ≤ length (now points)) × Within (now row) (length (now grid)) ⌝ }
     ensures { λ _. ⌜ now (grid .exit) ≡ puts (λ m. entry (now (row .entry)) (q + m)) (λ m. pointAt (now (points .entry)) (first + m)) n (now (grid .entry)) ⌝ }
 {
     let mut m = 0;
@@ -54,9 +54,18 @@ pub fn lay_run(row: &[u16; 48], q: usize, n: usize, first: usize, points: &[f32]
     }
 }
 
+// The 48 points from `first` on laid on the places of a row, the first at place `by`; they go on at the row's start.
+pub fn lay_row(row: &[u16; 48], by: usize, first: usize, points: &[f32], grid: &mut [f32])
+    requires { ⌜ (by < 48) × ((first + 48) * 2 ≤ length (now points)) × Within (now row) (length (now grid)) ⌝ }
+    ensures { λ _. ⌜ now (grid .exit) ≡ puts (turned (now (row .entry)) by) (λ m. pointAt (now (points .entry)) (first + m)) 48 (now (grid .entry)) ⌝ }
+{
+    lay_run(row, by, 48 - by, first, points, grid);
+    lay_run(row, 0, by, first + (48 - by), points, grid);
+}
+
 // The n points from `first` on taken off the places of a row from q on.
-pub fn take_run(row: &[u16; 48], q: usize, n: usize, first: usize, grid: &[f32], points: &mut [f32])
-    requires { ⌜ (q + n ≤ 48) × (first < 65536) × ((first + n) * 2 ≤ length (now points)) × Within (now row) (length (now grid)) ⌝ }
+fn take_run(row: &[u16; 48], q: usize, n: usize, first: usize, grid: &[f32], points: &mut [f32])
+    requires { ⌜ (q + n ≤ 48) × ((first + n) * 2 ≤ length (now points)) × Within (now row) (length (now grid)) ⌝ }
     ensures { λ _. ⌜ now (points .exit) ≡ puts (λ m. first + m) (λ m. pointAt (now (grid .entry)) (entry (now (row .entry)) (q + m))) n (now (points .entry)) ⌝ }
 {
     let mut m = 0;
@@ -65,4 +74,13 @@ pub fn take_run(row: &[u16; 48], q: usize, n: usize, first: usize, grid: &[f32],
         put_point(points, first + m, point_at(grid, k));
         m += 1;
     }
+}
+
+// The reverse: the 48 points from `first` on taken off those places.
+pub fn take_row(row: &[u16; 48], by: usize, first: usize, grid: &[f32], points: &mut [f32])
+    requires { ⌜ (by < 48) × ((first + 48) * 2 ≤ length (now points)) × Within (now row) (length (now grid)) ⌝ }
+    ensures { λ _. ⌜ now (points .exit) ≡ puts (λ m. first + m) (λ m. pointAt (now (grid .entry)) (turned (now (row .entry)) by m)) 48 (now (points .entry)) ⌝ }
+{
+    take_run(row, by, 48 - by, first, grid, points);
+    take_run(row, 0, by, first + (48 - by), grid, points);
 }

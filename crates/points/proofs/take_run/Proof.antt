@@ -1,47 +1,27 @@
 -- `points::take_run` meets its contract.
-use mathlib.Core.Path.{ap, _∙_}
+use mathlib.Core.Path.{refl, ap, _∙_}
 use Prim.Native.Nat.{_+_, _-_}
-use native.Mathlib.Omega.{arith}
 use borrow.Author.Needs.{needs}
 use Rattle.base.specs.Steps.{entry}
 use Rattle.points.specs.Points.{pointAt}
-use Rattle.points.specs.Model.{putPoint}
-use Rattle.points.proofs.Points.{puts-none}
-use Rattle.points.proofs.Copy.{CopyTurn, copy-long, copy-next, copy-done}
+use Rattle.points.proofs.Copy.{Putting, putting-none, putting-long, putting-next, putting-done, run-within, run-below}
 use Rattle.points.proofs.take_run.Statement.{statement}
 use Rattle.points.proofs.take_run.Tie as tie
 
 abbrev Inv-loop : tie.InvT-loop
-Inv-loop row q n first grid points₀ m₀ points m = CopyTurn (λ i. first + i) (λ i. pointAt grid (entry row (q + i))) n points₀ points m
+Inv-loop row q n first grid points₀ m₀ points m = Putting (λ i. first + i) (λ i. pointAt grid (entry row (q + i))) n points₀ points m
 
 abbrev μ-loop : tie.MeasureT-loop
 μ-loop row q n first grid points₀ m₀ points m = n - m
 
-loop-holds : tie.Need-loop-holds Inv-loop μ-loop
-loop-holds c = record { at-most = omega arith; so-far = puts-none _ _ _ }
-
-element-copy-out-wide16 : tie.Need-element-copy-out-wide16 Inv-loop μ-loop
-element-copy-out-wide16 c = omega (arith, c .before .before .before .before .pre .0, c .loop-test .taken)
-
-point-at-requires : tie.Need-point-at-requires Inv-loop μ-loop
-point-at-requires c κs = rw (c .before .wide16 .ensures .0) (c .before .before .before .before .before .before .before .pre .3 (c .before .before .before .before .before .before .before .args .q + c .before .before .before .before .loop .m) (omega (arith, c .before .before .before .before .before .before .before .pre .0, c .before .before .before .loop-test .taken)))
-
-put-point-requires : tie.Need-put-point-requires Inv-loop μ-loop
-put-point-requires c κs = rw (copy-long (c .before .before .before .before .before .loop .inv)) (omega (arith, c .before .before .before .before .before .before .before .before .pre .2, c .before .before .before .before .loop-test .taken))
-
 loop-again : tie.Need-loop-again Inv-loop μ-loop
-loop-again c = copy-next (c .before .before .before .before .before .before .before .before .loop .inv) (c .before .before .before .before .before .before .before .loop-test .taken) _ (c .before .before .put-point .ensures ∙ ap (putPoint (c .before .before .before .before .before .before .before .before .loop .points) (c .before .before .before .before .before .before .before .before .before .before .before .args .first + c .before .before .before .before .before .before .before .before .loop .m)) (c .before .before .before .point-at .ensures ∙ ap (pointAt _) (c .before .before .before .before .before .wide16 .ensures .0)))
-
-same-length : tie.Need-same-length Inv-loop μ-loop
-same-length c = copy-long (c .before .loop .inv)
-
-returns : tie.Need-returns Inv-loop μ-loop
-returns c = copy-done (c .before .loop .inv) (c .loop-test .left)
+loop-again c =
+    putting-next (c .before .before .before .before .before .before .before .before .loop .inv) (c .before .before .before .before .before .before .before .loop-test .taken) _ refl _ (c .before .before .before .point-at .ensures ∙ ap (pointAt _) (c .before .before .before .before .before .wide16 .ensures .0)) _ (c .before .before .put-point .ensures)
 
 pub take-run-spec : {M : Type 1} → statement M
 take-run-spec =
     tie.close
     (tie.spec
-    Inv-loop μ-loop loop-holds (λ c. search needs) (λ c. search needs) element-copy-out-wide16 (λ c κs. search needs)
-    (λ c. search needs) point-at-requires put-point-requires (λ c. search needs) (λ c. search needs) loop-again
-    same-length returns)
+    Inv-loop μ-loop (λ c. putting-none _ _ _ _) (λ c. search needs) (λ c. search needs) (λ c. search needs) (λ c κs. search needs)
+    (λ c. search needs) (λ c κs. search (run-within, needs)) (λ c κs. search (run-below, putting-long, needs)) (λ c. search needs) (λ c. search needs) loop-again
+    (λ c. putting-long (c .before .loop .inv)) (λ c. putting-done (c .before .loop .inv) (c .loop-test .left)))

@@ -8,14 +8,14 @@ use lib.Dec.{eqb}
 use borrow.Author.Tests.{eqb-true, lt-ltb}
 use Rattle.base.specs.Answer.{ask, accepted}
 use Rattle.base.proofs.Test.{cases}
-use Rattle.base.proofs.Chain.{number-yes}
+use Rattle.base.proofs.Chain.{ask-yes, number-yes}
 use Rattle.map.specs.declared.Setup.{Setup}
-use Rattle.map.specs.Mode.{width, cells, subchannels}
+use Rattle.map.specs.Mode.{width, cells, subchannels, symbols}
 use Rattle.map.specs.Question.{isMode, isFourSizes, isSize, isCell}
 use Rattle.map.specs.Model.{setupRefusal}
-use Rattle.map.specs.Valid.{setupWith}
-use Rattle.grid.specs.Row.{gridPoints}
-use Rattle.grid.specs.Length.{whereListed, pointsLength, gridLength}
+use Rattle.map.specs.Valid.{Valid, setupWith}
+use Rattle.map.proofs.Accept.{passes}
+use Rattle.lengths.specs.Length.{gridPoints, whereListed, pointsLength, gridLength}
 
 -- the four sizes are no small ones
 wide : (size : ℕ) → isFourSizes size ≡ true → 0 < size / 64
@@ -74,3 +74,11 @@ module _ (mode size k : ℕ) (e : k ≡ setupRefusal (setupWith mode size 0)) wh
   pub some-grid : k ≡ 0 → (n : ℕ) → n ≡ gridPoints setup → 2 * n ≡ gridLength mode size
   unfolding gridLength
   some-grid z n q = ap (λ (x : ℕ). 2 * x) q ∙ listed z _
+
+-- the lengths of a valid setup, whatever its cell
+pub lengths-listed : {setup : Setup} → Valid setup → (96 * subchannels setup ≡ pointsLength (setup .mode) (setup .size)) × (2 * gridPoints setup ≡ gridLength (setup .mode) (setup .size))
+unfolding pointsLength gridLength subchannels gridPoints symbols width isMode isSize
+lengths-listed {setup} v =
+    let q₁ = ask-yes (isMode setup) 1 _ (passes {A = Unit {0}} {rest = accepted tt} v) in
+    let q₂ = ask-yes (isSize setup) 2 _ (q₁ .1) in
+    (rw (q₁ .0, q₂ .0), rw (q₁ .0, q₂ .0))

@@ -1,9 +1,9 @@
--- `grid::grid_length` meets its contract.
+-- `lengths::grid_length` meets its contract.
 use borrow.Author.Needs.{needs}
 use Rattle.map.proofs.Outcome.{now-valid}
-use Rattle.grid.proofs.Length.{no-grid, some-grid}
-use Rattle.grid.proofs.grid_length.Statement.{statement}
-use Rattle.grid.proofs.grid_length.Tie as tie
+use Rattle.lengths.proofs.Length.{no-grid, some-grid}
+use Rattle.lengths.proofs.grid_length.Statement.{statement}
+use Rattle.lengths.proofs.grid_length.Tie as tie
 
 returns : tie.Need-returns
 returns c = search (no-grid, needs)

@@ -1,11 +1,11 @@
--- `grid::points_length` meets its contract.
+-- `lengths::points_length` meets its contract.
 use native.Mathlib.Omega.{arith}
 use borrow.Author.Needs.{needs}
 use Rattle.map.proofs.ByMode.{subchannels-few}
 use Rattle.map.proofs.Outcome.{now-valid}
-use Rattle.grid.proofs.Length.{no-points, some-points}
-use Rattle.grid.proofs.points_length.Statement.{statement}
-use Rattle.grid.proofs.points_length.Tie as tie
+use Rattle.lengths.proofs.Length.{no-points, some-points}
+use Rattle.lengths.proofs.points_length.Statement.{statement}
+use Rattle.lengths.proofs.points_length.Tie as tie
 
 returns : tie.Need-returns
 returns c = search (no-points, needs)
