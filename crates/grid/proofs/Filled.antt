@@ -44,7 +44,7 @@ module _ (setup : Setup) (v : Valid setup) (slot : ℕ) (hs : slot < 512) (p : P
         let j : pointNumber s m < subchannels setup * 48 = let h₁ = q .subchannel-lt in let h₂ = q .index-lt in omega arith in
         ap (pointAt all) (sym (q .stands))
         ∙ puts-hit (standsAt setup slot) (pointAt points) (subchannels setup * 48) ground (pointNumber s m) j
-        (λ i h e′. sym (stands-alone setup v slot (pointNumber s m) i (omega arith) (omega arith) e′))
+        (λ i h e′. ap (pointAt points) (sym (stands-alone setup v slot (pointNumber s m) i (omega arith) (omega arith) e′)))
         (rw (q .stands, length-ground setup slot p) (omega arith))
 
     laid-holds : (w : Content) → contentAt setup slot n ≡ w → pointAt all n ≡ held p points w
@@ -68,4 +68,4 @@ emptied-is setup slot grid l e =
     let source : ℕ → Point = λ n. pointAt grid (standsAt setup slot n) in
     by-points (puts (λ n. n) source (subchannels setup * 48) l) (48 * subchannels setup) source
     (length-puts (λ n. n) source (subchannels setup * 48) l ∙ e ∙ omega arith)
-    (λ k h. puts-hit (λ n. n) source (subchannels setup * 48) l k (omega arith) (λ i h′ z. sym z) (rw e (omega arith)))
+    (λ k h. puts-hit (λ n. n) source (subchannels setup * 48) l k (omega arith) (λ i h′ z. ap source (sym z)) (rw e (omega arith)))

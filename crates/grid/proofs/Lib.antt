@@ -1,6 +1,6 @@
 -- Laws of grids.
 pub mod Slot
-pub mod PilotRows
+pub mod Pilots
 pub mod Filled
 pub mod Passes
 pub mod Looked

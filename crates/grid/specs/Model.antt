@@ -1,6 +1,6 @@
 -- How fill, empty and look go about it: what the inner functions' contracts cite. No reader needs these to know what the calls do.
 use mathlib.Core.List.{List}
-use Prim.Native.Nat.{ℕ, zero, suc, _+_, _*_}
+use Prim.Native.Nat.{ℕ, _+_, _*_}
 use lib.Ieee.{Float}
 use Rattle.base.specs.Answer.{Answer, accepted, refused}
 use Rattle.map.specs.declared.Setup.{Setup}
@@ -29,15 +29,11 @@ grounded setup slot p = floatsOf (gridPoints setup) (λ n. lit p (contentAt setu
 abbrev pub pilotPlace : (setup : Setup) (row : ℕ) (comb : Comb) (j : ℕ) → ℕ
 pilotPlace setup row comb j = usedPosition setup row (pilotNumber comb j)
 
--- the pilot point put on the pilots of a row, and of the first rows of a slot
+-- the pilot point put on the pilots of a row
 unfoldable pub pilotRow : (setup : Setup) (slot : ℕ) (p : Point) (row : ℕ) (floats : List Float) → List Float
 pilotRow setup slot p row floats =
     let comb = combOf setup (slot * symbols setup + row) in
     puts (pilotPlace setup row comb) (λ j. p) (comb .count * 2) floats
-
-unfoldable pub pilotRows : (setup : Setup) (slot : ℕ) (p : Point) (rows : ℕ) (floats : List Float) → List Float
-pilotRows setup slot p zero floats = floats
-pilotRows setup slot p (suc row) floats = pilotRow setup slot p row (pilotRows setup slot p row floats)
 
 -- the points of one subchannel laid on the grid
 abbrev pub laid : (setup : Setup) (slot : ℕ) (points : List Float) (subchannel : ℕ) (grid : List Float) → List Float

@@ -12,7 +12,7 @@ ghost use Rattle.map.specs.Valid.{Valid};
 ghost use Rattle.map.specs.Model.{TableOf};
 ghost use Rattle.points.specs.Model.{putPoint};
 ghost use Rattle.lengths.specs.Length.{gridPoints};
-ghost use Rattle.grid.specs.Row.{position as Position, usedPosition};
+ghost use Rattle.grid.specs.Row.{position, usedPosition};
 ghost use Rattle.grid.specs.Grid.{fillOf, emptyOf, seen, lookOf};
 ghost use Rattle.grid.specs.Model.{grounded, pilotRow, laid, taken, sightOf};
 
@@ -29,21 +29,14 @@ pub enum Seen {
     Refused(u8),
 }
 
-// Where a used number of a row stands in the grid.
-fn position(setup: Setup, row: usize, used: usize) -> usize
-    requires { ⌜ Valid setup ⌝ }
-    requires { ⌜ (row < symbols setup) × (used < band setup .used) ⌝ }
-    ensures { λ r. ⌜ (r ≡ usedPosition setup row used) × (r < gridPoints setup) ⌝ }
-{
-    row * setup.size + carriers::carrier(map::band(setup), used)
-}
-
+// A point on a used number of a row.
 fn put_used(setup: Setup, row: usize, used: usize, p: Point, grid: &mut [f32])
     requires { ⌜ Valid setup ⌝ }
     requires { ⌜ (row < symbols setup) × (used < band setup .used) × (length (now grid) ≡ 2 * gridPoints setup) ⌝ }
     ensures { λ _. ⌜ now (grid .exit) ≡ putPoint (now (grid .entry)) (usedPosition setup row used) p ⌝ }
 {
-    points::put_point(grid, position(setup, row, used), p);
+    let place = row * setup.size + carriers::carrier(map::band(setup), used);
+    points::put_point(grid, place, p);
 }
 
 // The pilot point on the pilots of a row.
@@ -194,7 +187,7 @@ fn refusal_of(found: Located) -> u8
 fn carrier_position(setup: Setup, symbol: usize, carrier: usize) -> usize
     requires { ⌜ Valid setup ⌝ }
     requires { ⌜ carrier < setup .size ⌝ }
-    ensures { λ r. ⌜ (r ≡ Position setup (symbol % symbols setup) carrier) × (r < gridPoints setup) ⌝ }
+    ensures { λ r. ⌜ (r ≡ position setup (symbol % symbols setup) carrier) × (r < gridPoints setup) ⌝ }
 {
     map::offset_of(setup, symbol) * setup.size + carrier
 }

@@ -1,12 +1,12 @@
 -- Cell 0 is a cell of every listed mode and size, so the first refusal tells whether the map has them.
-use mathlib.Core.Path.{_≡_, refl, sym, ap, _∙_}
+use mathlib.Core.Path.{_≡_, sym, _∙_}
 use mathlib.Core.Bool.{true}
 use Prim.Native.Nat.{ℕ, _*_, _/_, _<_}
 use native.Mathlib.Nat.{mul-pos}
 use native.Mathlib.Omega.{arith}
 use lib.Dec.{eqb}
 use borrow.Author.Tests.{eqb-true, lt-ltb}
-use Rattle.base.specs.Answer.{ask, accepted}
+use Rattle.base.specs.Answer.{accepted}
 use Rattle.base.proofs.Test.{cases}
 use Rattle.base.proofs.Chain.{ask-yes, number-yes}
 use Rattle.map.specs.declared.Setup.{Setup}
@@ -40,40 +40,25 @@ some-cell mode size h =
     (λ e″. let n = wide size (rw (eqb-true mode 2 e″) at h) in rw (e, e′, e″) (mul-pos n n))
     (λ e″. rw (e, e′, e″) (omega arith))))
 
-module _ (mode size k : ℕ) (e : k ≡ setupRefusal (setupWith mode size 0)) where
+-- so a length is told by the refusal's number
+module _ (mode size k : ℕ) (e : k ≡ setupRefusal (setupWith mode size 0)) (length : ℕ) where
   abbrev setup : Setup
   setup = setupWith mode size 0
 
-  unlisted : (k ≡ 0 → ⊥) → (length : ℕ) → 0 ≡ whereListed setup length
+  pub unlisted : (k ≡ 0 → ⊥) → 0 ≡ whereListed setup length
   unfolding setupRefusal isCell
-  unlisted ne length =
+  unlisted ne =
       cases (isMode setup)
       (λ a. cases (isSize setup)
       (λ b. absurd (ne (e ∙ rw (a, b, lt-ltb 0 (cells setup) (some-cell mode size b)))))
       (λ b. rw (a, b)))
       (λ a. rw a)
 
-  listed : k ≡ 0 → (length : ℕ) → length ≡ whereListed setup length
+  pub listed : k ≡ 0 → (f n n′ : ℕ) → n ≡ n′ → f * n′ ≡ length → f * n ≡ whereListed setup length
   unfolding setupRefusal
-  listed z length =
+  listed z f n n′ q h =
       let q₁ = number-yes (isMode setup) 0 _ (sym e ∙ z) in
-      rw (q₁ .0, number-yes (isSize setup) 1 _ (q₁ .1) .0)
-
-  pub no-points : (k ≡ 0 → ⊥) → 0 ≡ pointsLength mode size
-  unfolding pointsLength
-  no-points ne = unlisted ne _
-
-  pub no-grid : (k ≡ 0 → ⊥) → 0 ≡ gridLength mode size
-  unfolding gridLength
-  no-grid ne = unlisted ne _
-
-  pub some-points : k ≡ 0 → (n : ℕ) → n ≡ subchannels setup → 96 * n ≡ pointsLength mode size
-  unfolding pointsLength
-  some-points z n q = ap (λ (x : ℕ). 96 * x) q ∙ listed z _
-
-  pub some-grid : k ≡ 0 → (n : ℕ) → n ≡ gridPoints setup → 2 * n ≡ gridLength mode size
-  unfolding gridLength
-  some-grid z n q = ap (λ (x : ℕ). 2 * x) q ∙ listed z _
+      rw (q₁ .0, number-yes (isSize setup) 1 _ (q₁ .1) .0, q) h
 
 -- the lengths of a valid setup, whatever its cell
 pub lengths-listed : {setup : Setup} → Valid setup → (96 * subchannels setup ≡ pointsLength (setup .mode) (setup .size)) × (2 * gridPoints setup ≡ gridLength (setup .mode) (setup .size))

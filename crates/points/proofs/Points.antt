@@ -1,5 +1,5 @@
 -- Points in buffers: what is put is there, and nothing else changes.
-use mathlib.Core.Path.{_≡_, refl, sym, ap, ap₂, _∙_, subst}
+use mathlib.Core.Path.{_≡_, refl, sym, ap, ap₂, _∙_}
 use mathlib.Core.List.{List}
 use Prim.Native.Nat.{ℕ, zero, suc, _+_, _*_, _/_, _%_, _<_}
 use native.Mathlib.Nat.{add-zero, add-suc}
@@ -96,18 +96,22 @@ module _ (place : ℕ → ℕ) (source : ℕ → Point) where
       put-other (puts place source m l) (place m) (source m) k (h m (omega arith))
       ∙ puts-miss m l k (λ j lt. h j (omega arith))
 
-  -- a place that one of them alone has holds that one
-  pub puts-hit : (m : ℕ) (l : List Float) (j : ℕ) → j < m → ((i : ℕ) → i < m → place j ≡ place i → i ≡ j) → place j * 2 + 1 < length l
+  -- a place holds the point put there, where all that are put there are the same
+  pub puts-hit : (m : ℕ) (l : List Float) (j : ℕ) → j < m → ((i : ℕ) → i < m → place j ≡ place i → source i ≡ source j) → place j * 2 + 1 < length l
       → pointAt (puts place source m l) (place j) ≡ source j
   unfolding puts
-  puts-hit zero l j lt alone room = absurd (omega arith)
-  puts-hit (suc m) l j lt alone room =
-      cases (eqb m j)
-      (λ t. let e = eqb-true m j t in
-      subst (λ (x : ℕ). pointAt (putPoint (puts place source m l) (place m) (source m)) (place x) ≡ source x) e
-      (put-same (puts place source m l) (place m) (source m) (rw (length-puts m l, e) room)))
-      (λ t. put-other (puts place source m l) (place m) (source m) (place j) (λ e. eqb-false m j t (alone m (omega arith) e))
-      ∙ puts-hit m l j (let n = eqb-false m j t in omega arith) (λ i h. alone i (omega arith)) room)
+  puts-hit zero l j lt same room = absurd (omega arith)
+  puts-hit (suc m) l j lt same room =
+      cases (eqb (place j) (place m))
+      (λ t. let e = eqb-true (place j) (place m) t in
+      ap (pointAt (putPoint (puts place source m l) (place m) (source m))) e
+      ∙ put-same (puts place source m l) (place m) (source m) (rw (length-puts m l, ← e) room) ∙ same m (omega arith) e)
+      (λ t. let ne = eqb-false (place j) (place m) t in
+      put-other (puts place source m l) (place m) (source m) (place j) ne
+      ∙ puts-hit m l j (lower j m lt (λ z. ne (ap place z))) (λ i h. same i (omega arith)) room)
+    where
+      lower : (a b : ℕ) → a < suc b → (a ≡ b → ⊥) → a < b
+      lower a b h ne = omega arith
 
 -- puts one after another
 pub puts-more : (place : ℕ → ℕ) (source : ℕ → Point) (a m : ℕ) (l : List Float)
@@ -115,6 +119,15 @@ pub puts-more : (place : ℕ → ℕ) (source : ℕ → Point) (a m : ℕ) (l : 
 unfolding puts
 puts-more place source a zero l = rw (add-zero a)
 puts-more place source a (suc m) l = rw (add-suc a m) (ap (λ (x : List Float). putPoint x (place (a + m)) (source (a + m))) (puts-more place source a m l))
+
+-- the same puts, by another way to say the places and the source
+pub puts-as : (place place′ : ℕ → ℕ) (source source′ : ℕ → Point) (m : ℕ) (l : List Float) → ((j : ℕ) → j < m → place j ≡ place′ j)
+    → ((j : ℕ) → j < m → source j ≡ source′ j) → puts place source m l ≡ puts place′ source′ m l
+unfolding puts
+puts-as place place′ source source′ zero l e f = refl
+puts-as place place′ source source′ (suc m) l e f =
+    ap (λ (b : List Float). putPoint b (place m) (source m)) (puts-as place place′ source source′ m l (λ j h. e j (omega arith)) (λ j h. f j (omega arith)))
+    ∙ ap₂ (putPoint (puts place′ source′ m l)) (e m (omega arith)) (f m (omega arith))
 
 -- ---- a buffer cleared from the front
 
@@ -136,28 +149,3 @@ point-cleared n k h =
       i = getD-replicate n (k * 2) zero32 nan (omega arith) t;
       q = getD-replicate n (k * 2 + 1) zero32 nan h t;
     }
-
--- ---- one point put at many places
-
-pub puts-one : (place : ℕ → ℕ) (p : Point) (m : ℕ) (l : List Float) (j : ℕ) → j < m → place j * 2 + 1 < length l → pointAt (puts place (λ i. p) m l) (place j) ≡ p
-unfolding puts
-puts-one place p zero l j lt room = absurd (omega arith)
-puts-one place p (suc m) l j lt room =
-    cases (eqb (place j) (place m))
-    (λ t. let q = eqb-true (place j) (place m) t in
-    rw q (put-same (puts place (λ i. p) m l) (place m) p (rw (length-puts place (λ i. p) m l, ← q) room)))
-    (λ t. let q = eqb-false (place j) (place m) t in
-    put-other (puts place (λ i. p) m l) (place m) p (place j) q
-    ∙ puts-one place p m l j (lower j m lt (λ z. q (ap place z))) room)
-  where
-    lower : (a b : ℕ) → a < suc b → (a ≡ b → ⊥) → a < b
-    lower a b l ne = omega arith
-
--- the same puts, by another way to say the places and the source
-pub puts-as : (place place′ : ℕ → ℕ) (source source′ : ℕ → Point) (m : ℕ) (l : List Float) → ((j : ℕ) → j < m → place j ≡ place′ j)
-    → ((j : ℕ) → j < m → source j ≡ source′ j) → puts place source m l ≡ puts place′ source′ m l
-unfolding puts
-puts-as place place′ source source′ zero l e f = refl
-puts-as place place′ source source′ (suc m) l e f =
-    ap (λ (b : List Float). putPoint b (place m) (source m)) (puts-as place place′ source source′ m l (λ j h. e j (omega arith)) (λ j h. f j (omega arith)))
-    ∙ ap₂ (putPoint (puts place′ source′ m l)) (e m (omega arith)) (f m (omega arith))

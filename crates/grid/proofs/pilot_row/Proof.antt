@@ -5,7 +5,7 @@ use native.Mathlib.Omega.{arith}
 use borrow.Author.Needs.{needs}
 use Rattle.map.proofs.ByMode.{slot-few, symbols-range}
 use Rattle.points.proofs.Copy.{putting-none}
-use Rattle.grid.proofs.PilotRows.{RowTurn, turn-small, turn-long, turn-asks, turn-next, turn-two, turn-done}
+use Rattle.grid.proofs.Pilots.{RowTurn, turn-small, turn-long, turn-asks, turn-next, turn-two, turn-done}
 use Rattle.grid.proofs.pilot_row.Statement.{statement}
 use Rattle.grid.proofs.pilot_row.Tie as tie
 
