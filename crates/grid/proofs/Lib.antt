@@ -1,7 +1,6 @@
 -- Laws of grids.
 pub mod Slot
 pub mod Pilots
-pub mod Filled
 pub mod Passes
 pub mod Looked
 pub mod Law

@@ -24,7 +24,7 @@ use Rattle.points.specs.Model.{putPoint, puts}
 use Rattle.grid.specs.Model.{lit, grounded, pilotPlace, pilotRow}
 use Rattle.map.specs.Model.{combOf, pilotNumber}
 use Rattle.points.proofs.Points.{length-puts, by-points, point-cleared, puts-miss, puts-hit}
-use Rattle.points.proofs.Copy.{Putting, putting-long, putting-next, putting-done}
+use Rattle.points.proofs.Copy.{Putting, putting-none, putting-long, putting-next, putting-done}
 use Rattle.map.proofs.Pilots.{CombLaw, pilots-law, Small, comb-small}
 use Rattle.grid.proofs.Slot.{used-row, used-column, row-lt, at-place}
 
@@ -74,50 +74,69 @@ module _ (setup : Setup) (v : Valid setup) (slot : ℕ) (p : Point) (row : ℕ) 
         ∙ subst (λ (x : ℕ). pointAt (puts place (λ j. p) (comb .count * 2) l) x ≡ p) here
         (puts-hit place (λ j. p) (comb .count * 2) l (f .0) (f .1 .0) (λ i h z. refl) (rw here room))
 
--- what holds before each turn of the pass over a row's pilots
+-- what holds before each turn of the pass over a row's pilots, two a turn
 pub record RowTurn (setup : Setup) (slot row : ℕ) (p : Point) (grid₀ : List Float) (comb : Comb) (grid : List Float) (j : ℕ) : Type 0 where
   pub valid : Valid setup
   pub row-below : row < symbols setup
   pub comb-is : comb ≡ combOf setup (slot * symbols setup + row)
+  pub small : Small comb
   pub long : length grid₀ ≡ 2 * gridPoints setup
   pub put : Putting (pilotPlace setup row comb) (λ i. p) (comb .count * 2) grid₀ grid j
 
-module _ {setup : Setup} {slot row : ℕ} {p : Point} {grid₀ : List Float} {comb : Comb} {grid : List Float} {j : ℕ} (t : RowTurn setup slot row p grid₀ comb grid j) where
-  pub turn-small : Small comb
-  turn-small = rw (t .comb-is) (comb-small (t .valid) (slot * symbols setup + row))
+pub row-start : {setup : Setup} {slot row : ℕ} {p : Point} {grid : List Float} → Valid setup → row < symbols setup → length grid ≡ 2 * gridPoints setup
+    → (n : ℕ) → n ≡ symbols setup → (comb : Comb) → comb ≡ combOf setup (slot * n + row) → RowTurn setup slot row p grid comb grid 0
+row-start {setup = setup} {slot = slot} {row = row} v h l n q comb e =
+    record {
+      valid = v;
+      row-below = h;
+      comb-is = rw q at e;
+      small = rw e (rw q (comb-small v (slot * symbols setup + row)));
+      long = l;
+      put = putting-none _ _ _ _;
+    }
 
-  pub turn-long : length grid ≡ 2 * gridPoints setup
-  turn-long = putting-long (t .put) ∙ t .long
+module _ {setup : Setup} {slot row : ℕ} {p : Point} {grid₀ : List Float} {comb : Comb} {grid : List Float} where
+  pub turn-long : {j : ℕ} → RowTurn setup slot row p grid₀ comb grid j → length grid ≡ 2 * gridPoints setup
+  turn-long t = putting-long (t .put) ∙ t .long
 
-  module _ (h : j < comb .count * 2) (u : ℕ) (e : u ≡ pilotNumber comb j) where
-    -- what the next put asks
-    pub turn-asks : Valid setup × ((row < symbols setup) × (u < band setup .used) × (length grid ≡ 2 * gridPoints setup))
-    turn-asks =
-        let f = t .comb-is in
-        let l = pilots-law (t .valid) (slot * symbols setup + row) .number-lt j (rw (← f) h) in
-        (t .valid, (t .row-below, rw (e, f) l, turn-long))
+  -- what the next put asks, and what it comes to
+  turn-asks : {j : ℕ} → RowTurn setup slot row p grid₀ comb grid j → j < comb .count * 2 → (u : ℕ) → u ≡ pilotNumber comb j
+      → Valid setup × ((row < symbols setup) × (u < band setup .used) × (length grid ≡ 2 * gridPoints setup))
+  turn-asks {j} t h u e =
+      let f = t .comb-is in
+      let l = pilots-law (t .valid) (slot * symbols setup + row) .number-lt j (rw (← f) h) in
+      (t .valid, (t .row-below, rw (e, f) l, turn-long t))
 
-    pub turn-next : (grid′ : List Float) → grid′ ≡ putPoint grid (usedPosition setup row u) p → RowTurn setup slot row p grid₀ comb grid′ (j + 1)
-    turn-next grid′ q =
-        record {
-          valid = t .valid;
-          row-below = t .row-below;
-          comb-is = t .comb-is;
-          long = t .long;
-          put = putting-next (t .put) h _ (ap (usedPosition setup row) e) p refl grid′ q;
-        }
+  turn-next : {j : ℕ} → RowTurn setup slot row p grid₀ comb grid j → j < comb .count * 2 → (u : ℕ) → u ≡ pilotNumber comb j
+      → (grid′ : List Float) → grid′ ≡ putPoint grid (usedPosition setup row u) p → RowTurn setup slot row p grid₀ comb grid′ (j + 1)
+  turn-next t h u e grid′ q =
+      record {
+        valid = t .valid;
+        row-below = t .row-below;
+        comb-is = t .comb-is;
+        small = t .small;
+        long = t .long;
+        put = putting-next (t .put) h _ (ap (usedPosition setup row) e) p refl grid′ q;
+      }
 
-  pub turn-done : comb .count * 2 ≤ j → grid ≡ pilotRow setup slot p row grid₀
+module _ {setup : Setup} {slot row : ℕ} {p : Point} {grid₀ : List Float} {comb : Comb} {grid : List Float} {i : ℕ}
+    (t : RowTurn setup slot row p grid₀ comb grid (i * 2)) where
+  pub row-done : comb .count ≤ i → grid ≡ pilotRow setup slot p row grid₀
   unfolding pilotRow
-  turn-done h = putting-done (t .put) h ∙ ap (λ (b : Comb). puts (pilotPlace setup row b) (λ i. p) (b .count * 2) grid₀) (t .comb-is)
+  row-done h = putting-done (t .put) (omega arith) ∙ ap (λ (b : Comb). puts (pilotPlace setup row b) (λ i. p) (b .count * 2) grid₀) (t .comb-is)
 
--- two pilots a turn
-pub turn-two : {setup : Setup} {slot row : ℕ} {p : Point} {grid₀ : List Float} {comb : Comb} {grid grid₁ grid₂ : List Float} {i : ℕ}
-    → RowTurn setup slot row p grid₀ comb grid (i * 2) → i < comb .count → (u : ℕ) → u ≡ pilotNumber comb (i * 2) → grid₁ ≡ putPoint grid (usedPosition setup row u) p
-    → (u′ : ℕ) → u′ ≡ pilotNumber comb (i * 2 + 1) → grid₂ ≡ putPoint grid₁ (usedPosition setup row u′) p → RowTurn setup slot row p grid₀ comb grid₂ ((i + 1) * 2)
-turn-two {setup = setup} {slot = slot} {row = row} {p = p} {grid₀ = grid₀} {comb = comb} {grid₂ = grid₂} {i = i} t h u e q u′ e′ q′ =
-    subst (RowTurn setup slot row p grid₀ comb grid₂) (omega arith)
-    (turn-next (turn-next t (omega arith) u e _ q) (omega arith) u′ e′ grid₂ q′)
+  module _ (h : i < comb .count) (u : ℕ) (e : u ≡ pilotNumber comb (i * 2)) where
+    pub first-asks : Valid setup × ((row < symbols setup) × (u < band setup .used) × (length grid ≡ 2 * gridPoints setup))
+    first-asks = turn-asks t (omega arith) u e
+
+    module _ (grid₁ : List Float) (q : grid₁ ≡ putPoint grid (usedPosition setup row u) p) (u′ : ℕ) (e′ : u′ ≡ pilotNumber comb (i * 2 + 1)) where
+      pub second-asks : Valid setup × ((row < symbols setup) × (u′ < band setup .used) × (length grid₁ ≡ 2 * gridPoints setup))
+      second-asks = turn-asks (turn-next t (omega arith) u e grid₁ q) (omega arith) u′ e′
+
+      pub two-more : (grid₂ : List Float) → grid₂ ≡ putPoint grid₁ (usedPosition setup row u′) p → RowTurn setup slot row p grid₀ comb grid₂ ((i + 1) * 2)
+      two-more grid₂ q′ =
+          subst (RowTurn setup slot row p grid₀ comb grid₂) (omega arith)
+          (turn-next (turn-next t (omega arith) u e grid₁ q) (omega arith) u′ e′ grid₂ q′)
 
 -- what holds before each turn of the pass over a slot's rows: the rows before are as the ground has them, the others are clear
 pub record GroundTurn (setup : Setup) (slot : ℕ) (p : Point) (rows : ℕ) (grid : List Float) (row : ℕ) : Type 0 where
@@ -145,9 +164,9 @@ module _ {setup : Setup} {slot : ℕ} {p : Point} {rows : ℕ} {grid : List Floa
   ground-asks h = (t .valid, (t .slot-lt, rw (t .rows-are) at h, t .long))
 
   module _ (grid′ : List Float) (e : grid′ ≡ pilotRow setup slot p row grid) where
-    row-done : (n : ℕ) → n < gridPoints setup → rowOf setup n ≡ row → (w : Content) → contentAt setup slot n ≡ w → pointAt grid′ n ≡ lit p w
+    row-told : (n : ℕ) → n < gridPoints setup → rowOf setup n ≡ row → (w : Content) → contentAt setup slot n ≡ w → pointAt grid′ n ≡ lit p w
     unfolding lit
-    row-done n hn q w c = told w c
+    row-told n hn q w c = told w c
       where
         dark : (contentAt setup slot n ≡ pilot → ⊥) → pointAt grid′ n ≡ zeroPoint
         dark ne = no-pilot setup (t .valid) slot p row grid grid′ e n ne ∙ t .clear n hn (omega arith)
@@ -167,7 +186,7 @@ module _ {setup : Setup} {slot : ℕ} {p : Point} {rows : ℕ} {grid : List Floa
           long = row-long setup (t .valid) slot p row grid grid′ e ∙ t .long;
           done = λ n hn lt.
               cases (eqb (rowOf setup n) row)
-              (λ b. row-done n hn (eqb-true (rowOf setup n) row b) (contentAt setup slot n) refl)
+              (λ b. row-told n hn (eqb-true (rowOf setup n) row b) (contentAt setup slot n) refl)
               (λ b. let ne = eqb-false (rowOf setup n) row b in other-row setup (t .valid) slot p row grid grid′ e n ne ∙ t .done n hn (omega arith));
           clear = λ n hn le. other-row setup (t .valid) slot p row grid grid′ e n (λ z. omega arith) ∙ t .clear n hn (omega arith);
         }

@@ -3,13 +3,13 @@ use mathlib.Core.Path.{_∙_}
 use borrow.Author.Needs.{needs}
 use Prim.Native.Nat.{_-_}
 use native.Mathlib.Omega.{arith}
+use lib.ListN.{length}
 use Rattle.points.specs.Points.{pointAt}
 use Rattle.lengths.proofs.Refusal.{slot-accepted}
 use Rattle.grid.specs.Grid.{standsAt, emptyOf}
-use Rattle.grid.proofs.Passes.{SlotTurn, refused-leaves, slot-start, slot-long, slot-few, slot-next, empty-done}
+use Rattle.grid.proofs.Passes.{SlotTurn, refused-leaves, slot-start, slot-long, slot-next, empty-done}
 use Rattle.grid.proofs.empty.Statement.{statement}
 use Rattle.grid.proofs.empty.Tie as tie
-use lib.ListN.{length}
 
 abbrev Inv-loop : tie.InvT-loop
 Inv-loop setup slot grid points₀ refusal table n s₀ points s =
@@ -22,9 +22,6 @@ returns : tie.Need-returns Inv-loop μ-loop
 unfolding emptyOf
 returns c = refused-leaves _ _ _ _ _ _ _ (c .before .slot-refusal .ensures) (c .if1 .taken)
 
-table-requires : tie.Need-table-requires Inv-loop μ-loop
-table-requires c κs = slot-accepted _ _ _ _ _ (c .before .slot-refusal .ensures) (c .if1 .left) .valid
-
 loop-holds : tie.Need-loop-holds Inv-loop μ-loop
 loop-holds c = slot-start (slot-accepted _ _ _ _ _ (c .before .before .before .slot-refusal .ensures) (c .before .before .if1 .left)) _ (c .subchannels .ensures)
 
@@ -33,15 +30,12 @@ take-requires c κs =
     let turn = c .before .before .before .loop .inv in
     (turn .fits .valid, ((rw (turn .n-is) at (c .before .before .loop-test .taken), slot-long turn ∙ turn .fits .points-long, turn .fits .grid-long), c .before .before .before .before .before .table .ensures))
 
-add-s : tie.Need-add-subchannel Inv-loop μ-loop
-add-s c = omega (arith, slot-few (c .before .before .before .before .before .before .loop .inv), c .before .before .before .before .before .loop-test .taken)
-
 pub empty-spec : {M : Type 1} → statement M
 empty-spec =
     tie.close
     (tie.spec
-    Inv-loop μ-loop (λ c κs. search needs) returns table-requires (λ c κs. search needs) loop-holds take-requires
-    add-s (λ c. omega arith)
+    Inv-loop μ-loop (λ c κs. search needs) returns (λ c κs. slot-accepted _ _ _ _ _ (c .before .slot-refusal .ensures) (c .if1 .left) .valid) (λ c κs. search needs) loop-holds take-requires
+    (λ c. omega arith) (λ c. omega arith)
     (λ c. slot-next (c .before .before .before .before .before .before .loop .inv) (c .before .before .before .before .before .loop-test .taken) _ (c .before .before .take .ensures))
     (λ c. slot-long (c .before .loop .inv))
     (λ c. empty-done _ _ (c .before .loop .inv) (c .loop-test .left)))

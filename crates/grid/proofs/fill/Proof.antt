@@ -3,13 +3,13 @@ use mathlib.Core.Path.{sym, _∙_}
 use borrow.Author.Needs.{needs}
 use Prim.Native.Nat.{_-_}
 use native.Mathlib.Omega.{arith}
+use lib.ListN.{length}
 use Rattle.points.specs.Points.{pointAt}
 use Rattle.lengths.proofs.Refusal.{slot-accepted}
 use Rattle.grid.specs.Grid.{standsAt, fillOf}
-use Rattle.grid.proofs.Passes.{SlotTurn, refused-leaves, ground-fits, slot-start, slot-long, slot-few, slot-next, fill-done}
+use Rattle.grid.proofs.Passes.{SlotTurn, refused-leaves, ground-fits, slot-start, slot-long, slot-next, fill-done}
 use Rattle.grid.proofs.fill.Statement.{statement}
 use Rattle.grid.proofs.fill.Tie as tie
-use lib.ListN.{length}
 
 abbrev Inv-loop : tie.InvT-loop
 Inv-loop setup slot points ground refusal table n s₀ grid s =
@@ -27,9 +27,6 @@ ground-requires c κs =
     let a = slot-accepted _ _ _ _ _ (c .before .before .slot-refusal .ensures) (c .before .if1 .left) in
     (a .valid, (a .slot-lt, a .grid-long))
 
-table-requires : tie.Need-table-requires Inv-loop μ-loop
-table-requires c κs = slot-accepted _ _ _ _ _ (c .before .before .before .before .before .slot-refusal .ensures) (c .before .before .before .before .if1 .left) .valid
-
 loop-holds : tie.Need-loop-holds Inv-loop μ-loop
 loop-holds c =
     let a = slot-accepted _ _ _ _ _ (c .before .before .before .before .before .before .before .slot-refusal .ensures) (c .before .before .before .before .before .before .if1 .left) in
@@ -39,9 +36,6 @@ lay-requires : tie.Need-lay-requires Inv-loop μ-loop
 lay-requires c κs =
     let turn = c .before .before .before .loop .inv in
     (turn .fits .valid, ((rw (turn .n-is) at (c .before .before .loop-test .taken), turn .fits .points-long, slot-long turn ∙ turn .fits .grid-long), c .before .before .before .before .before .table .ensures))
-
-add-s : tie.Need-add-subchannel Inv-loop μ-loop
-add-s c = omega (arith, slot-few (c .before .before .before .before .before .before .loop .inv), c .before .before .before .before .before .loop-test .taken)
 
 same-length : tie.Need-same-length Inv-loop μ-loop
 same-length c =
@@ -57,7 +51,7 @@ pub fill-spec : {M : Type 1} → statement M
 fill-spec =
     tie.close
     (tie.spec
-    Inv-loop μ-loop (λ c κs. search needs) returns ground-requires table-requires (λ c κs. search needs) loop-holds
-    lay-requires add-s (λ c. omega arith)
+    Inv-loop μ-loop (λ c κs. search needs) returns ground-requires (λ c κs. slot-accepted _ _ _ _ _ (c .before .before .before .before .before .slot-refusal .ensures) (c .before .before .before .before .if1 .left) .valid) (λ c κs. search needs) loop-holds
+    lay-requires (λ c. omega arith) (λ c. omega arith)
     (λ c. slot-next (c .before .before .before .before .before .before .loop .inv) (c .before .before .before .before .before .loop-test .taken) _ (c .before .before .lay .ensures))
     same-length returns-2)

@@ -16,29 +16,15 @@ Inv-loop floats₀ j₀ j-end floats j = (j ≤ j-end) × (j-end ≡ length floa
 abbrev μ-loop : tie.MeasureT-loop
 μ-loop floats₀ j₀ j-end floats j = j-end - j
 
-loop-holds : tie.Need-loop-holds Inv-loop μ-loop
-loop-holds c = (omega arith, refl, refl, λ k h. absurd (omega arith))
-
-slice-write-floats : tie.Need-slice-write-floats Inv-loop μ-loop
-slice-write-floats c = omega arith
-
-add-j : tie.Need-add-j Inv-loop μ-loop
-add-j c = omega arith
-
-loop-less : tie.Need-loop-less Inv-loop μ-loop
-loop-less c = omega arith
-
 loop-again : tie.Need-loop-again Inv-loop μ-loop
-loop-again c = (omega arith, c .before .loop .inv .1, simp length-set (omega arith), cleared-more (c .before .loop .floats) (c .before .loop .j) (omega arith) (c .before .loop .inv .3))
-
-same-length : tie.Need-same-length Inv-loop μ-loop
-same-length c = c .before .loop .inv .2
-
-returns : tie.Need-returns Inv-loop μ-loop
-returns c = cleared-all _ _ (c .before .loop .inv .2) (λ k h. c .before .loop .inv .3 k (omega arith))
+loop-again c =
+    let turn = c .before .loop in
+    (omega arith, turn .inv .1, simp length-set (omega arith), cleared-more (turn .floats) (turn .j) (omega arith) (turn .inv .3))
 
 pub clear-spec : {M : Type 1} → statement M
 clear-spec =
     tie.close
     (tie.spec
-    Inv-loop μ-loop loop-holds (λ c. search needs) slice-write-floats add-j loop-less loop-again same-length returns)
+    Inv-loop μ-loop (λ c. (omega arith, refl, refl, λ k h. absurd (omega arith))) (λ c. search needs) (λ c. omega arith) (λ c. omega arith) (λ c. omega arith) loop-again
+    (λ c. c .before .loop .inv .2)
+    (λ c. cleared-all _ _ (c .before .loop .inv .2) (λ k h. c .before .loop .inv .3 k (omega arith))))
