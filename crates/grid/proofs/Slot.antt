@@ -1,7 +1,7 @@
 -- A slot's points and the places of its grid: from the law of the map.
 use mathlib.Core.Path.{_≡_, refl, sym, ap, _∙_}
 use mathlib.Core.List.{List}
-use Prim.Native.Nat.{ℕ, _+_, _-_, _*_, _/_, _%_, _<_, _≤_}
+use Prim.Native.Nat.{ℕ, _+_, _*_, _/_, _%_, _<_, _≤_}
 use native.Mathlib.Nat.{mod-lt, div-add-mod', div-lt-iff-lt-mul}
 use native.Mathlib.Omega.{arith}
 use lib.Ieee.{Float}
@@ -17,7 +17,7 @@ use Rattle.carriers.specs.Law.{DataSpot}
 use Rattle.carriers.proofs.Guards.{carrier-lt}
 use Rattle.map.specs.declared.Setup.{Setup}
 use Rattle.map.specs.Mode.{subchannels, symbols, band, isPilot, spotOf}
-use Rattle.map.specs.Place.{Content, point, Place, placeAt, contentOf}
+use Rattle.map.specs.Place.{point, Place, placeAt}
 use Rattle.map.specs.Valid.{Valid}
 use Rattle.map.proofs.Slot.{slot-law, band-law}
 use Rattle.map.proofs.Law.{content-placed, locate-accepts, placed-where-located, placing}
@@ -146,22 +146,13 @@ module _ (setup : Setup) (v : Valid setup) (slot : ℕ) (hs : slot < 512) (n : �
       }
 
 -- the carrier of a point, as a number, is where the point stands
-module _ {setup : Setup} (v : Valid setup) (slot s : ℕ) (hs : s < subchannels setup) (m : ℕ) (hm : m < 48) where
-  abbrev y : Spot
-  y = spotOf setup slot s m
-
-  lies : DataSpot (symbols setup) (band setup .used) (λ o u. isPilot setup (slot * symbols setup + o) u) y
-  lies = slot-law v slot .lies s m hs hm
-
-  pub carrier-stands : carrierNumber (band setup) y ≡ standsAt setup slot (pointNumber s m)
-  unfolding standsAt usedPosition position
-  carrier-stands =
-      let s-is : pointNumber s m / 48 ≡ s = omega arith in
-      let m-is : pointNumber s m % 48 ≡ m = omega arith in
-      rw (s-is, m-is) (omega (arith, row-start v (y .offset) (lies .offset-lt)))
-
-  pub stands-below : standsAt setup slot (pointNumber s m) < gridPoints setup
-  stands-below = stands-lt setup v slot (pointNumber s m) (omega arith)
+carrier-stands : {setup : Setup} (v : Valid setup) (slot s : ℕ) → s < subchannels setup → (m : ℕ) → m < 48
+    → carrierNumber (band setup) (spotOf setup slot s m) ≡ standsAt setup slot (pointNumber s m)
+unfolding standsAt usedPosition position
+carrier-stands {setup} v slot s hs m hm =
+    let s-is : pointNumber s m / 48 ≡ s = omega arith in
+    let m-is : pointNumber s m % 48 ≡ m = omega arith in
+    rw (s-is, m-is) (omega (arith, row-start v (spotOf setup slot s m .offset) (slot-law v slot .lies s m hs hm .offset-lt)))
 
 -- a subchannel's row, started at the place of its first point: what the copies ask of it, and what they come to
 module _ {setup : Setup} (v : Valid setup) (slot s : ℕ) (hs : s < subchannels setup) (row : List ℕ)
@@ -171,7 +162,7 @@ module _ {setup : Setup} (v : Valid setup) (slot s : ℕ) (hs : s < subchannels 
 
   row-within : (floats : ℕ) → floats ≡ 2 * gridPoints setup → Within row floats
   row-within floats long k h =
-      omega (arith, turned-below (shiftOf setup s) (gridPoints setup) _ row (shift-lt setup s) t (λ m l. rw (carrier-stands v slot s hs m l) (stands-below v slot s hs m l)) k h)
+      omega (arith, turned-below (shiftOf setup s) (gridPoints setup) _ row (shift-lt setup s) t (λ m l. rw (carrier-stands v slot s hs m l) (stands-lt setup v slot (pointNumber s m) (omega arith))) k h)
 
   pub row-asks : by < 48 → (points grid : ℕ) → points ≡ 96 * subchannels setup → grid ≡ 2 * gridPoints setup
       → (by < 48) × ((s * 48 + 48) * 2 ≤ points) × Within row grid

@@ -21,7 +21,8 @@ lay-row-requires c κs =
 returns : tie.Need-returns
 returns c =
     let start = c .before .before .before .before .before .before .before .before .before in
-    row-laid (start .pre .0) _ _ (start .pre .1 .0 .0) (c .before .before .before .before .before .before .carrier-row .result) (c .before .before .before .before .before .before .carrier-row .ensures) _ (c .before .before .before .before .before .shift .ensures .0) _ _ _ (c .before .before .lay-row .ensures)
+    row-laid (start .pre .0) _ _ (start .pre .1 .0 .0) (c .before .before .before .before .before .before .carrier-row .result) (c .before .before .before .before .before .before .carrier-row .ensures)
+    _ (c .before .before .before .before .before .shift .ensures .0) _ _ _ (c .before .before .lay-row .ensures)
 
 pub lay-spec : {M : Type 1} → statement M
 lay-spec =

@@ -31,12 +31,14 @@ loop-holds c =
 
 second-put : tie.Need-put-used-requires-2 Inv-loop μ-loop
 second-put c κs =
-    second-asks (c .before .before .before .before .before .before .before .before .before .loop .inv) (c .before .before .before .before .before .before .before .if1 .taken) _ (c .before .before .before .before .before .before .pilot-number .ensures) _ (c .before .before .before .before .put-used .ensures)
+    second-asks (c .before .before .before .before .before .before .before .before .before .loop .inv) (c .before .before .before .before .before .before .before .if1 .taken)
+    _ (c .before .before .before .before .before .before .pilot-number .ensures) _ (c .before .before .before .before .put-used .ensures)
     _ (c .before .pilot-number2 .ensures)
 
 loop-again : tie.Need-loop-again Inv-loop μ-loop
 loop-again c =
-    two-more (c .before .before .before .before .before .before .before .before .before .before .before .before .loop .inv) (c .before .before .before .before .before .before .before .before .before .before .if1 .taken) _ (c .before .before .before .before .before .before .before .before .before .pilot-number .ensures) _ (c .before .before .before .before .before .before .before .put-used .ensures)
+    two-more (c .before .before .before .before .before .before .before .before .before .before .before .before .loop .inv) (c .before .before .before .before .before .before .before .before .before .before .if1 .taken)
+    _ (c .before .before .before .before .before .before .before .before .before .pilot-number .ensures) _ (c .before .before .before .before .before .before .before .put-used .ensures)
     _ (c .before .before .before .before .pilot-number2 .ensures) _ (c .before .before .put-used2 .ensures)
 
 pub pilot-row-spec : {M : Type 1} → statement M

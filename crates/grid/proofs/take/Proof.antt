@@ -21,7 +21,8 @@ take-row-requires c κs =
 returns : tie.Need-returns
 returns c =
     let start = c .before .before .before .before .before .before .before .before .before in
-    row-taken (start .pre .0) _ _ (start .pre .1 .0 .0) (c .before .before .before .before .before .before .carrier-row .result) (c .before .before .before .before .before .before .carrier-row .ensures) _ (c .before .before .before .before .before .shift .ensures .0) _ _ _ (c .before .before .take-row .ensures)
+    row-taken (start .pre .0) _ _ (start .pre .1 .0 .0) (c .before .before .before .before .before .before .carrier-row .result) (c .before .before .before .before .before .before .carrier-row .ensures)
+    _ (c .before .before .before .before .before .shift .ensures .0) _ _ _ (c .before .before .take-row .ensures)
 
 pub take-spec : {M : Type 1} → statement M
 take-spec =

@@ -15,7 +15,8 @@ abbrev μ-loop : tie.MeasureT-loop
 
 loop-again : tie.Need-loop-again Inv-loop μ-loop
 loop-again c =
-    putting-next (c .before .before .before .before .before .before .before .before .loop .inv) (c .before .before .before .before .before .before .before .loop-test .taken) _ (c .before .before .before .before .before .wide16 .ensures .0) _ (c .before .before .before .point-at .ensures) _ (c .before .before .put-point .ensures)
+    putting-next (c .before .before .before .before .before .before .before .before .loop .inv) (c .before .before .before .before .before .before .before .loop-test .taken) _ (c .before .before .before .before .before .wide16 .ensures .0)
+    _ (c .before .before .before .point-at .ensures) _ (c .before .before .put-point .ensures)
 
 pub lay-run-spec : {M : Type 1} → statement M
 lay-run-spec =

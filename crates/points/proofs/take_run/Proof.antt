@@ -16,7 +16,8 @@ abbrev μ-loop : tie.MeasureT-loop
 
 loop-again : tie.Need-loop-again Inv-loop μ-loop
 loop-again c =
-    putting-next (c .before .before .before .before .before .before .before .before .loop .inv) (c .before .before .before .before .before .before .before .loop-test .taken) _ refl _ (c .before .before .before .point-at .ensures ∙ ap (pointAt _) (c .before .before .before .before .before .wide16 .ensures .0)) _ (c .before .before .put-point .ensures)
+    putting-next (c .before .before .before .before .before .before .before .before .loop .inv) (c .before .before .before .before .before .before .before .loop-test .taken) _ refl
+    _ (c .before .before .before .point-at .ensures ∙ ap (pointAt _) (c .before .before .before .before .before .wide16 .ensures .0)) _ (c .before .before .put-point .ensures)
 
 pub take-run-spec : {M : Type 1} → statement M
 take-run-spec =
