@@ -1,11 +1,11 @@
 // The C interface: thin functions over the engine. Each returns 0, or document 01's refusal number; on a refusal nothing is written.
 use collision::Collisions;
-use grid::Point;
 use grid::Seen;
 use map::Located;
 use map::Placed;
 use map::Setup;
 use plan::Written;
+use points::Point;
 ghost use mathlib.Core.Path.{_≡_};
 ghost use Prim.Native.Nat.{ℕ, _≤_};
 ghost use lib.ListN.{length};
@@ -15,7 +15,7 @@ ghost use Rattle.collision.specs.Collision.{ofuscOf, amcOf};
 ghost use Rattle.capi.specs.Map.{PlaceOut, placeOut, LocateOut, locateOut};
 ghost use Rattle.capi.specs.Collision.{CollisionOut, collisionOut};
 ghost use Rattle.grid.specs.Grid.{fillOf, emptyOf, lookOf};
-ghost use Rattle.grid.specs.Length.{pointsLength, gridLength};
+ghost use Rattle.lengths.specs.Length.{pointsLength, gridLength};
 ghost use Rattle.capi.specs.Grid.{pairPoint, lookOut};
 ghost use Rattle.plan.specs.Read.{planOf, answered};
 ghost use Rattle.plan.specs.Write.{writeOf};
@@ -167,14 +167,14 @@ pub extern "C" fn bp_amc_collisions(
 pub extern "C" fn bp_points_len(mode: u32, size: u32) -> usize
     ensures { λ r. ⌜ r ≡ pointsLength mode size ⌝ }
 {
-    grid::points_length(mode as usize, size as usize)
+    lengths::points_length(mode as usize, size as usize)
 }
 
 #[no_mangle]
 pub extern "C" fn bp_grid_len(mode: u32, size: u32) -> usize
     ensures { λ r. ⌜ r ≡ gridLength mode size ⌝ }
 {
-    grid::grid_length(mode as usize, size as usize)
+    lengths::grid_length(mode as usize, size as usize)
 }
 
 #[no_mangle]
@@ -187,7 +187,7 @@ pub extern "C" fn bp_fill(
     points: &[f32],
     grid: &mut [f32],
 ) -> u32
-    ensures { λ r. ⌜ record { number = r; buffer = now (grid .exit) } ≡ fillOf (record { mode = mode; size = size; cell = cell }) slot (pairPoint (now (pilot .entry))) (now (points .entry)) (now (grid .entry)) ⌝ }
+    ensures { λ r. ⌜ record { refusal = r; buffer = now (grid .exit) } ≡ fillOf (record { mode = mode; size = size; cell = cell }) slot (pairPoint (now (pilot .entry))) (now (points .entry)) (now (grid .entry)) ⌝ }
 {
     let p = Point {
         i: pilot[0],
@@ -206,7 +206,7 @@ pub extern "C" fn bp_empty(
     grid: &[f32],
     points: &mut [f32],
 ) -> u32
-    ensures { λ r. ⌜ record { number = r; buffer = now (points .exit) } ≡ emptyOf (record { mode = mode; size = size; cell = cell }) slot (now (grid .entry)) (now (points .entry)) ⌝ }
+    ensures { λ r. ⌜ record { refusal = r; buffer = now (points .exit) } ≡ emptyOf (record { mode = mode; size = size; cell = cell }) slot (now (grid .entry)) (now (points .entry)) ⌝ }
 {
     let number = grid::empty(setup(mode, size, cell), slot as usize, grid, points);
     number as u32
@@ -226,7 +226,7 @@ pub extern "C" fn bp_look(
     subchannel: &mut u32,
     index: &mut u32,
 ) -> u32
-    ensures { λ r. ⌜ record { number = r; kind = now (kind .exit); point = now (point .exit); slot = now (slot .exit); subchannel = now (subchannel .exit); index = now (index .exit) } ≡ lookOut (lookOf (record { mode = mode; size = size; cell = cell }) symbol (now (grid .entry)) carrier) (now (kind .entry)) (now (point .entry)) (now (slot .entry)) (now (subchannel .entry)) (now (index .entry)) ⌝ }
+    ensures { λ r. ⌜ record { refusal = r; kind = now (kind .exit); point = now (point .exit); slot = now (slot .exit); subchannel = now (subchannel .exit); index = now (index .exit) } ≡ lookOut (lookOf (record { mode = mode; size = size; cell = cell }) symbol (now (grid .entry)) carrier) (now (kind .entry)) (now (point .entry)) (now (slot .entry)) (now (subchannel .entry)) (now (index .entry)) ⌝ }
 {
     let answer = grid::look(
         setup(mode, size, cell),

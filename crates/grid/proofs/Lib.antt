@@ -1,11 +1,6 @@
 -- Laws of grids.
-pub mod Points
 pub mod Slot
-pub mod PilotRows
-pub mod Filled
-pub mod Copy
-pub mod Refusal
-pub mod Length
+pub mod Pilots
 pub mod Passes
 pub mod Looked
-pub mod Round
+pub mod Law

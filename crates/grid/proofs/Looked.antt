@@ -1,78 +1,90 @@
 -- Look by the reverse: what `locateOf` says of the carrier decides what is seen.
-use mathlib.Core.Path.{_≡_, refl, sym, ap, _∙_}
+use mathlib.Core.Path.{_≡_, sym, ap, _∙_}
+use mathlib.Core.List.{List}
 use Prim.Native.Nat.{ℕ, _*_, _%_, _<_}
 use native.Mathlib.Omega.{arith}
-use borrow.Author.Tests.{lt-ltb, eq-eqb, ne-eqb}
-use mathlib.Core.List.{List}
-use mathlib.Core.Bool.{Bool, true, false}
 use lib.ListN.{length}
 use lib.Ieee.{Float}
+use borrow.Author.Tests.{eq-eqb, ne-eqb}
 use Rattle.base.specs.Answer.{Answer, accepted, refused, ask, refusalOf}
+use Rattle.base.proofs.Chain.{ask-yes, same-accepted, numbered, yes-all, no-first, no-question, question}
 use Rattle.map.specs.declared.Setup.{Setup}
 use Rattle.map.specs.Mode.{symbols}
 use Rattle.map.specs.Question.{askSetup, isMode, isSize, isCell, isSymbol, isCarrier}
-use Rattle.map.specs.Place.{Content, contentOf, locateOf}
+use Rattle.map.specs.Place.{Content, guard, dc, pilot, point, contentOf, locateOf}
 use Rattle.map.specs.Valid.{Valid}
 use Rattle.map.proofs.Law.{Locating, locating}
-use Rattle.map.proofs.Accept.{passes}
-use Rattle.grid.specs.Points.{pointAt}
-use Rattle.grid.specs.Row.{gridPoints, position}
-use Rattle.grid.specs.Question.{isGrid}
-use Rattle.grid.specs.Grid.{Sight, sight, sightOf, lookOf}
+use Rattle.points.specs.declared.Point.{Point}
+use Rattle.points.specs.Points.{pointAt}
+use Rattle.lengths.specs.Length.{gridPoints}
+use Rattle.lengths.specs.Question.{isGrid}
+use Rattle.lengths.proofs.Refusal.{number-is, number-none}
+use Rattle.grid.specs.Row.{position}
+use Rattle.grid.specs.Grid.{Sight, data-with, sight, lookOf}
+use Rattle.grid.specs.Model.{sightOf}
 
-module _ (c : Setup) (y : ℕ) (grid : List Float) (k : ℕ) where
-  -- a number of the reverse other than 0 is its refusal, and look's
-  pub look-refused : (n : ℕ) → n ≡ refusalOf (locateOf c y k) → (n ≡ 0 → ⊥) → refused n ≡ lookOf c y grid k
-  unfolding locateOf lookOf
-  look-refused n e ne = link (isMode c) (isSize c) (isCell c) (isSymbol c y) (isCarrier c k) e
-    where
-      rest : Answer Sight
-      rest = ask (isGrid c (length grid)) 9 (accepted (sight (pointAt grid (position c (y % symbols c) k)) (contentOf c y k)))
+-- an answer of the reverse that is accepted, and its number where it is not: look puts the same questions first
+module _ (setup : Setup) (symbol carrier : ℕ) where
+  number : ℕ
+  number = refusalOf (askSetup {A = Unit {0}} setup (ask (isSymbol setup symbol) 4 (ask (isCarrier setup carrier) 7 (accepted tt))))
 
-      link : (a b d s t : Bool) → n ≡ refusalOf (ask a 1 (ask b 2 (ask d 3 (ask s 4 (ask t 7 (accepted (contentOf c y k)))))))
-          → refused n ≡ ask a 1 (ask b 2 (ask d 3 (ask s 4 (ask t 7 rest))))
-      link false b d s t e = ap refused e
-      link true false d s t e = ap refused e
-      link true true false s t e = ap refused e
-      link true true true false t e = ap refused e
-      link true true true true false e = ap refused e
-      link true true true true true e = absurd (ne e)
+  first-questions : {A : Type 0} (rest : Answer A) → askSetup setup (ask (isSymbol setup symbol) 4 (ask (isCarrier setup carrier) 7 rest)) ≡ numbered number rest
+  unfolding number
+  first-questions rest =
+      question (isMode setup) 0 (question (isSize setup) 1 (question (isCell setup) 2 (question (isSymbol setup symbol) 3 (question (isCarrier setup carrier) 6 no-question)))) .is
 
-  -- 0 is an accepted carrier
-  pub look-accepted : (n : ℕ) → n ≡ refusalOf (locateOf c y k) → n ≡ 0 → locateOf c y k ≡ accepted (contentOf c y k)
+  located-number : refusalOf (locateOf setup symbol carrier) ≡ number
   unfolding locateOf
-  look-accepted n e z = link (isMode c) (isSize c) (isCell c) (isSymbol c y) (isCarrier c k) (sym e ∙ z)
+  located-number = ap refusalOf (first-questions _) ∙ number-is number _
+
+  -- the answer of look from that of the reverse
+  module _ (answer : Answer Content) (e : answer ≡ locateOf setup symbol carrier) (n : ℕ) (q : n ≡ refusalOf answer) (grid : List Float) where
+    is-number : n ≡ number
+    is-number = q ∙ ap refusalOf e ∙ located-number
+
+    pub look-refused : (n ≡ 0 → ⊥) → refused n ≡ lookOf setup symbol grid carrier
+    unfolding lookOf
+    look-refused ne = sym (first-questions _ ∙ rw (← is-number) (no-first n _ ne))
+
+    module _ (z : n ≡ 0) where
+      located-is : locateOf setup symbol carrier ≡ accepted (contentOf setup symbol carrier)
+      unfolding locateOf
+      located-is = first-questions _ ∙ yes-all number _ (sym is-number ∙ z)
+
+      in-range : Locating setup symbol carrier (contentOf setup symbol carrier)
+      in-range = locating setup symbol carrier located-is
+
+      pub look-valid : Valid setup
+      look-valid = in-range .is-valid
+
+      pub look-carrier : carrier < setup .size
+      look-carrier = in-range .carrier-below
+
+      module _ (g : ℕ) (long : g ≡ gridPoints setup) where
+        pub look-9 : (length grid ≡ 2 * g → ⊥) → refused 9 ≡ lookOf setup symbol grid carrier
+        unfolding lookOf isGrid
+        look-9 ne = sym (first-questions _ ∙ yes-all number _ (sym is-number ∙ z) ∙ rw (← long, ne-eqb (length grid) (2 * g) ne))
+
+        pub look-done : length grid ≡ 2 * g → (k : ℕ) → k ≡ position setup (symbol % symbols setup) carrier → (p : Point) → p ≡ pointAt grid k
+            → (a : Answer Sight) → a ≡ sightOf answer p → a ≡ lookOf setup symbol grid carrier
+        unfolding lookOf isGrid sightOf
+        look-done l k at p e′ a f =
+            f ∙ ap (λ (w : Answer Content). sightOf w p) (e ∙ located-is)
+            ∙ ap (λ (x : Point). accepted (sight x (contentOf setup symbol carrier))) (e′ ∙ ap (pointAt grid) at)
+            ∙ sym (first-questions _ ∙ yes-all number _ (sym is-number ∙ z) ∙ rw (← long, eq-eqb (length grid) (2 * g) l))
+
+  -- what look tells of a point is what the reverse tells
+  pub look-point : (grid : List Float) (p : Point) (slot s m : ℕ) → accepted (data-with p slot s m) ≡ lookOf setup symbol grid carrier
+      → locateOf setup symbol carrier ≡ accepted (point slot s m)
+  unfolding lookOf locateOf sight
+  look-point grid p slot s m e =
+      let q = number-none number _ (sym (first-questions _) ∙ sym e) in
+      let there = pointAt grid (position setup (symbol % symbols setup) carrier) in
+      first-questions _ ∙ yes-all number _ (q .0)
+      ∙ ap accepted (told there (contentOf setup symbol carrier) (same-accepted (ask-yes (isGrid setup (length grid)) 9 _ (q .1) .1)))
     where
-      link : (a b d s t : Bool) → refusalOf (ask a 1 (ask b 2 (ask d 3 (ask s 4 (ask t 7 (accepted (contentOf c y k))))))) ≡ 0
-          → ask a 1 (ask b 2 (ask d 3 (ask s 4 (ask t 7 (accepted (contentOf c y k)))))) ≡ accepted (contentOf c y k)
-      link false b d s t e = absurd (omega arith)
-      link true false d s t e = absurd (omega arith)
-      link true true false s t e = absurd (omega arith)
-      link true true true false t e = absurd (omega arith)
-      link true true true true false e = absurd (omega arith)
-      link true true true true true e = refl
-
-  -- an accepted carrier: question 9 is left
-  module _ (e : locateOf c y k ≡ accepted (contentOf c y k)) where
-    in-range : Locating c y k (contentOf c y k)
-    in-range = locating c y k e
-
-    pub look-valid : Valid c
-    look-valid = in-range .is-valid
-
-    chain : (rest : Answer Sight) → askSetup c (ask (isSymbol c y) 4 (ask (isCarrier c k) 7 rest)) ≡ rest
-    unfolding isSymbol isCarrier
-    chain rest = passes look-valid ∙ rw (lt-ltb y (512 * symbols c) (in-range .symbol-lt), lt-ltb k (c .size) (in-range .carrier-below))
-
-    pub look-9 : (length grid ≡ 2 * gridPoints c → ⊥) → refused 9 ≡ lookOf c y grid k
-    unfolding lookOf isGrid
-    look-9 ne = sym (chain _ ∙ rw (ne-eqb (length grid) (2 * gridPoints c) ne))
-
-    pub look-carrier : k < c .size
-    look-carrier = in-range .carrier-below
-
-    pub look-done : length grid ≡ 2 * gridPoints c → sightOf (locateOf c y k) (pointAt grid (position c (y % symbols c) k)) ≡ lookOf c y grid k
-    unfolding lookOf isGrid sightOf
-    look-done l =
-        ap (λ (a : Answer Content). sightOf a (pointAt grid (position c (y % symbols c) k))) e
-        ∙ sym (chain _ ∙ rw (eq-eqb (length grid) (2 * gridPoints c) l))
+      told : (there : Point) (w : Content) → sight there w ≡ data-with p slot s m → w ≡ point slot s m
+      told there guard h = absurd (let z : _≡_ {A = ℕ} 0 1 = cc in omega arith)
+      told there dc h = absurd (let z : _≡_ {A = ℕ} 0 1 = cc in omega arith)
+      told there pilot h = absurd (let z : _≡_ {A = ℕ} 0 1 = cc in omega arith)
+      told there (point a b d) h = cc

@@ -1,97 +1,136 @@
--- The loops of fill and empty over the subchannels, and what they come to.
-use mathlib.Core.Path.{_≡_, sym, ap, _∙_}
+-- The passes of fill and empty over the subchannels: the ground and then every point is the filled grid; every point taken off it, the emptied points.
+use mathlib.Core.Path.{_≡_, refl, sym, ap, _∙_, subst}
 use mathlib.Core.List.{List}
-use Prim.Native.Nat.{ℕ, _+_, _*_, _<_, _≤_}
-use native.Mathlib.Numerals.{add-one}
+use Prim.Native.Nat.{ℕ, _*_, _/_, _%_, _<_, _+_, _≤_}
 use native.Mathlib.Omega.{arith}
-use lib.ListN.{length, replicate, length-replicate}
+use lib.ListN.{length}
 use lib.Ieee.{Float}
 use Rattle.base.specs.Answer.{Answer, accepted}
 use Rattle.map.specs.declared.Setup.{Setup}
-use Rattle.map.specs.Mode.{subchannels, symbols}
-use Rattle.grid.specs.declared.Point.{Point}
-use Rattle.grid.specs.Points.{zero32, pointAt}
-use Rattle.grid.specs.Row.{gridPoints}
-use Rattle.grid.specs.Question.{slotRefusal}
-use Rattle.grid.specs.Grid.{outcome, filled, fillOf, emptied, emptyOf, standsAt}
-use Rattle.grid.specs.Model.{pilotRows, laidOne, laid, takenOne, taken}
-use Rattle.grid.proofs.Points.{length-puts}
-use Rattle.grid.proofs.PilotRows.{length-rows}
-use Rattle.grid.proofs.Filled.{laid-is, taken-is, filled-is, emptied-is}
-use Rattle.grid.proofs.Refusal.{SlotAccepted, slot-accepted, slot-refused, slot-passes}
+use Rattle.map.specs.Mode.{subchannels}
+use Rattle.map.specs.Place.{Content, guard, dc, pilot, point}
+use Rattle.map.specs.Valid.{Valid}
+use Rattle.map.proofs.ByMode.{subchannels-few}
+use Rattle.points.specs.declared.Point.{Point}
+use Rattle.points.specs.Points.{pointAt}
+use Rattle.points.specs.Model.{puts}
+use Rattle.points.proofs.Points.{length-floats, point-floats, by-points, length-puts, puts-miss, puts-hit}
+use Rattle.points.proofs.Copy.{Putting, putting-none, putting-long, putting-run, putting-done}
+use Rattle.lengths.specs.Length.{gridPoints}
+use Rattle.lengths.specs.Question.{askSlot}
+use Rattle.lengths.specs.Model.{slotRefusal}
+use Rattle.lengths.proofs.Refusal.{SlotAccepted, slot-refused, slot-passes}
+use Rattle.grid.specs.Grid.{contentAt, held, filled, standsAt, emptied, pointNumber, outcome, fillOf, emptyOf}
+use Rattle.grid.specs.Model.{lit, grounded}
+use Rattle.grid.proofs.Slot.{stands-holds, stands-alone, point-stands}
 
--- a refusal leaves the buffer
-pub fill-refused : (c : Setup) (slot : ℕ) (p : Point) (points grid : List Float) (k : ℕ) → k ≡ slotRefusal c slot (length points) (length grid) → (k ≡ 0 → ⊥)
-    → record { number = k; buffer = grid } ≡ fillOf c slot p points grid
-unfolding fillOf
-fill-refused c slot p points grid k e ne = rw (slot-refused c slot (length points) (length grid) k (accepted (filled c slot p points)) e ne)
+pub length-ground : (setup : Setup) (slot : ℕ) (p : Point) → length (grounded setup slot p) ≡ 2 * gridPoints setup
+unfolding grounded
+length-ground setup slot p = length-floats (gridPoints setup) _ ∙ omega arith
 
-pub empty-refused : (c : Setup) (slot : ℕ) (grid points : List Float) (k : ℕ) → k ≡ slotRefusal c slot (length points) (length grid) → (k ≡ 0 → ⊥)
-    → record { number = k; buffer = points } ≡ emptyOf c slot grid points
-unfolding emptyOf
-empty-refused c slot grid points k e ne = rw (slot-refused c slot (length points) (length grid) k (accepted (emptied c slot grid)) e ne)
+module _ (setup : Setup) (v : Valid setup) (slot : ℕ) (hs : slot < 512) (p : Point) (points : List Float) where
+  abbrev ground : List Float
+  ground = grounded setup slot p
 
-pub now-accepted : (c : Setup) (slot points grid k : ℕ) → k ≡ slotRefusal c slot points grid → k ≡ 0 → SlotAccepted c slot points grid
-now-accepted c slot points grid k e z = slot-accepted c slot points grid (sym e ∙ z)
+  abbrev all : List Float
+  all = puts (standsAt setup slot) (pointAt points) (subchannels setup * 48) ground
 
--- what holds before each turn of fill, over the ground
-pub record FillTurn (c : Setup) (slot : ℕ) (points ground : List Float) (n : ℕ) (grid : List Float) (s : ℕ) : Type 0 where
-  pub fits : SlotAccepted c slot (length points) (length ground)
-  pub n-is : n ≡ subchannels c
-  pub at-most : s ≤ n
-  pub so-far : grid ≡ laid c slot points s ground
+  module _ (n : ℕ) (hn : n < gridPoints setup) where
+    -- a place that holds no point keeps its ground
+    kept : ((a s m : ℕ) → contentAt setup slot n ≡ point a s m → ⊥) → pointAt all n ≡ lit p (contentAt setup slot n)
+    unfolding grounded
+    kept none =
+        puts-miss (standsAt setup slot) (pointAt points) (subchannels setup * 48) ground n
+        (λ j h e. none slot (j / 48) (j % 48) (ap (contentAt setup slot) e ∙ stands-holds setup v slot j (omega arith)))
+        ∙ point-floats (gridPoints setup) _ n hn
 
-module _ {c : Setup} {slot : ℕ} {points ground : List Float} {n : ℕ} {grid : List Float} {s : ℕ} (t : FillTurn c slot points ground n grid s) where
-  pub fill-long : length grid ≡ length ground
-  fill-long = ap length (t .so-far ∙ laid-is c slot points s ground) ∙ length-puts (standsAt c slot) (pointAt points) (s * 48) ground
+    point-laid : (a s m : ℕ) → contentAt setup slot n ≡ point a s m → pointAt all n ≡ pointAt points (pointNumber s m)
+    point-laid a s m e =
+        let q = point-stands setup v slot hs n hn a s m e in
+        let j : pointNumber s m < subchannels setup * 48 = let h₁ = q .subchannel-lt in let h₂ = q .index-lt in omega arith in
+        ap (pointAt all) (sym (q .stands))
+        ∙ puts-hit (standsAt setup slot) (pointAt points) (subchannels setup * 48) ground (pointNumber s m) j
+        (λ i h e′. ap (pointAt points) (sym (stands-alone setup v slot (pointNumber s m) i (omega arith) (omega arith) e′)))
+        (rw (q .stands, length-ground setup slot p) (omega arith))
 
-  pub fill-next : s < n → (grid′ : List Float) → grid′ ≡ laidOne c slot points s grid → FillTurn c slot points ground n grid′ (s + 1)
-  unfolding laid
-  fill-next h grid′ e =
-      record { fits = t .fits; n-is = t .n-is; at-most = omega arith; so-far = rw (add-one s) (e ∙ ap (laidOne c slot points s) (t .so-far)) }
+    laid-holds : (w : Content) → contentAt setup slot n ≡ w → pointAt all n ≡ held p points w
+    unfolding held lit
+    laid-holds guard e = kept (λ a s m z. let q : _≡_ {A = ℕ} 0 1 = cc in omega arith) ∙ ap (lit p) e
+    laid-holds dc e = kept (λ a s m z. let q : _≡_ {A = ℕ} 0 1 = cc in omega arith) ∙ ap (lit p) e
+    laid-holds pilot e = kept (λ a s m z. let q : _≡_ {A = ℕ} 0 1 = cc in omega arith) ∙ ap (lit p) e
+    laid-holds (point a s m) e = point-laid a s m e
 
-  pub fill-done : n ≤ s → (p : Point) (grid₀ : List Float) → SlotAccepted c slot (length points) (length grid₀)
-      → ground ≡ pilotRows c slot p (symbols c) (replicate (2 * gridPoints c) zero32) → record { number = 0; buffer = grid } ≡ fillOf c slot p points grid₀
-  unfolding fillOf
-  fill-done h p grid₀ a q =
-      let e : s ≡ subchannels c = omega (arith, t .at-most, t .n-is) in
-      let g : grid ≡ filled c slot p points =
-      t .so-far ∙ ap (λ (x : ℕ). laid c slot points x ground) e ∙ ap (laid c slot points (subchannels c)) q
-      ∙ filled-is c (t .fits .valid) slot (t .fits .slot-lt) p points in
-      ap (λ (x : List Float). outcome (accepted x) grid₀) g ∙ ap (λ (x : Answer (List Float)). outcome x grid₀) (sym (slot-passes a))
+  pub filled-is : all ≡ filled setup slot p points
+  unfolding filled
+  filled-is =
+      by-points all (gridPoints setup) _
+      (length-puts (standsAt setup slot) (pointAt points) (subchannels setup * 48) ground ∙ length-ground setup slot p ∙ omega arith)
+      (λ n hn. laid-holds n hn (contentAt setup slot n) refl)
+
+pub emptied-is : (setup : Setup) (slot : ℕ) (grid l : List Float) → length l ≡ 96 * subchannels setup
+    → puts (λ n. n) (λ n. pointAt grid (standsAt setup slot n)) (subchannels setup * 48) l ≡ emptied setup slot grid
+unfolding emptied
+emptied-is setup slot grid l e =
+    let source : ℕ → Point = λ n. pointAt grid (standsAt setup slot n) in
+    by-points (puts (λ n. n) source (subchannels setup * 48) l) (48 * subchannels setup) source
+    (length-puts (λ n. n) source (subchannels setup * 48) l ∙ e ∙ omega arith)
+    (λ k h. puts-hit (λ n. n) source (subchannels setup * 48) l k (omega arith) (λ i h′ z. ap source (sym z)) (rw e (omega arith)))
+
+-- a refusal leaves the buffer, and an accepted request has it anew
+pub refused-leaves : (setup : Setup) (slot points grid : ℕ) (rest : Answer (List Float)) (old : List Float) (k : ℕ) → k ≡ slotRefusal setup slot points grid → (k ≡ 0 → ⊥)
+    → record { refusal = k; buffer = old } ≡ outcome (askSlot setup slot points grid rest) old
+refused-leaves setup slot points grid rest old k e ne = rw (slot-refused setup slot points grid rest k e ne)
+
+accepted-anew : {setup : Setup} {slot points grid : ℕ} → SlotAccepted setup slot points grid → (new defined old : List Float) → new ≡ defined
+    → record { refusal = 0; buffer = new } ≡ outcome (askSlot setup slot points grid (accepted defined)) old
+accepted-anew a new defined old e = rw (slot-passes a, e)
+
+-- what holds before each turn: the points of the first s subchannels are put
+pub record SlotTurn (setup : Setup) (slot points grid : ℕ) (place : ℕ → ℕ) (source : ℕ → Point) (n : ℕ) (dest₀ dest : List Float) (s : ℕ) : Type 0 where
+  pub fits : SlotAccepted setup slot points grid
+  pub n-is : n ≡ subchannels setup
+  pub few : n ≤ 70
+  pub put : Putting place source (n * 48) dest₀ dest (s * 48)
+
+pub slot-start : {setup : Setup} {slot points grid : ℕ} {place : ℕ → ℕ} {source : ℕ → Point} {dest₀ : List Float} → SlotAccepted setup slot points grid
+    → (n : ℕ) → n ≡ subchannels setup → SlotTurn setup slot points grid place source n dest₀ dest₀ 0
+slot-start a n e = record { fits = a; n-is = e; few = rw e (subchannels-few (a .valid)); put = putting-none _ _ _ _ }
+
+module _ {setup : Setup} {slot points grid : ℕ} {place : ℕ → ℕ} {source : ℕ → Point} {n : ℕ} {dest₀ dest : List Float} {s : ℕ}
+    (t : SlotTurn setup slot points grid place source n dest₀ dest s) where
+  pub slot-long : length dest ≡ length dest₀
+  slot-long = putting-long (t .put)
+
+  pub slot-next : s < n → (dest′ : List Float) → dest′ ≡ puts (λ j. place (s * 48 + j)) (λ j. source (s * 48 + j)) 48 dest
+      → SlotTurn setup slot points grid place source n dest₀ dest′ (s + 1)
+  slot-next h dest′ e =
+      record {
+        fits = t .fits;
+        n-is = t .n-is;
+        few = t .few;
+        put = subst (Putting place source (n * 48) dest₀ dest′) (omega arith) (putting-run (t .put) 48 (omega arith) dest′ e);
+      }
+
+  slot-done : n ≤ s → dest ≡ puts place source (subchannels setup * 48) dest₀
+  slot-done h = putting-done (t .put) (omega arith) ∙ ap (λ (x : ℕ). puts place source (x * 48) dest₀) (t .n-is)
 
 -- the ground is as long as the grid was
-pub ground-fits : {c : Setup} {slot : ℕ} (p : Point) {points grid : ℕ} (ground : List Float) → SlotAccepted c slot points grid
-    → ground ≡ pilotRows c slot p (symbols c) (replicate (2 * gridPoints c) zero32) → SlotAccepted c slot points (length ground)
-ground-fits {c = c} {slot = slot} p ground a e =
-    record {
-      valid = a .valid;
-      slot-lt = a .slot-lt;
-      points-long = a .points-long;
-      grid-long = ap length e ∙ length-rows c (a .valid) slot p (symbols c) (replicate (2 * gridPoints c) zero32) ∙ length-replicate (2 * gridPoints c) zero32;
-    }
+pub ground-fits : {setup : Setup} {slot points grid : ℕ} (p : Point) (ground : List Float) → SlotAccepted setup slot points grid → ground ≡ grounded setup slot p
+    → SlotAccepted setup slot points (length ground)
+ground-fits {setup = setup} {slot = slot} p ground a e =
+    record { valid = a .valid; slot-lt = a .slot-lt; points-long = a .points-long; grid-long = ap length e ∙ length-ground setup slot p }
 
--- what holds before each turn of empty
-pub record EmptyTurn (c : Setup) (slot : ℕ) (grid points₀ : List Float) (n : ℕ) (points : List Float) (s : ℕ) : Type 0 where
-  pub fits : SlotAccepted c slot (length points₀) (length grid)
-  pub n-is : n ≡ subchannels c
-  pub at-most : s ≤ n
-  pub so-far : points ≡ taken c slot grid s points₀
+pub fill-done : {setup : Setup} {slot k n : ℕ} (points : List Float) {ground grid : List Float} {s : ℕ} → SlotTurn setup slot (length points) k (standsAt setup slot) (pointAt points) n ground grid s
+    → n ≤ s → (p : Point) (grid₀ : List Float) → SlotAccepted setup slot (length points) (length grid₀) → ground ≡ grounded setup slot p
+    → record { refusal = 0; buffer = grid } ≡ fillOf setup slot p points grid₀
+unfolding fillOf
+fill-done {setup = setup} {slot = slot} points t h p grid₀ a e =
+    accepted-anew a _ _ grid₀
+    (slot-done t h ∙ ap (puts (standsAt setup slot) (pointAt points) (subchannels setup * 48)) e ∙ filled-is setup (a .valid) slot (a .slot-lt) p points)
 
-module _ {c : Setup} {slot : ℕ} {grid points₀ : List Float} {n : ℕ} {points : List Float} {s : ℕ} (t : EmptyTurn c slot grid points₀ n points s) where
-  pub empty-long : length points ≡ length points₀
-  empty-long =
-      ap length (t .so-far ∙ taken-is c slot grid s points₀) ∙ length-puts (λ k. k) (λ k. pointAt grid (standsAt c slot k)) (s * 48) points₀
-
-  pub empty-next : s < n → (points′ : List Float) → points′ ≡ takenOne c slot grid s points → EmptyTurn c slot grid points₀ n points′ (s + 1)
-  unfolding taken
-  empty-next h points′ e =
-      record { fits = t .fits; n-is = t .n-is; at-most = omega arith; so-far = rw (add-one s) (e ∙ ap (takenOne c slot grid s) (t .so-far)) }
-
-  pub empty-done : n ≤ s → record { number = 0; buffer = points } ≡ emptyOf c slot grid points₀
-  unfolding emptyOf
-  empty-done h =
-      let e : s ≡ subchannels c = omega (arith, t .at-most, t .n-is) in
-      let g : points ≡ emptied c slot grid =
-      t .so-far ∙ ap (λ (x : ℕ). taken c slot grid x points₀) e ∙ emptied-is c slot grid points₀ (t .fits .points-long) in
-      ap (λ (x : List Float). outcome (accepted x) points₀) g ∙ ap (λ (a : Answer (List Float)). outcome a points₀) (sym (slot-passes (t .fits)))
+pub empty-done : {setup : Setup} {slot n : ℕ} (grid points₀ : List Float) {points : List Float} {s : ℕ}
+    → SlotTurn setup slot (length points₀) (length grid) (λ k. k) (λ k. pointAt grid (standsAt setup slot k)) n points₀ points s → n ≤ s
+    → record { refusal = 0; buffer = points } ≡ emptyOf setup slot grid points₀
+unfolding emptyOf
+empty-done {setup = setup} {slot = slot} grid points₀ t h =
+    accepted-anew (t .fits) _ _ points₀ (slot-done t h ∙ emptied-is setup slot grid points₀ (t .fits .points-long))

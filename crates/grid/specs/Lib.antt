@@ -1,6 +1,4 @@
-pub mod Points
 pub mod Row
-pub mod Question
-pub mod Length
 pub mod Grid
+pub mod Law
 pub mod Model

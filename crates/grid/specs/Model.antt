@@ -1,58 +1,51 @@
--- How fill and empty go about it, put by put: what the inner functions' contracts cite. No reader needs these to know what the calls do.
+-- How fill, empty and look go about it: what the inner functions' contracts cite. No reader needs these to know what the calls do.
 use mathlib.Core.List.{List}
-use Prim.Native.Nat.{ℕ, zero, suc, _+_, _*_, _<_}
-use lib.ListN.{set}
+use Prim.Native.Nat.{ℕ, _+_, _*_}
 use lib.Ieee.{Float}
-use Rattle.base.specs.Steps.{entry}
+use Rattle.base.specs.Answer.{Answer, accepted, refused}
 use Rattle.map.specs.declared.Setup.{Setup}
-use Rattle.map.specs.Mode.{symbols}
-use Rattle.grid.specs.declared.Point.{Point}
 use Rattle.rows.specs.declared.Comb.{Comb}
+use Rattle.map.specs.Mode.{symbols}
+use Rattle.map.specs.Place.{Content, guard, dc, pilot, point}
 use Rattle.rows.specs.Model.{combOf, pilotNumber}
-use Rattle.grid.specs.Points.{pointAt}
+use Rattle.points.specs.declared.Point.{Point}
+use Rattle.points.specs.Points.{zeroPoint, pointAt, floatsOf}
+use Rattle.points.specs.Model.{puts}
+use Rattle.lengths.specs.Length.{gridPoints}
 use Rattle.grid.specs.Row.{usedPosition}
-use Rattle.grid.specs.Grid.{standsAt, pointNumber}
+use Rattle.grid.specs.Grid.{contentAt, standsAt, pointNumber, Sight, sight}
 
--- a buffer with point n put
-unfoldable pub putPoint : List Float → ℕ → Point → List Float
-putPoint floats n p = set (set floats (n * 2) (p .i)) (n * 2 + 1) (p .q)
+-- the ground of a slot: the pilot point on pilots, 0.0 elsewhere
+unfoldable pub lit : (p : Point) (content : Content) → Point
+lit p guard = zeroPoint
+lit p dc = zeroPoint
+lit p pilot = p
+lit p (point slot subchannel index) = zeroPoint
 
--- the first m points of a source put at their places
-unfoldable pub puts : (ℕ → ℕ) → (ℕ → Point) → ℕ → List Float → List Float
-puts place source zero floats = floats
-puts place source (suc m) floats = putPoint (puts place source m floats) (place m) (source m)
+unfoldable pub grounded : (setup : Setup) (slot : ℕ) (p : Point) → List Float
+grounded setup slot p = floatsOf (gridPoints setup) (λ n. lit p (contentAt setup slot n))
 
--- each of the 48 places of a row is a point of a buffer of so many floats
-abbrev pub Within : List ℕ → ℕ → Type 0
-Within row floats = (k : ℕ) → k < 48 → entry row k * 2 + 1 < floats
+-- pilot j of a row whose pilots are a comb
+abbrev pub pilotPlace : (setup : Setup) (row : ℕ) (comb : Comb) (j : ℕ) → ℕ
+pilotPlace setup row comb j = usedPosition setup row (pilotNumber comb j)
 
-abbrev pub pilotPlace : Setup → ℕ → Comb → ℕ → ℕ
-pilotPlace c row b j = usedPosition c row (pilotNumber b j)
+-- the pilot point put on the pilots of a row
+unfoldable pub pilotRow : (setup : Setup) (slot : ℕ) (p : Point) (row : ℕ) (floats : List Float) → List Float
+pilotRow setup slot p row floats =
+    let comb = combOf setup (slot * symbols setup + row) in
+    puts (pilotPlace setup row comb) (λ j. p) (comb .count * 2) floats
 
--- the pilot point put on the pilots of a row, and of the first rows of a slot
-unfoldable pub pilotRow : Setup → ℕ → Point → ℕ → List Float → List Float
-pilotRow c slot p row floats =
-    let b = combOf c (slot * symbols c + row) in
-    puts (pilotPlace c row b) (λ j. p) (b .count * 2) floats
+-- the points of one subchannel laid on the grid
+abbrev pub laid : (setup : Setup) (slot : ℕ) (points : List Float) (subchannel : ℕ) (grid : List Float) → List Float
+laid setup slot points subchannel grid =
+    puts (λ m. standsAt setup slot (pointNumber subchannel m)) (λ m. pointAt points (pointNumber subchannel m)) 48 grid
 
-unfoldable pub pilotRows : Setup → ℕ → Point → ℕ → List Float → List Float
-pilotRows c slot p zero floats = floats
-pilotRows c slot p (suc row) floats = pilotRow c slot p row (pilotRows c slot p row floats)
+-- and taken off it
+abbrev pub taken : (setup : Setup) (slot : ℕ) (grid : List Float) (subchannel : ℕ) (points : List Float) → List Float
+taken setup slot grid subchannel points =
+    puts (λ m. pointNumber subchannel m) (λ m. pointAt grid (standsAt setup slot (pointNumber subchannel m))) 48 points
 
--- the points of one subchannel, and of the first s subchannels, laid on the grid
-unfoldable pub laidOne : Setup → ℕ → List Float → ℕ → List Float → List Float
-laidOne c slot points s floats =
-    puts (λ m. standsAt c slot (pointNumber s m)) (λ m. pointAt points (pointNumber s m)) 48 floats
-
-unfoldable pub laid : Setup → ℕ → List Float → ℕ → List Float → List Float
-laid c slot points zero floats = floats
-laid c slot points (suc s) floats = laidOne c slot points s (laid c slot points s floats)
-
--- the points of one subchannel, and of the first s subchannels, taken off the grid
-unfoldable pub takenOne : Setup → ℕ → List Float → ℕ → List Float → List Float
-takenOne c slot grid s floats =
-    puts (λ m. pointNumber s m) (λ m. pointAt grid (standsAt c slot (pointNumber s m))) 48 floats
-
-unfoldable pub taken : Setup → ℕ → List Float → ℕ → List Float → List Float
-taken c slot grid zero floats = floats
-taken c slot grid (suc s) floats = takenOne c slot grid s (taken c slot grid s floats)
+-- what is seen where the reverse gives an answer
+unfoldable pub sightOf : (answer : Answer Content) (p : Point) → Answer Sight
+sightOf (accepted content) p = accepted (sight p content)
+sightOf (refused number) p = refused number

@@ -2,23 +2,19 @@
 use Prim.Native.Nat.{ℕ, _+_, _*_, _/_, _%_}
 use Rattle.carriers.specs.Band.{carrierOf}
 use Rattle.map.specs.declared.Setup.{Setup}
-use Rattle.map.specs.Mode.{symbols, band}
+use Rattle.map.specs.Mode.{band}
 
--- the points of a slot's grid
-unfoldable pub gridPoints : Setup → ℕ
-gridPoints c = symbols c * c .size
-
--- where a carrier of a row stands in the grid
-unfoldable pub position : Setup → ℕ → ℕ → ℕ
-position c row carrier = row * c .size + carrier
+-- where a carrier of a row stands in the grid, row r being symbol r of the slot
+unfoldable pub position : (setup : Setup) (row carrier : ℕ) → ℕ
+position setup row carrier = row * setup .size + carrier
 
 -- a used number's
-unfoldable pub usedPosition : Setup → ℕ → ℕ → ℕ
-usedPosition c row used = position c row (carrierOf (band c) used)
+unfoldable pub usedPosition : (setup : Setup) (row used : ℕ) → ℕ
+usedPosition setup row used = position setup row (carrierOf (band setup) used)
 
--- the row and the carrier of point n of the grid
-unfoldable pub rowOf : Setup → ℕ → ℕ
-rowOf c n = n / c .size
+-- The reverse: the row and the carrier of point n of the grid.
+unfoldable pub rowOf : (setup : Setup) (n : ℕ) → ℕ
+rowOf setup n = n / setup .size
 
-unfoldable pub columnOf : Setup → ℕ → ℕ
-columnOf c n = n % c .size
+unfoldable pub columnOf : (setup : Setup) (n : ℕ) → ℕ
+columnOf setup n = n % setup .size

@@ -1,29 +1,20 @@
 // Grids: laying a slot's points on the carriers, taking them off again, and looking at one carrier.
-use base::wide16;
 use map::Located;
 use map::Setup;
+use points::Point;
 ghost use mathlib.Core.Path.{_≡_};
-ghost use lib.Ieee.{Float};
-ghost use Prim.Native.Nat.{_+_, _*_, _%_, _<_, _≤_};
-ghost use lib.ListN.{length, replicate};
+ghost use Prim.Native.Nat.{_*_, _%_, _<_};
+ghost use lib.ListN.{length};
+ghost use Rattle.base.specs.Answer.{refusalOf};
 ghost use Rattle.map.specs.Mode.{symbols, subchannels, band};
 ghost use Rattle.map.specs.Place.{located};
 ghost use Rattle.map.specs.Valid.{Valid};
 ghost use Rattle.rows.specs.Model.{TableOf};
-ghost use Rattle.base.specs.Answer.{refusalOf};
-ghost use Rattle.base.specs.Steps.{entry};
-ghost use Rattle.grid.specs.Points.{zero32, pointAt};
-ghost use Rattle.grid.specs.Row.{gridPoints, position as Position, usedPosition};
-ghost use Rattle.grid.specs.Question.{slotRefusal};
-ghost use Rattle.grid.specs.Length.{pointsLength, gridLength};
-ghost use Rattle.grid.specs.Grid.{fillOf, emptyOf, seen, sightOf, lookOf};
-ghost use Rattle.grid.specs.Model.{putPoint, puts, Within, pilotRow, pilotRows, laidOne, takenOne};
-
-// A point, in-phase first.
-pub struct Point {
-    pub i: f32,
-    pub q: f32,
-}
+ghost use Rattle.points.specs.Model.{putPoint};
+ghost use Rattle.lengths.specs.Length.{gridPoints};
+ghost use Rattle.grid.specs.Row.{position, usedPosition};
+ghost use Rattle.grid.specs.Grid.{fillOf, emptyOf, seen, lookOf};
+ghost use Rattle.grid.specs.Model.{grounded, pilotRow, laid, taken, sightOf};
 
 // What `look` finds on a carrier, or the first refusal.
 pub enum Seen {
@@ -38,240 +29,117 @@ pub enum Seen {
     Refused(u8),
 }
 
-// Point n of a buffer.
-fn point_at(floats: &[f32], n: usize) -> Point
-    requires { ⌜ n * 2 + 1 < length (now floats) ⌝ }
-    ensures { λ r. ⌜ r ≡ pointAt (now (floats .entry)) n ⌝ }
+// A point on a used number of a row.
+fn put_used(setup: Setup, row: usize, used: usize, p: Point, grid: &mut [f32])
+    requires { ⌜ Valid setup ⌝ }
+    requires { ⌜ (row < symbols setup) × (used < band setup .used) × (length (now grid) ≡ 2 * gridPoints setup) ⌝ }
+    ensures { λ _. ⌜ now (grid .exit) ≡ putPoint (now (grid .entry)) (usedPosition setup row used) p ⌝ }
 {
-    Point {
-        i: floats[n * 2],
-        q: floats[n * 2 + 1],
-    }
-}
-
-fn put_point(floats: &mut [f32], n: usize, p: Point)
-    requires { ⌜ n * 2 + 1 < length (now floats) ⌝ }
-    ensures { λ _. ⌜ now (floats .exit) ≡ putPoint (now (floats .entry)) n p ⌝ }
-{
-    floats[n * 2] = p.i;
-    floats[n * 2 + 1] = p.q;
-}
-
-// Zeros everywhere.
-fn clear(floats: &mut [f32])
-    ensures { λ _. ⌜ now (floats .exit) ≡ replicate (length (now (floats .entry))) zero32 ⌝ }
-{
-    for j in 0..floats.len() {
-        floats[j] = 0.0;
-    }
-}
-
-// Where a used number of a row stands in the grid.
-fn position(c: Setup, row: usize, used: usize) -> usize
-    requires { ⌜ Valid c ⌝ }
-    requires { ⌜ (row < symbols c) × (used < band c .used) ⌝ }
-    ensures { λ r. ⌜ (r ≡ usedPosition c row used) × (r < gridPoints c) ⌝ }
-{
-    row * c.size + carriers::carrier(map::band(c), used)
-}
-
-fn put_used(c: Setup, row: usize, used: usize, p: Point, grid: &mut [f32])
-    requires { ⌜ Valid c ⌝ }
-    requires { ⌜ (row < symbols c) × (used < band c .used) × (length (now grid) ≡ 2 * gridPoints c) ⌝ }
-    ensures { λ _. ⌜ now (grid .exit) ≡ putPoint (now (grid .entry)) (usedPosition c row used) p ⌝ }
-{
-    put_point(grid, position(c, row, used), p);
+    let place = row * setup.size + carriers::carrier(map::band(setup), used);
+    points::put_point(grid, place, p);
 }
 
 // The pilot point on the pilots of a row.
-fn pilot_row(c: Setup, slot: usize, row: usize, p: Point, grid: &mut [f32])
-    requires { ⌜ Valid c ⌝ }
-    requires { ⌜ (slot < 512) × (row < symbols c) × (length (now grid) ≡ 2 * gridPoints c) ⌝ }
-    ensures { λ _. ⌜ now (grid .exit) ≡ pilotRow c slot p row (now (grid .entry)) ⌝ }
+fn pilot_row(setup: Setup, slot: usize, row: usize, p: Point, grid: &mut [f32])
+    requires { ⌜ Valid setup ⌝ }
+    requires { ⌜ (slot < 512) × (row < symbols setup) × (length (now grid) ≡ 2 * gridPoints setup) ⌝ }
+    ensures { λ _. ⌜ now (grid .exit) ≡ pilotRow setup slot p row (now (grid .entry)) ⌝ }
 {
-    let k = rows::pilot_comb(c, slot * map::symbols(c) + row);
+    let comb = rows::pilot_comb(setup, slot * map::symbols(setup) + row);
     let mut i = 0;
-    while i < k.count {
-        put_used(c, row, rows::pilot_number(k, i * 2), p, grid);
-        put_used(c, row, rows::pilot_number(k, i * 2 + 1), p, grid);
+    while i < comb.count {
+        put_used(setup, row, rows::pilot_number(comb, i * 2), p, grid);
+        put_used(setup, row, rows::pilot_number(comb, i * 2 + 1), p, grid);
         i += 1;
     }
 }
 
 // Zeros, and the pilot point on the pilots.
-fn ground(c: Setup, slot: usize, p: Point, grid: &mut [f32])
-    requires { ⌜ Valid c ⌝ }
-    requires { ⌜ (slot < 512) × (length (now grid) ≡ 2 * gridPoints c) ⌝ }
-    ensures { λ _. ⌜ now (grid .exit) ≡ pilotRows c slot p (symbols c) (replicate (2 * gridPoints c) zero32) ⌝ }
+fn ground(setup: Setup, slot: usize, p: Point, grid: &mut [f32])
+    requires { ⌜ Valid setup ⌝ }
+    requires { ⌜ (slot < 512) × (length (now grid) ≡ 2 * gridPoints setup) ⌝ }
+    ensures { λ _. ⌜ now (grid .exit) ≡ grounded setup slot p ⌝ }
 {
-    clear(grid);
-    let rows = map::symbols(c);
+    points::clear(grid);
+    let rows = map::symbols(setup);
     let mut row = 0;
     while row < rows {
-        pilot_row(c, slot, row, p, grid);
+        pilot_row(setup, slot, row, p, grid);
         row += 1;
-    }
-}
-
-// The n points from `first` on laid on the places of a row from q on.
-fn lay_run(row: &[u16; 48], q: usize, n: usize, first: usize, points: &[f32], grid: &mut [f32])
-    requires { ⌜ (q + n ≤ 48) × (first < 65536) × ((first + n) * 2 ≤ length (now points)) × Within (now row) (length (now grid)) ⌝ }
-    ensures { λ _. ⌜ now (grid .exit) ≡ puts (λ m. entry (now (row .entry)) (q + m)) (λ m. pointAt (now (points .entry)) (first + m)) n (now (grid .entry)) ⌝ }
-{
-    let mut m = 0;
-    while m < n {
-        let k = wide16(row[q + m]);
-        put_point(grid, k, point_at(points, first + m));
-        m += 1;
     }
 }
 
 // The points of one subchannel laid on the grid.
 fn lay(
-    c: Setup,
+    setup: Setup,
     slot: usize,
     subchannel: usize,
     table: &[u16; 188],
     points: &[f32],
     grid: &mut [f32],
 )
-    requires { ⌜ Valid c ⌝ }
-    requires { ⌜ (subchannel < subchannels c) × (length (now points) ≡ 96 * subchannels c) × (length (now grid) ≡ 2 * gridPoints c) ⌝ }
-    requires { ⌜ TableOf c (now table) ⌝ }
-    ensures { λ _. ⌜ now (grid .exit) ≡ laidOne c slot (now (points .entry)) subchannel (now (grid .entry)) ⌝ }
+    requires { ⌜ Valid setup ⌝ }
+    requires { ⌜ (subchannel < subchannels setup) × (length (now points) ≡ 96 * subchannels setup) × (length (now grid) ≡ 2 * gridPoints setup) ⌝ }
+    requires { ⌜ TableOf setup (now table) ⌝ }
+    ensures { λ _. ⌜ now (grid .exit) ≡ laid setup slot (now (points .entry)) subchannel (now (grid .entry)) ⌝ }
 {
-    let row = rows::carrier_row(c, slot, subchannel, table);
-    let by = rows::shift(c, subchannel);
-    let first = subchannel * 48;
-    lay_run(&row, by, 48 - by, first, points, grid);
-    lay_run(&row, 0, by, first + (48 - by), points, grid);
-}
-
-// The n points from `first` on taken off the places of a row from q on.
-fn take_run(row: &[u16; 48], q: usize, n: usize, first: usize, grid: &[f32], points: &mut [f32])
-    requires { ⌜ (q + n ≤ 48) × (first < 65536) × ((first + n) * 2 ≤ length (now points)) × Within (now row) (length (now grid)) ⌝ }
-    ensures { λ _. ⌜ now (points .exit) ≡ puts (λ m. first + m) (λ m. pointAt (now (grid .entry)) (entry (now (row .entry)) (q + m))) n (now (points .entry)) ⌝ }
-{
-    let mut m = 0;
-    while m < n {
-        let k = wide16(row[q + m]);
-        put_point(points, first + m, point_at(grid, k));
-        m += 1;
-    }
+    let row = rows::carrier_row(setup, slot, subchannel, table);
+    let by = rows::shift(setup, subchannel);
+    points::lay_row(&row, by, subchannel * 48, points, grid);
 }
 
 // The points of one subchannel taken off the grid.
 fn take(
-    c: Setup,
+    setup: Setup,
     slot: usize,
     subchannel: usize,
     table: &[u16; 188],
     grid: &[f32],
     points: &mut [f32],
 )
-    requires { ⌜ Valid c ⌝ }
-    requires { ⌜ (subchannel < subchannels c) × (length (now points) ≡ 96 * subchannels c) × (length (now grid) ≡ 2 * gridPoints c) ⌝ }
-    requires { ⌜ TableOf c (now table) ⌝ }
-    ensures { λ _. ⌜ now (points .exit) ≡ takenOne c slot (now (grid .entry)) subchannel (now (points .entry)) ⌝ }
+    requires { ⌜ Valid setup ⌝ }
+    requires { ⌜ (subchannel < subchannels setup) × (length (now points) ≡ 96 * subchannels setup) × (length (now grid) ≡ 2 * gridPoints setup) ⌝ }
+    requires { ⌜ TableOf setup (now table) ⌝ }
+    ensures { λ _. ⌜ now (points .exit) ≡ taken setup slot (now (grid .entry)) subchannel (now (points .entry)) ⌝ }
 {
-    let row = rows::carrier_row(c, slot, subchannel, table);
-    let by = rows::shift(c, subchannel);
-    let first = subchannel * 48;
-    take_run(&row, by, 48 - by, first, grid, points);
-    take_run(&row, 0, by, first + (48 - by), grid, points);
-}
-
-// The number of the first of questions 1, 2, 3, 4, 8 and 9 that is answered no, or 0.
-fn slot_refusal(c: Setup, slot: usize, points: usize, grid: usize) -> u8
-    ensures { λ r. ⌜ r ≡ slotRefusal c slot points grid ⌝ }
-{
-    let k = map::refusal(c);
-    if k != 0 {
-        return k;
-    }
-    if 512 <= slot {
-        return 4;
-    }
-    if points != 96 * map::subchannels(c) {
-        return 8;
-    }
-    if grid != 2 * grid_points(c) {
-        return 9;
-    }
-    0
-}
-
-// The points of a slot's grid.
-fn grid_points(c: Setup) -> usize
-    requires { ⌜ Valid c ⌝ }
-    ensures { λ r. ⌜ (r ≡ gridPoints c) × (r < 65536) ⌝ }
-{
-    map::symbols(c) * c.size
-}
-
-// The floats of a slot's points; 0 for a mode and size that the map does not have.
-pub fn points_length(mode: usize, size: usize) -> usize
-    ensures { λ r. ⌜ r ≡ pointsLength mode size ⌝ }
-{
-    let setup = Setup {
-        mode,
-        size,
-        cell: 0,
-    };
-    if map::refusal(setup) != 0 {
-        return 0;
-    }
-    96 * map::subchannels(setup)
-}
-
-// The floats of a slot's grid; 0 likewise.
-pub fn grid_length(mode: usize, size: usize) -> usize
-    ensures { λ r. ⌜ r ≡ gridLength mode size ⌝ }
-{
-    let setup = Setup {
-        mode,
-        size,
-        cell: 0,
-    };
-    if map::refusal(setup) != 0 {
-        return 0;
-    }
-    2 * grid_points(setup)
+    let row = rows::carrier_row(setup, slot, subchannel, table);
+    let by = rows::shift(setup, subchannel);
+    points::take_row(&row, by, subchannel * 48, grid, points);
 }
 
 // Lays a slot's points on its grid, with the pilot point on pilots and 0.0 elsewhere; or the first refusal of 1, 2, 3, 4, 8, 9.
-pub fn fill(c: Setup, slot: usize, pilot: Point, points: &[f32], grid: &mut [f32]) -> u8
-    ensures { λ r. ⌜ record { number = r; buffer = now (grid .exit) } ≡ fillOf c slot pilot (now (points .entry)) (now (grid .entry)) ⌝ }
+pub fn fill(setup: Setup, slot: usize, pilot: Point, points: &[f32], grid: &mut [f32]) -> u8
+    ensures { λ r. ⌜ record { refusal = r; buffer = now (grid .exit) } ≡ fillOf setup slot pilot (now (points .entry)) (now (grid .entry)) ⌝ }
 {
-    let k = slot_refusal(c, slot, points.len(), grid.len());
-    if k != 0 {
-        return k;
+    let refusal = lengths::slot_refusal(setup, slot, points.len(), grid.len());
+    if refusal != 0 {
+        return refusal;
     }
-    ground(c, slot, pilot, grid);
-    let table = rows::table(c);
-    let n = map::subchannels(c);
-    let mut s = 0;
-    while s < n {
-        lay(c, slot, s, &table, points, grid);
-        s += 1;
+    ground(setup, slot, pilot, grid);
+    let table = rows::table(setup);
+    let n = map::subchannels(setup);
+    let mut subchannel = 0;
+    while subchannel < n {
+        lay(setup, slot, subchannel, &table, points, grid);
+        subchannel += 1;
     }
     0
 }
 
 // Takes a slot's points off its grid; or the first refusal of 1, 2, 3, 4, 8, 9.
-pub fn empty(c: Setup, slot: usize, grid: &[f32], points: &mut [f32]) -> u8
-    ensures { λ r. ⌜ record { number = r; buffer = now (points .exit) } ≡ emptyOf c slot (now (grid .entry)) (now (points .entry)) ⌝ }
+pub fn empty(setup: Setup, slot: usize, grid: &[f32], points: &mut [f32]) -> u8
+    ensures { λ r. ⌜ record { refusal = r; buffer = now (points .exit) } ≡ emptyOf setup slot (now (grid .entry)) (now (points .entry)) ⌝ }
 {
-    let k = slot_refusal(c, slot, points.len(), grid.len());
-    if k != 0 {
-        return k;
+    let refusal = lengths::slot_refusal(setup, slot, points.len(), grid.len());
+    if refusal != 0 {
+        return refusal;
     }
-    let table = rows::table(c);
-    let n = map::subchannels(c);
-    let mut s = 0;
-    while s < n {
-        take(c, slot, s, &table, grid, points);
-        s += 1;
+    let table = rows::table(setup);
+    let n = map::subchannels(setup);
+    let mut subchannel = 0;
+    while subchannel < n {
+        take(setup, slot, subchannel, &table, grid, points);
+        subchannel += 1;
     }
     0
 }
@@ -316,25 +184,28 @@ fn refusal_of(found: Located) -> u8
 }
 
 // Where a carrier of a zone's symbol stands in its slot's grid.
-fn carrier_position(c: Setup, symbol: usize, carrier: usize) -> usize
-    requires { ⌜ Valid c ⌝ }
-    requires { ⌜ carrier < c .size ⌝ }
-    ensures { λ r. ⌜ (r ≡ Position c (symbol % symbols c) carrier) × (r < gridPoints c) ⌝ }
+fn carrier_position(setup: Setup, symbol: usize, carrier: usize) -> usize
+    requires { ⌜ Valid setup ⌝ }
+    requires { ⌜ carrier < setup .size ⌝ }
+    ensures { λ r. ⌜ (r ≡ position setup (symbol % symbols setup) carrier) × (r < gridPoints setup) ⌝ }
 {
-    map::offset_of(c, symbol) * c.size + carrier
+    map::offset_of(setup, symbol) * setup.size + carrier
 }
 
 // The point on a carrier of a zone's symbol, and whose it is; or the first refusal of 1, 2, 3, 4, 7, 9.
-pub fn look(c: Setup, symbol: usize, grid: &[f32], carrier: usize) -> Seen
-    ensures { λ r. ⌜ seen r ≡ lookOf c symbol (now (grid .entry)) carrier ⌝ }
+pub fn look(setup: Setup, symbol: usize, grid: &[f32], carrier: usize) -> Seen
+    ensures { λ r. ⌜ seen r ≡ lookOf setup symbol (now (grid .entry)) carrier ⌝ }
 {
-    let found = map::locate(c, symbol, carrier);
-    let k = refusal_of(found);
-    if k != 0 {
-        return Seen::Refused(k);
+    let found = map::locate(setup, symbol, carrier);
+    let refusal = refusal_of(found);
+    if refusal != 0 {
+        return Seen::Refused(refusal);
     }
-    if grid.len() != 2 * grid_points(c) {
+    if grid.len() != 2 * lengths::grid_points(setup) {
         return Seen::Refused(9);
     }
-    sight(found, point_at(grid, carrier_position(c, symbol, carrier)))
+    sight(
+        found,
+        points::point_at(grid, carrier_position(setup, symbol, carrier)),
+    )
 }

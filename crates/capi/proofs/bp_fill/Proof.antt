@@ -1,5 +1,5 @@
 -- `capi::bp_fill` meets its contract.
-use Rattle.grid.specs.Points.{pointAt}
+use Rattle.points.specs.Points.{pointAt}
 use borrow.Author.Needs.{needs}
 use Rattle.capi.proofs.bp_fill.Statement.{statement}
 use Rattle.capi.proofs.bp_fill.Tie as tie

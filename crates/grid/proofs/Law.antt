@@ -1,0 +1,100 @@
+-- THE LAWS OF THE GRID: they rest on the law of the map, and on no mode's text.
+use mathlib.Core.Path.{_≡_, refl, sym, ap, _∙_}
+use mathlib.Core.List.{List}
+use Prim.Native.Nat.{ℕ, _+_, _*_, _/_, _%_, _<_}
+use native.Mathlib.Nat.{mod-lt, div-add-mod'}
+use native.Mathlib.Omega.{arith}
+use lib.ListN.{length}
+use lib.Ieee.{Float}
+use Rattle.base.specs.Answer.{Answer, accepted, refused, refusalOf}
+use Rattle.map.specs.declared.Setup.{Setup}
+use Rattle.map.specs.Mode.{subchannels, symbols}
+use Rattle.map.specs.Place.{Content, guard, dc, pilot, point, locateOf}
+use Rattle.map.proofs.ByMode.{symbols-range}
+use Rattle.map.proofs.Law.{locating, located-where-placed, in-own-slot}
+use Rattle.points.specs.declared.Point.{Point}
+use Rattle.points.specs.Points.{pointAt}
+use Rattle.points.proofs.Points.{length-floats, point-floats, by-points}
+use Rattle.lengths.specs.Length.{gridPoints}
+use Rattle.lengths.specs.Question.{askSlot}
+use Rattle.lengths.specs.Model.{slotRefusal}
+use Rattle.lengths.proofs.Length.{lengths-listed}
+use Rattle.lengths.proofs.Refusal.{SlotAccepted, number-is, slot-numbered, slot-accepted, slot-passes}
+use Rattle.grid.specs.Row.{position}
+use Rattle.grid.specs.Grid.{Outcome, outcome, contentAt, pointNumber, held, filled, standsAt, emptied, emptyOf, fillOf, sight, lookOf}
+use Rattle.grid.specs.Model.{sightOf}
+use Rattle.grid.specs.Law.{Fills, GridLaw}
+use Rattle.grid.proofs.Slot.{row-position, column-position, position-lt, stands-lt, stands-holds}
+use Rattle.grid.proofs.Looked.{look-done}
+
+-- an outcome's number is that of its answer
+outcome-refusal : (a : Answer (List Float)) (old : List Float) → outcome a old .refusal ≡ refusalOf a
+outcome-refusal (accepted new) old = refl
+outcome-refusal (refused k) old = refl
+
+module _ (setup : Setup) (slot : ℕ) (p : Point) (points old grid : List Float) (e : Fills setup slot p points old grid) where
+  accepts : SlotAccepted setup slot (length points) (length old)
+  unfolding fillOf
+  accepts =
+      slot-accepted setup slot (length points) (length old) (slotRefusal setup slot (length points) (length old)) refl
+      (sym (number-is _ _) ∙ sym (ap refusalOf (slot-numbered setup slot (length points) (length old) (accepted (filled setup slot p points))))
+      ∙ sym (outcome-refusal (askSlot setup slot (length points) (length old) (accepted (filled setup slot p points))) old) ∙ ap (λ (o : Outcome). o .refusal) e)
+
+  grid-is : grid ≡ filled setup slot p points
+  unfolding fillOf
+  grid-is = sym (ap (λ (o : Outcome). o .buffer) e) ∙ ap (λ (a : Answer (List Float)). outcome a old .buffer) (slot-passes accepts)
+
+  long : length grid ≡ 2 * gridPoints setup
+  unfolding filled
+  long = ap length grid-is ∙ length-floats (gridPoints setup) _ ∙ omega arith
+
+  -- what stands at a place of the filled grid
+  holds : (n : ℕ) → n < gridPoints setup → pointAt grid n ≡ held p points (contentAt setup slot n)
+  unfolding filled
+  holds n h = ap (λ (g : List Float). pointAt g n) grid-is ∙ point-floats (gridPoints setup) _ n h
+
+  back : (k : ℕ) → k < 48 * subchannels setup → pointAt points k ≡ pointAt grid (standsAt setup slot k)
+  unfolding held
+  back k h =
+      let there : pointNumber (k / 48) (k % 48) ≡ k = omega arith in
+      sym (holds (standsAt setup slot k) (stands-lt setup (accepts .valid) slot k h)
+      ∙ ap (held p points) (stands-holds setup (accepts .valid) slot k h) ∙ ap (pointAt points) there)
+
+  again : (before : List Float) → length before ≡ length points → emptyOf setup slot grid before ≡ record { refusal = 0; buffer = points }
+  unfolding emptyOf emptied
+  again before l =
+      ap (λ (a : Answer (List Float)). outcome a before)
+      (slot-passes (record { valid = accepts .valid; slot-lt = accepts .slot-lt; points-long = l ∙ accepts .points-long; grid-long = long }))
+      ∙ ap (λ (x : List Float). record { refusal = 0; buffer = x }) (sym (by-points points (48 * subchannels setup) _ (accepts .points-long ∙ omega arith) back))
+
+  -- what is in the filled grid where a carrier of the slot holds w
+  module _ (symbol carrier : ℕ) (w : Content) (a : locateOf setup symbol carrier ≡ accepted w) (own : symbol / symbols setup ≡ slot) where
+    abbrev row : ℕ
+    row = symbol % symbols setup
+
+    point-there : pointAt grid (position setup row carrier) ≡ held p points w
+    point-there =
+        let q = locating setup symbol carrier a in
+        let r : slot * symbols setup + row ≡ symbol = ap (λ (t : ℕ). t * symbols setup + row) (sym own) ∙ div-add-mod' symbol (symbols setup) in
+        holds (position setup row carrier) (position-lt setup row carrier (q .carrier-below) (mod-lt symbol (symbols-range (accepts .valid) .0)))
+        ∙ ap (held p points) (rw (row-position setup row carrier (q .carrier-below), column-position setup row carrier (q .carrier-below), r) (q .content-is))
+
+    looked : lookOf setup symbol grid carrier ≡ accepted (sight (held p points w) w)
+    unfolding sightOf
+    looked =
+        sym (look-done setup symbol carrier (accepted w) (sym a) 0 refl grid refl (gridPoints setup) refl long _ refl (held p points w) (sym point-there) _ refl)
+
+pub grid-law : GridLaw
+unfolding sight held
+grid-law =
+    record {
+      lengths-fit = λ setup slot p points old grid e.
+          let q = lengths-listed (accepts setup slot p points old grid e .valid) in
+          (accepts setup slot p points old grid e .points-long ∙ q .0, long setup slot p points old grid e ∙ q .1);
+      emptied-again = again;
+      look-at-point = λ setup slot p points old grid e s m place h.
+          looked setup slot p points old grid e (place .symbol) (place .carrier) (point slot s m) (located-where-placed setup slot s m h) (in-own-slot setup slot s m h);
+      look-at-pilot = λ setup slot p points old grid e symbol carrier. looked setup slot p points old grid e symbol carrier pilot;
+      zero-on-guards = λ setup slot p points old grid e symbol carrier. point-there setup slot p points old grid e symbol carrier guard;
+      zero-on-dc = λ setup slot p points old grid e symbol carrier. point-there setup slot p points old grid e symbol carrier dc;
+    }

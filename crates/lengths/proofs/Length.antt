@@ -1,0 +1,69 @@
+-- Cell 0 is a cell of every listed mode and size, so the first refusal tells whether the map has them.
+use mathlib.Core.Path.{_≡_, sym, _∙_}
+use mathlib.Core.Bool.{true}
+use Prim.Native.Nat.{ℕ, _*_, _/_, _<_}
+use native.Mathlib.Nat.{mul-pos}
+use native.Mathlib.Omega.{arith}
+use lib.Dec.{eqb}
+use borrow.Author.Tests.{eqb-true, lt-ltb}
+use Rattle.base.specs.Answer.{accepted}
+use Rattle.base.proofs.Test.{cases}
+use Rattle.base.proofs.Chain.{ask-yes, number-yes}
+use Rattle.map.specs.declared.Setup.{Setup}
+use Rattle.map.specs.Mode.{width, cells, subchannels, symbols}
+use Rattle.map.specs.Question.{isMode, isFourSizes, isSize, isCell}
+use Rattle.map.specs.Model.{setupRefusal}
+use Rattle.map.specs.Valid.{Valid, setupWith}
+use Rattle.map.proofs.Accept.{passes}
+use Rattle.lengths.specs.Length.{gridPoints, whereListed, pointsLength, gridLength}
+
+-- the four sizes are no small ones
+wide : (size : ℕ) → isFourSizes size ≡ true → 0 < size / 64
+unfolding isFourSizes
+wide size h =
+    cases (eqb size 256)
+    (λ e. omega (arith, eqb-true size 256 e))
+    (λ e. cases (eqb size 512)
+    (λ e′. omega (arith, eqb-true size 512 e′))
+    (λ e′. cases (eqb size 1024)
+    (λ e″. omega (arith, eqb-true size 1024 e″))
+    (λ e″. omega (arith, eqb-true size 2048 (rw (e, e′, e″) at h)))))
+
+some-cell : (mode size : ℕ) → isSize (setupWith mode size 0) ≡ true → 0 < cells (setupWith mode size 0)
+unfolding isSize cells width
+some-cell mode size h =
+    cases (eqb mode 0)
+    (λ e. rw e (omega arith))
+    (λ e. cases (eqb mode 1)
+    (λ e′. rw (e, e′) (omega arith))
+    (λ e′. cases (eqb mode 2)
+    (λ e″. let n = wide size (rw (eqb-true mode 2 e″) at h) in rw (e, e′, e″) (mul-pos n n))
+    (λ e″. rw (e, e′, e″) (omega arith))))
+
+-- so a length is told by the refusal's number
+module _ (mode size k : ℕ) (e : k ≡ setupRefusal (setupWith mode size 0)) (length : ℕ) where
+  abbrev setup : Setup
+  setup = setupWith mode size 0
+
+  pub unlisted : (k ≡ 0 → ⊥) → 0 ≡ whereListed setup length
+  unfolding setupRefusal isCell
+  unlisted ne =
+      cases (isMode setup)
+      (λ a. cases (isSize setup)
+      (λ b. absurd (ne (e ∙ rw (a, b, lt-ltb 0 (cells setup) (some-cell mode size b)))))
+      (λ b. rw (a, b)))
+      (λ a. rw a)
+
+  pub listed : k ≡ 0 → (f n n′ : ℕ) → n ≡ n′ → f * n′ ≡ length → f * n ≡ whereListed setup length
+  unfolding setupRefusal
+  listed z f n n′ q h =
+      let q₁ = number-yes (isMode setup) 0 _ (sym e ∙ z) in
+      rw (q₁ .0, number-yes (isSize setup) 1 _ (q₁ .1) .0, q) h
+
+-- the lengths of a valid setup, whatever its cell
+pub lengths-listed : {setup : Setup} → Valid setup → (96 * subchannels setup ≡ pointsLength (setup .mode) (setup .size)) × (2 * gridPoints setup ≡ gridLength (setup .mode) (setup .size))
+unfolding pointsLength gridLength subchannels gridPoints symbols width isMode isSize
+lengths-listed {setup} v =
+    let q₁ = ask-yes (isMode setup) 1 _ (passes {A = Unit {0}} {rest = accepted tt} v) in
+    let q₂ = ask-yes (isSize setup) 2 _ (q₁ .1) in
+    (rw (q₁ .0, q₂ .0), rw (q₁ .0, q₂ .0))

@@ -1,0 +1,16 @@
+-- `lengths::grid_length` meets its contract.
+use mathlib.Core.Path.{refl}
+use borrow.Author.Needs.{needs}
+use Rattle.map.proofs.Outcome.{now-valid}
+use Rattle.lengths.specs.Length.{gridLength}
+use Rattle.lengths.proofs.Length.{unlisted, listed}
+use Rattle.lengths.proofs.grid_length.Statement.{statement}
+use Rattle.lengths.proofs.grid_length.Tie as tie
+
+pub grid-length-spec : {M : Type 1} → statement M
+unfolding gridLength
+grid-length-spec =
+    tie.close
+    (tie.spec
+    (λ c κs. search needs) (λ c. unlisted _ _ _ (c .before .refusal .ensures) _ (c .if1 .taken)) (λ c κs. search (now-valid, needs)) (λ c. search needs)
+    (λ c. listed _ _ _ (c .before .before .refusal .ensures) _ (c .before .if1 .left) _ _ _ (c .grid-points .ensures .0) refl))

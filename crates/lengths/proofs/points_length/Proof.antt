@@ -1,0 +1,21 @@
+-- `lengths::points_length` meets its contract.
+use mathlib.Core.Path.{refl}
+use native.Mathlib.Omega.{arith}
+use borrow.Author.Needs.{needs}
+use Rattle.map.proofs.ByMode.{subchannels-few}
+use Rattle.map.proofs.Outcome.{now-valid}
+use Rattle.lengths.specs.Length.{pointsLength}
+use Rattle.lengths.proofs.Length.{unlisted, listed}
+use Rattle.lengths.proofs.points_length.Statement.{statement}
+use Rattle.lengths.proofs.points_length.Tie as tie
+
+mul-result : tie.Need-mul-result
+mul-result c = omega (arith, subchannels-few (now-valid _ _ (c .before .before .refusal .ensures) (c .before .if1 .left)))
+
+pub points-length-spec : {M : Type 1} → statement M
+unfolding pointsLength
+points-length-spec =
+    tie.close
+    (tie.spec
+    (λ c κs. search needs) (λ c. unlisted _ _ _ (c .before .refusal .ensures) _ (c .if1 .taken)) (λ c κs. search needs) mul-result
+    (λ c. listed _ _ _ (c .before .before .refusal .ensures) _ (c .before .if1 .left) _ _ _ (c .subchannels .ensures) refl))

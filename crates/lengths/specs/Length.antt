@@ -1,0 +1,23 @@
+-- How long the lent buffers of a slot are. Document 01, "Grids": the points of all its subchannels, and a point a carrier for each of its symbols.
+use Prim.Native.Nat.{ℕ, _*_}
+use Rattle.base.specs.Choice.{pick}
+use Rattle.map.specs.declared.Setup.{Setup}
+use Rattle.map.specs.Mode.{subchannels, symbols}
+use Rattle.map.specs.Question.{isMode, isSize}
+use Rattle.map.specs.Valid.{setupWith}
+
+-- the points of a slot's grid
+unfoldable pub gridPoints : (setup : Setup) → ℕ
+gridPoints setup = symbols setup * setup .size
+
+-- a length where questions 1 and 2 are answered yes; 0 for a mode and size that the map does not have
+abbrev pub whereListed : (setup : Setup) (length : ℕ) → ℕ
+whereListed setup length = pick (isMode setup) (pick (isSize setup) length 0) 0
+
+-- As question 8 has it: 96 floats for each subchannel. The cell plays no part in a length, so it is 0 here.
+unfoldable pub pointsLength : (mode size : ℕ) → ℕ
+pointsLength mode size = let setup = setupWith mode size 0 in whereListed setup (96 * subchannels setup)
+
+-- As question 9 has it: 2·size floats for each symbol of a slot.
+unfoldable pub gridLength : (mode size : ℕ) → ℕ
+gridLength mode size = let setup = setupWith mode size 0 in whereListed setup (2 * gridPoints setup)

@@ -1,0 +1,3 @@
+pub mod Length
+pub mod Question
+pub mod Model

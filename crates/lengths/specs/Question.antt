@@ -1,0 +1,33 @@
+-- Document 01, "The questions put to a request, in order": 8 and 9.
+use mathlib.Core.Bool.{Bool}
+use Prim.Native.Nat.{ℕ, _*_}
+use lib.Dec.{eqb}
+use Rattle.base.specs.Answer.{Answer, ask}
+use Rattle.map.specs.declared.Setup.{Setup}
+use Rattle.map.specs.Mode.{subchannels}
+use Rattle.map.specs.Question.{askSetup, isSlot, isSymbol, isCarrier}
+use Rattle.lengths.specs.Length.{gridPoints}
+
+-- 8 Are the points just 96 floats for each subchannel?
+unfoldable pub arePoints : (setup : Setup) (floats : ℕ) → Bool
+arePoints setup floats = eqb floats (96 * subchannels setup)
+
+-- 9 Is the grid just 2·size floats for each symbol of a slot?
+unfoldable pub isGrid : (setup : Setup) (floats : ℕ) → Bool
+isGrid setup floats = eqb floats (2 * gridPoints setup)
+
+-- the questions of fill and empty: 1, 2, 3, 4, 8, 9
+abbrev pub askSlot : {A : Type 0} → (setup : Setup) (slot points grid : ℕ) → Answer A → Answer A
+askSlot setup slot points grid rest =
+    askSetup setup
+    (ask (isSlot slot) 4
+    (ask (arePoints setup points) 8
+    (ask (isGrid setup grid) 9 rest)))
+
+-- the questions of look: 1, 2, 3, 4, 7, 9
+abbrev pub askLook : {A : Type 0} → (setup : Setup) (symbol carrier grid : ℕ) → Answer A → Answer A
+askLook setup symbol carrier grid rest =
+    askSetup setup
+    (ask (isSymbol setup symbol) 4
+    (ask (isCarrier setup carrier) 7
+    (ask (isGrid setup grid) 9 rest)))

@@ -1,0 +1,65 @@
+// The lengths of a slot's buffers, and the questions of a slot with its buffers.
+use map::Setup;
+ghost use mathlib.Core.Path.{_≡_};
+ghost use Prim.Native.Nat.{_<_};
+ghost use Rattle.map.specs.Valid.{Valid};
+ghost use Rattle.lengths.specs.Length.{gridPoints, pointsLength, gridLength};
+ghost use Rattle.lengths.specs.Model.{slotRefusal};
+
+// The points of a slot's grid.
+pub fn grid_points(setup: Setup) -> usize
+    requires { ⌜ Valid setup ⌝ }
+    ensures { λ r. ⌜ (r ≡ gridPoints setup) × (r < 65536) ⌝ }
+{
+    map::symbols(setup) * setup.size
+}
+
+// The floats of a slot's points; 0 for a mode and size that the map does not have.
+pub fn points_length(mode: usize, size: usize) -> usize
+    ensures { λ r. ⌜ r ≡ pointsLength mode size ⌝ }
+{
+    let setup = Setup {
+        mode,
+        size,
+        cell: 0,
+    };
+    if map::refusal(setup) != 0 {
+        return 0;
+    }
+    96 * map::subchannels(setup)
+}
+
+// The floats of a slot's grid; 0 likewise.
+pub fn grid_length(mode: usize, size: usize) -> usize
+    ensures { λ r. ⌜ r ≡ gridLength mode size ⌝ }
+{
+    let setup = Setup {
+        mode,
+        size,
+        cell: 0,
+    };
+    if map::refusal(setup) != 0 {
+        return 0;
+    }
+    2 * grid_points(setup)
+}
+
+// The number of the first of questions 1, 2, 3, 4, 8 and 9 that is answered no, or 0.
+pub fn slot_refusal(setup: Setup, slot: usize, points: usize, grid: usize) -> u8
+    ensures { λ r. ⌜ r ≡ slotRefusal setup slot points grid ⌝ }
+{
+    let k = map::refusal(setup);
+    if k != 0 {
+        return k;
+    }
+    if 512 <= slot {
+        return 4;
+    }
+    if points != 96 * map::subchannels(setup) {
+        return 8;
+    }
+    if grid != 2 * grid_points(setup) {
+        return 9;
+    }
+    0
+}

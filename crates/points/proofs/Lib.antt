@@ -1,0 +1,3 @@
+-- Laws of points in buffers.
+pub mod Points
+pub mod Copy

@@ -1,0 +1,28 @@
+-- `points::take_run` meets its contract.
+use mathlib.Core.Path.{refl, ap, _∙_}
+use Prim.Native.Nat.{_+_, _-_}
+use borrow.Author.Needs.{needs}
+use Rattle.base.specs.Steps.{entry}
+use Rattle.points.specs.Points.{pointAt}
+use Rattle.points.proofs.Copy.{Putting, putting-none, putting-long, putting-next, putting-done, run-within, run-below}
+use Rattle.points.proofs.take_run.Statement.{statement}
+use Rattle.points.proofs.take_run.Tie as tie
+
+abbrev Inv-loop : tie.InvT-loop
+Inv-loop row q n first grid points₀ m₀ points m = Putting (λ i. first + i) (λ i. pointAt grid (entry row (q + i))) n points₀ points m
+
+abbrev μ-loop : tie.MeasureT-loop
+μ-loop row q n first grid points₀ m₀ points m = n - m
+
+loop-again : tie.Need-loop-again Inv-loop μ-loop
+loop-again c =
+    putting-next (c .before .before .before .before .before .before .before .before .loop .inv) (c .before .before .before .before .before .before .before .loop-test .taken) _ refl
+    _ (c .before .before .before .point-at .ensures ∙ ap (pointAt _) (c .before .before .before .before .before .wide16 .ensures .0)) _ (c .before .before .put-point .ensures)
+
+pub take-run-spec : {M : Type 1} → statement M
+take-run-spec =
+    tie.close
+    (tie.spec
+    Inv-loop μ-loop (λ c. putting-none _ _ _ _) (λ c. search needs) (λ c. search needs) (λ c. search needs) (λ c κs. search needs)
+    (λ c. search needs) (λ c κs. search (run-within, needs)) (λ c κs. search (run-below, putting-long, needs)) (λ c. search needs) (λ c. search needs) loop-again
+    (λ c. putting-long (c .before .loop .inv)) (λ c. putting-done (c .before .loop .inv) (c .loop-test .left)))

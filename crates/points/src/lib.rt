@@ -1,0 +1,86 @@
+// Points in lent buffers: one read, one put, a run of them copied by a row of places, and zeros.
+use base::wide16;
+ghost use mathlib.Core.Path.{_≡_};
+ghost use Prim.Native.Nat.{_+_, _*_, _<_, _≤_};
+ghost use lib.ListN.{length, replicate};
+ghost use Rattle.base.specs.Steps.{entry};
+ghost use Rattle.points.specs.Points.{zero32, pointAt};
+ghost use Rattle.points.specs.Model.{putPoint, puts, turned, Within};
+
+// A point, in-phase first.
+pub struct Point {
+    pub i: f32,
+    pub q: f32,
+}
+
+// Point n of a buffer.
+pub fn point_at(floats: &[f32], n: usize) -> Point
+    requires { ⌜ n * 2 + 1 < length (now floats) ⌝ }
+    ensures { λ r. ⌜ r ≡ pointAt (now (floats .entry)) n ⌝ }
+{
+    Point {
+        i: floats[n * 2],
+        q: floats[n * 2 + 1],
+    }
+}
+
+pub fn put_point(floats: &mut [f32], n: usize, p: Point)
+    requires { ⌜ n * 2 + 1 < length (now floats) ⌝ }
+    ensures { λ _. ⌜ now (floats .exit) ≡ putPoint (now (floats .entry)) n p ⌝ }
+{
+    floats[n * 2] = p.i;
+    floats[n * 2 + 1] = p.q;
+}
+
+// Zeros everywhere.
+pub fn clear(floats: &mut [f32])
+    ensures { λ _. ⌜ now (floats .exit) ≡ replicate (length (now (floats .entry))) zero32 ⌝ }
+{
+    for j in 0..floats.len() {
+        floats[j] = 0.0;
+    }
+}
+
+// The n points from `first` on laid on the places of a row from q on.
+fn lay_run(row: &[u16; 48], q: usize, n: usize, first: usize, points: &[f32], grid: &mut [f32])
+    requires { ⌜ (q + n ≤ 48) × ((first + n) * 2 ≤ length (now points)) × Within (now row) (length (now grid)) ⌝ }
+    ensures { λ _. ⌜ now (grid .exit) ≡ puts (λ m. entry (now (row .entry)) (q + m)) (λ m. pointAt (now (points .entry)) (first + m)) n (now (grid .entry)) ⌝ }
+{
+    let mut m = 0;
+    while m < n {
+        let k = wide16(row[q + m]);
+        put_point(grid, k, point_at(points, first + m));
+        m += 1;
+    }
+}
+
+// The 48 points from `first` on laid on the places of a row, the first at place `by`; they go on at the row's start.
+pub fn lay_row(row: &[u16; 48], by: usize, first: usize, points: &[f32], grid: &mut [f32])
+    requires { ⌜ (by < 48) × ((first + 48) * 2 ≤ length (now points)) × Within (now row) (length (now grid)) ⌝ }
+    ensures { λ _. ⌜ now (grid .exit) ≡ puts (turned (now (row .entry)) by) (λ m. pointAt (now (points .entry)) (first + m)) 48 (now (grid .entry)) ⌝ }
+{
+    lay_run(row, by, 48 - by, first, points, grid);
+    lay_run(row, 0, by, first + (48 - by), points, grid);
+}
+
+// The n points from `first` on taken off the places of a row from q on.
+fn take_run(row: &[u16; 48], q: usize, n: usize, first: usize, grid: &[f32], points: &mut [f32])
+    requires { ⌜ (q + n ≤ 48) × ((first + n) * 2 ≤ length (now points)) × Within (now row) (length (now grid)) ⌝ }
+    ensures { λ _. ⌜ now (points .exit) ≡ puts (λ m. first + m) (λ m. pointAt (now (grid .entry)) (entry (now (row .entry)) (q + m))) n (now (points .entry)) ⌝ }
+{
+    let mut m = 0;
+    while m < n {
+        let k = wide16(row[q + m]);
+        put_point(points, first + m, point_at(grid, k));
+        m += 1;
+    }
+}
+
+// The reverse: the 48 points from `first` on taken off those places.
+pub fn take_row(row: &[u16; 48], by: usize, first: usize, grid: &[f32], points: &mut [f32])
+    requires { ⌜ (by < 48) × ((first + 48) * 2 ≤ length (now points)) × Within (now row) (length (now grid)) ⌝ }
+    ensures { λ _. ⌜ now (points .exit) ≡ puts (λ m. first + m) (λ m. pointAt (now (grid .entry)) (turned (now (row .entry)) by m)) 48 (now (points .entry)) ⌝ }
+{
+    take_run(row, by, 48 - by, first, grid, points);
+    take_run(row, 0, by, first + (48 - by), grid, points);
+}
