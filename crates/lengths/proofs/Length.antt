@@ -1,11 +1,11 @@
 -- Cell 0 is a cell of every listed mode and size, so the first refusal tells whether the map has them.
-use mathlib.Core.Path.{_≡_, sym, _∙_}
+use mathlib.Core.Path.{_≡_, refl, sym, _∙_}
 use mathlib.Core.Bool.{true}
 use Prim.Native.Nat.{ℕ, _*_, _/_, _<_}
 use native.Mathlib.Nat.{mul-pos}
 use native.Mathlib.Omega.{arith}
 use lib.Dec.{eqb}
-use borrow.Author.Tests.{eqb-true, lt-ltb}
+use borrow.Author.Tests.{eqb-true, eqb-false, lt-ltb, ltb-true}
 use Rattle.base.specs.Answer.{accepted}
 use Rattle.base.proofs.Test.{cases}
 use Rattle.base.proofs.Chain.{ask-yes, number-yes}
@@ -15,6 +15,7 @@ use Rattle.map.specs.Question.{isMode, isFourSizes, isSize, isCell}
 use Rattle.map.specs.Model.{setupRefusal}
 use Rattle.map.specs.Valid.{Valid, setupWith}
 use Rattle.map.proofs.Accept.{passes}
+use Rattle.map.proofs.ByMode.{last-mode}
 use Rattle.lengths.specs.Length.{gridPoints, whereListed, pointsLength, gridLength}
 
 -- the four sizes are no small ones
@@ -29,16 +30,16 @@ wide size h =
     (λ e″. omega (arith, eqb-true size 1024 e″))
     (λ e″. omega (arith, eqb-true size 2048 (rw (e, e′, e″) at h)))))
 
-some-cell : (mode size : ℕ) → isSize (setupWith mode size 0) ≡ true → 0 < cells (setupWith mode size 0)
-unfolding isSize cells width
-some-cell mode size h =
+some-cell : (mode size : ℕ) → isMode (setupWith mode size 0) ≡ true → isSize (setupWith mode size 0) ≡ true → 0 < cells (setupWith mode size 0)
+unfolding isMode isSize cells width
+some-cell mode size g h =
     cases (eqb mode 0)
     (λ e. rw e (omega arith))
     (λ e. cases (eqb mode 1)
     (λ e′. rw (e, e′) (omega arith))
     (λ e′. cases (eqb mode 2)
     (λ e″. let n = wide size (rw (eqb-true mode 2 e″) at h) in rw (e, e′, e″) (mul-pos n n))
-    (λ e″. rw (e, e′, e″) (omega arith))))
+    (λ e″. let m = last-mode mode (ltb-true mode 4 g) (eqb-false mode 0 e) (eqb-false mode 1 e′) (eqb-false mode 2 e″) in rw m (omega arith))))
 
 -- so a length is told by the refusal's number
 module _ (mode size k : ℕ) (e : k ≡ setupRefusal (setupWith mode size 0)) (length : ℕ) where
@@ -50,7 +51,7 @@ module _ (mode size k : ℕ) (e : k ≡ setupRefusal (setupWith mode size 0)) (l
   unlisted ne =
       cases (isMode setup)
       (λ a. cases (isSize setup)
-      (λ b. absurd (ne (e ∙ rw (a, b, lt-ltb 0 (cells setup) (some-cell mode size b)))))
+      (λ b. absurd (ne (e ∙ rw (a, b, lt-ltb 0 (cells setup) (some-cell mode size a b)))))
       (λ b. rw (a, b)))
       (λ a. rw a)
 
@@ -60,10 +61,21 @@ module _ (mode size k : ℕ) (e : k ≡ setupRefusal (setupWith mode size 0)) (l
       let q₁ = number-yes (isMode setup) 0 _ (sym e ∙ z) in
       rw (q₁ .0, number-yes (isSize setup) 1 _ (q₁ .1) .0, q) h
 
+-- questions 1 and 2 do not ask for the cell
+same-mode : (setup : Setup) → isMode (setupWith (setup .mode) (setup .size) 0) ≡ isMode setup
+unfolding isMode
+same-mode setup = refl
+
+same-size : (setup : Setup) → isSize (setupWith (setup .mode) (setup .size) 0) ≡ isSize setup
+unfolding isSize
+same-size setup = refl
+
 -- the lengths of a valid setup, whatever its cell
 pub lengths-listed : {setup : Setup} → Valid setup → (96 * subchannels setup ≡ pointsLength (setup .mode) (setup .size)) × (2 * gridPoints setup ≡ gridLength (setup .mode) (setup .size))
-unfolding pointsLength gridLength subchannels gridPoints symbols width isMode isSize
+unfolding pointsLength gridLength subchannels gridPoints symbols width
 lengths-listed {setup} v =
     let q₁ = ask-yes (isMode setup) 1 _ (passes {A = Unit {0}} {rest = accepted tt} v) in
     let q₂ = ask-yes (isSize setup) 2 _ (q₁ .1) in
-    (rw (q₁ .0, q₂ .0), rw (q₁ .0, q₂ .0))
+    let e₁ = same-mode setup ∙ q₁ .0 in
+    let e₂ = same-size setup ∙ q₂ .0 in
+    (rw (e₁, e₂), rw (e₁, e₂))

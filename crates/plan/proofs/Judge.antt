@@ -84,7 +84,9 @@ cells-small setup h =
     (λ e₁. rw (n₀, e₁) (omega arith))
     (λ n₁. cases (eqb (setup .mode) 2)
     (λ e₂. rw (n₀, n₁, e₂) (omega (arith, square)))
-    (λ n₂. rw (n₀, n₁, n₂) (omega arith))))
+    (λ n₂. cases (eqb (setup .mode) 3)
+    (λ e₃. rw (n₀, n₁, n₂, e₃) (omega arith))
+    (λ n₃. rw (n₀, n₁, n₂, n₃) (omega arith)))))
   where
     square : setup .size / 64 * (setup .size / 64) ≤ 32 * 32
     square = mul-le-mul {n₂ = 32} {m₂ = 32} (omega arith) (omega arith)
