@@ -23,12 +23,12 @@ returns : tie.Need-returns
 unfolding usedGroup usedData logicalOf
 returns c =
     let l = c .before .before .renumber .ensures .0 in
-    let g = c .before .cluster-group .ensures .0 in
+    let g = c .before .group-in .ensures .0 in
     bounded _ _ _ _ _ (search needs) (search needs) (search needs) (rw (g, l)) (rw (c .cluster-data .ensures .0, g, l))
 
 pub used-data-spec : {M : Type 1} → statement M
 used-data-spec =
     tie.close
     (tie.spec
-    (λ c κs. search needs) (λ c κs. search needs) (λ c. search needs) (λ c. search needs) (λ c. rw (c .cluster-group .ensures .0) (cluster-runs .start-le _ (c .before .renumber .ensures .1))) (λ c. search needs)
+    (λ c κs. search needs) (λ c κs. search needs) (λ c. search needs) (λ c. search needs) (λ c. rw (c .group-in .ensures .0) (cluster-runs .start-le _ (c .before .renumber .ensures .1))) (λ c. search needs)
     cluster-data-requires (λ c. search needs) returns)
