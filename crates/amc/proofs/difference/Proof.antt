@@ -8,4 +8,7 @@ use Rattle.amc.proofs.difference.Tie as tie
 pub difference-spec : {M : Type 1} → statement M
 unfolding subtract
 difference-spec =
-    tie.close (tie.spec (λ c κs. search needs) (λ c. search needs) (λ c κs. search needs) (λ c. search needs) (λ c. (rw (c .before .unrotate .ensures .0, c .unrotate2 .ensures .0), omega arith)))
+    tie.close
+    (tie.spec
+    (λ c κs. search needs) (λ c. search needs) (λ c κs. search needs) (λ c. search needs)
+    (λ c. (rw (c .before .unrotate .ensures .0, c .unrotate2 .ensures .0), omega arith)))

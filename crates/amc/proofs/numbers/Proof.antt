@@ -27,5 +27,7 @@ unfolding sequenceNumber
 numbers-spec =
     tie.close
     (tie.spec
-    Inv-loop μ-loop (λ c. search needs) (λ c. search needs) (λ c. written-none 48 _) (λ c. search needs) (λ c. search needs) add-row
-    (λ c. search needs) (λ c. search needs) (λ c. search needs) (λ c. search needs) (λ c. written-next (c .before .before .loop .inv) (c .before .loop-test .taken) _ (rw (entry-is c))) (λ c. written-all (c .before .loop .inv) (c .loop-test .left)))
+    Inv-loop μ-loop (λ c. search needs) (λ c. search needs) (λ c. written-none 48 _) (λ c. search needs)
+    (λ c. search needs) add-row (λ c. search needs) (λ c. search needs) (λ c. search needs) (λ c. search needs)
+    (λ c. written-next (c .before .before .loop .inv) (c .before .loop-test .taken) _ (rw (entry-is c)))
+    (λ c. written-all (c .before .loop .inv) (c .loop-test .left)))

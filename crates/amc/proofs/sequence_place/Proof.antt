@@ -22,4 +22,7 @@ returns c =
 pub sequence-place-spec : {M : Type 1} → statement M
 sequence-place-spec =
     tie.close
-    (tie.spec (λ c. search needs) (λ c. search needs) (λ c. search needs) (λ c. rw (c .before .pre .0) (omega (arith, entry-digits (c .before .args .i) (c .before .pre .2) .high-lt))) sum-place-requires returns)
+    (tie.spec
+    (λ c. search needs) (λ c. search needs) (λ c. search needs)
+    (λ c. rw (c .before .pre .0) (omega (arith, entry-digits (c .before .args .i) (c .before .pre .2) .high-lt)))
+    sum-place-requires returns)

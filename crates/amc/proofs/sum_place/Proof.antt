@@ -26,5 +26,7 @@ unfolding sumPlace zeroRule add
 sum-place-spec =
     tie.close
     (tie.spec
-    (λ c κs. search needs) (λ c. search needs) (λ c κs. search needs) (λ c. search needs)
-    (λ c. search needs) (λ c. search needs) sub-result (λ c. search needs) (λ c. rw (eq-eqb _ 0 (rw (c .before .before .digit-sum .ensures .0, c .before .digit-sum2 .ensures .0) at (c .if1 .taken)))) returns-2)
+    (λ c κs. search needs) (λ c. search needs) (λ c κs. search needs) (λ c. search needs) (λ c. search needs)
+    (λ c. search needs) sub-result (λ c. search needs)
+    (λ c. rw (eq-eqb _ 0 (rw (c .before .before .digit-sum .ensures .0, c .before .digit-sum2 .ensures .0) at (c .if1 .taken))))
+    returns-2)

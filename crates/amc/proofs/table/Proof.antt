@@ -18,5 +18,7 @@ pub table-spec : {M : Type 1} → statement M
 table-spec =
     tie.close
     (tie.spec
-    Inv-loop μ-loop (λ c. written-none 188 _) (λ c κs. search needs) (λ c. search needs) (λ c. search needs) (λ c. search needs)
-    (λ c. search needs) (λ c. written-next (c .before .before .before .loop .inv) (omega arith) _ (c .sequence-place .ensures)) (λ c. written-starts (c .before .loop .inv) 48 (c .loop-test .left)))
+    Inv-loop μ-loop (λ c. written-none 188 _) (λ c κs. search needs) (λ c. search needs) (λ c. search needs)
+    (λ c. search needs) (λ c. search needs)
+    (λ c. written-next (c .before .before .before .loop .inv) (omega arith) _ (c .sequence-place .ensures))
+    (λ c. written-starts (c .before .loop .inv) 48 (c .loop-test .left)))

@@ -6,4 +6,8 @@ use Rattle.amc.proofs.traffic.Statement.{statement}
 use Rattle.amc.proofs.traffic.Tie as tie
 
 pub traffic-spec : {M : Type 1} → statement M
-traffic-spec = tie.close (tie.spec (λ c. search needs) (λ c κs. (refl, search needs, search needs)) (λ c κs. search needs) (λ c. c .wide16 .ensures .0 ∙ c .before .sequence-place .ensures ∙ traffic-at _ _))
+traffic-spec =
+    tie.close
+    (tie.spec
+    (λ c. search needs) (λ c κs. (refl, search needs, search needs)) (λ c κs. search needs)
+    (λ c. c .wide16 .ensures .0 ∙ c .before .sequence-place .ensures ∙ traffic-at _ _))

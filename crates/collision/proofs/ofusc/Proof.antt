@@ -31,6 +31,9 @@ pub ofusc-spec : {M : Type 1} → statement M
 ofusc-spec =
     tie.close
     (tie.spec
-    (λ c κs. search needs) (λ c κs. search needs) (λ c. c .refused .ensures ∙ ofusc-2 _ _ _ _ _ (sym (c .before .before .is-four-sizes .ensures) ∙ not-true _ (c .before .if1 .taken))) (λ c. omega (arith, wide _ (four c) .few)) (λ c κs. search needs) (λ c. c .refused2 .ensures ∙ ofusc-3a _ _ _ _ _ (four (c .before .before)) (c .before .if2 .taken)) (λ c. omega (arith, wide _ (four (c .before)) .few))
-    (λ c κs. search needs) returns-3 (λ c κs. search needs) returns-4 (λ c κs. search needs) returns-5
-    ofusc-hits-requires returns-6)
+    (λ c κs. search needs) (λ c κs. search needs)
+    (λ c. c .refused .ensures ∙ ofusc-2 _ _ _ _ _ (sym (c .before .before .is-four-sizes .ensures) ∙ not-true _ (c .before .if1 .taken)))
+    (λ c. omega (arith, wide _ (four c) .few)) (λ c κs. search needs)
+    (λ c. c .refused2 .ensures ∙ ofusc-3a _ _ _ _ _ (four (c .before .before)) (c .before .if2 .taken))
+    (λ c. omega (arith, wide _ (four (c .before)) .few)) (λ c κs. search needs) returns-3 (λ c κs. search needs)
+    returns-4 (λ c κs. search needs) returns-5 ofusc-hits-requires returns-6)

@@ -27,6 +27,9 @@ pub ofusc-hits-spec : {M : Type 1} → statement M
 ofusc-hits-spec =
     tie.close
     (tie.spec
-    Inv-loop μ-loop (λ c κs. search needs) (λ c κs. search needs) (λ c. omega (arith, size (c .before .before .pre .0), c .before .before .pre .1 .1 .0)) (λ c. omega (arith, size (c .before .before .pre .0), c .before .before .pre .1 .1 .1)) (λ c. start _) (λ c. search needs)
-    (λ c. search needs) (λ c. search needs) (λ c. search needs) (λ c. search needs) (λ c. tt) (λ c. search (fits, needs))
-    (λ c. search needs) (λ c. search needs) loop-again (λ c. answer _ _ _ _ (c .before .loop .inv) (c .loop-test .left)))
+    Inv-loop μ-loop (λ c κs. search needs) (λ c κs. search needs)
+    (λ c. omega (arith, size (c .before .before .pre .0), c .before .before .pre .1 .1 .0))
+    (λ c. omega (arith, size (c .before .before .pre .0), c .before .before .pre .1 .1 .1))
+    (λ c. start _) (λ c. search needs) (λ c. search needs) (λ c. search needs) (λ c. search needs) (λ c. search needs)
+    (λ c. tt) (λ c. search (fits, needs)) (λ c. search needs) (λ c. search needs) loop-again
+    (λ c. answer _ _ _ _ (c .before .loop .inv) (c .loop-test .left)))

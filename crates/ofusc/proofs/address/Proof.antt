@@ -21,4 +21,9 @@ returns c = rw (c .unrotate .ensures .0, c .before .before .mask .ensures, c .be
 
 pub address-spec : {M : Type 1} → statement M
 address-spec =
-    tie.close (tie.spec (λ c κs. c .pre .0) (λ c κs. (c .before .pre .0, (c .before .pre .1 .0, group-lt c))) (λ c. omega (arith, value-lt c, size (c .before .before .before .pre .0))) (λ c κs. omega (arith, group-lt (c .before .before))) returns)
+    tie.close
+    (tie.spec
+    (λ c κs. c .pre .0)
+    (λ c κs. (c .before .pre .0, (c .before .pre .1 .0, group-lt c)))
+    (λ c. omega (arith, value-lt c, size (c .before .before .before .pre .0)))
+    (λ c κs. omega (arith, group-lt (c .before .before))) returns)

@@ -22,4 +22,10 @@ add-result c =
     omega (arith, returns c, size (p .0), law (p .0) (a .cell) .number-lt (a .subchannel) (a .index) (p .1 .1) (p .1 .2))
 
 pub data-number-spec : {M : Type 1} → statement M
-data-number-spec = tie.close (tie.spec (λ c κs. omega (arith, size (c .pre .0))) (λ c. omega (arith, start-lt (c .before .pre .0) (c .group .result) (group-below c))) (λ c κs. (c .before .pre .0, (c .before .pre .1 .0, group-below c))) add-result returns)
+data-number-spec =
+    tie.close
+    (tie.spec
+    (λ c κs. omega (arith, size (c .pre .0)))
+    (λ c. omega (arith, start-lt (c .before .pre .0) (c .group .result) (group-below c)))
+    (λ c κs. (c .before .pre .0, (c .before .pre .1 .0, group-below c)))
+    add-result returns)

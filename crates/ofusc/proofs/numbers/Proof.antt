@@ -25,5 +25,6 @@ pub numbers-spec : {M : Type 1} → statement M
 numbers-spec =
     tie.close
     (tie.spec
-    Inv-loop μ-loop (λ c. omega (arith, size (c .pre .0))) (λ c. written-none 48 _) (λ c. search needs) (λ c. search needs) (λ c. search needs) (λ c. search needs)
-    (λ c. search needs) (λ c. search needs) loop-again (λ c. written-all (c .before .loop .inv) (c .loop-test .left)))
+    Inv-loop μ-loop (λ c. omega (arith, size (c .pre .0))) (λ c. written-none 48 _) (λ c. search needs)
+    (λ c. search needs) (λ c. search needs) (λ c. search needs) (λ c. search needs) (λ c. search needs) loop-again
+    (λ c. written-all (c .before .loop .inv) (c .loop-test .left)))

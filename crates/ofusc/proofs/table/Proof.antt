@@ -41,5 +41,8 @@ pub table-spec : {M : Type 1} → statement M
 table-spec =
     tie.close
     (tie.spec
-    Inv-loop μ-loop (λ c. pos (c .pre .0)) (λ c. pos (c .pre .0)) (λ c. written-none 188 _) (λ c κs. (c .before .before .before .pre .0, (mod-lt _ (pos (c .before .before .before .pre .0)), c .before .loop-test .taken))) term-requires-2 mul-table (λ c. omega (arith, cast-table c)) cast-table
-    (λ c. search needs) (λ c. search needs) (λ c. search needs) (λ c. search needs) loop-again (λ c. written-starts (c .before .loop .inv) 48 (c .loop-test .left)))
+    Inv-loop μ-loop (λ c. pos (c .pre .0)) (λ c. pos (c .pre .0)) (λ c. written-none 188 _)
+    (λ c κs. (c .before .before .before .pre .0, (mod-lt _ (pos (c .before .before .before .pre .0)), c .before .loop-test .taken)))
+    term-requires-2 mul-table (λ c. omega (arith, cast-table c)) cast-table (λ c. search needs) (λ c. search needs)
+    (λ c. search needs) (λ c. search needs) loop-again
+    (λ c. written-starts (c .before .loop .inv) 48 (c .loop-test .left)))

@@ -15,4 +15,7 @@ row-below c = rw (c .turn .ensures) (place-lt (c .before .before .pre .0) _)
 pub term-spec : {M : Type 1} → statement M
 term-spec =
     tie.close
-    (tie.spec (λ c. sym (term-zero _ _ _ _ (c .if1 .taken))) (λ c. omega (arith, size (c .before .pre .0))) (λ c κs. search needs) (λ c. omega (arith, row-below c)) (λ c. row-below c) (λ c κs. search needs) (λ c. rw (c .wide .ensures .0, c .before .before .turn .ensures) (sym (term-turn _ _ _ _ (c .before .before .before .if1 .left)))))
+    (tie.spec
+    (λ c. sym (term-zero _ _ _ _ (c .if1 .taken))) (λ c. omega (arith, size (c .before .pre .0)))
+    (λ c κs. search needs) (λ c. omega (arith, row-below c)) (λ c. row-below c) (λ c κs. search needs)
+    (λ c. rw (c .wide .ensures .0, c .before .before .turn .ensures) (sym (term-turn _ _ _ _ (c .before .before .before .if1 .left)))))

@@ -29,4 +29,6 @@ group-data-spec =
     tie.close
     (tie.spec
     (λ c κs. search needs) (λ c. search needs) (λ c κs. search needs) (λ c. search needs) (λ c κs. search needs)
-    (λ c κs. search needs) (λ c. omega (arith, digits-lt (c .before .before .rotate .ensures .1) (c .before .before .before .group-size .ensures .1))) (λ c. search needs) (λ c κs. search needs) add-result returns)
+    (λ c κs. search needs)
+    (λ c. omega (arith, digits-lt (c .before .before .rotate .ensures .1) (c .before .before .before .group-size .ensures .1)))
+    (λ c. search needs) (λ c κs. search needs) add-result returns)

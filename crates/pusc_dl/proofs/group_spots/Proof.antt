@@ -48,7 +48,10 @@ group-spots-spec =
     tie.close
     (tie.spec
     Inv-loop μ-loop (λ c. search needs) (λ c. search needs) (λ c κs. search needs) (λ c κs. search needs)
-    (λ c. search needs) (λ c. search needs) (λ c. halves-none 24 _) (λ c. search needs) (λ c κs. search needs) (λ c. omega (arith, digits-lt (c .mod-24 .ensures .1) (c .before .before .before .before .group-size .ensures .1)))
-    (λ c. search needs) (λ c. search needs) (λ c. rw (c .before .before .before .base-start .ensures .0) (in-base (turn-at c))) (λ c κs. search needs) add-spot-numbers
-    spot-numbers-requires (λ c. search needs) (λ c. search needs) (λ c. search needs) (λ c. search needs)
-    (λ c. search needs) (λ c. search needs) (λ c. search needs) loop-again (λ c. halves-all (c .before .loop .inv) (c .loop-test .left)))
+    (λ c. search needs) (λ c. search needs) (λ c. halves-none 24 _) (λ c. search needs) (λ c κs. search needs)
+    (λ c. omega (arith, digits-lt (c .mod-24 .ensures .1) (c .before .before .before .before .group-size .ensures .1)))
+    (λ c. search needs) (λ c. search needs)
+    (λ c. rw (c .before .before .before .base-start .ensures .0) (in-base (turn-at c)))
+    (λ c κs. search needs) add-spot-numbers spot-numbers-requires (λ c. search needs) (λ c. search needs)
+    (λ c. search needs) (λ c. search needs) (λ c. search needs) (λ c. search needs) (λ c. search needs) loop-again
+    (λ c. halves-all (c .before .loop .inv) (c .loop-test .left)))

@@ -13,5 +13,8 @@ unfolding groupUsed
 group-used-spec =
     tie.close
     (tie.spec
-    (λ c. search needs) (λ c. search needs) (λ c. omega (arith, cluster-runs .number-lt (c .args .g) (c .args .d / 12) (c .pre .1) (omega arith))) (λ c κs. (refl, search needs, cluster-runs .number-lt _ _ (c .before .pre .1) (omega arith))) (λ c. search needs) (λ c κs. search needs)
-    (λ c. search needs) (λ c. rw (c .cluster-place .ensures .0, c .before .before .unrenumber .ensures .0)))
+    (λ c. search needs) (λ c. search needs)
+    (λ c. omega (arith, cluster-runs .number-lt (c .args .g) (c .args .d / 12) (c .pre .1) (omega arith)))
+    (λ c κs. (refl, search needs, cluster-runs .number-lt _ _ (c .before .pre .1) (omega arith)))
+    (λ c. search needs) (λ c κs. search needs) (λ c. search needs)
+    (λ c. rw (c .cluster-place .ensures .0, c .before .before .unrenumber .ensures .0)))

@@ -12,5 +12,8 @@ unfolding ofSize
 of-size-spec =
     tie.close
     (tie.spec
-    (λ c κs. search needs) (λ c. search needs) (λ c κs. search needs) (λ c. omega (arith, size-8 (c .before .before .args .g) _ (c .before .group-size .ensures .0) (c .if1 .left))) (λ c κs. search needs)
-    (λ c. rw (sym (c .before .before .group-size .ensures .0) ∙ c .before .if1 .taken) (search needs)) (λ c. rw (size-8 _ _ (c .before .before .group-size .ensures .0) (c .before .if1 .left)) (search needs)))
+    (λ c κs. search needs) (λ c. search needs) (λ c κs. search needs)
+    (λ c. omega (arith, size-8 (c .before .before .args .g) _ (c .before .group-size .ensures .0) (c .if1 .left)))
+    (λ c κs. search needs)
+    (λ c. rw (sym (c .before .before .group-size .ensures .0) ∙ c .before .if1 .taken) (search needs))
+    (λ c. rw (size-8 _ _ (c .before .before .group-size .ensures .0) (c .before .if1 .left)) (search needs)))

@@ -14,5 +14,7 @@ unfolding spotOf
 spot-spec =
     tie.close
     (tie.spec
-    (λ c κs. search needs) (λ c. search needs) (λ c. search needs) (λ c. rw (c .group-in .ensures .0) (subchannel-runs .start-le _ (c .before .pre .1))) group-data-requires (λ c κs. search needs)
+    (λ c κs. search needs) (λ c. search needs) (λ c. search needs)
+    (λ c. rw (c .group-in .ensures .0) (subchannel-runs .start-le _ (c .before .pre .1)))
+    group-data-requires (λ c κs. search needs)
     (λ c. rw (c .group-used .ensures, c .before .group-data .ensures .0, c .before .before .group-in .ensures .0)))

@@ -15,4 +15,7 @@ unfolding spotOf groupSpot
 spots-spec =
     tie.close
     (tie.spec
-    (λ c κs. search needs) (λ c. search needs) (λ c. search needs) (λ c. rw (c .group-in .ensures .0) (subchannel-runs .start-le _ (c .before .pre .1))) group-spots-requires (λ c. rw (c .group-spots .ensures, c .before .group-in .ensures .0)))
+    (λ c κs. search needs) (λ c. search needs) (λ c. search needs)
+    (λ c. rw (c .group-in .ensures .0) (subchannel-runs .start-le _ (c .before .pre .1)))
+    group-spots-requires
+    (λ c. rw (c .group-spots .ensures, c .before .group-in .ensures .0)))

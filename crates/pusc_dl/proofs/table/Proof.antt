@@ -17,5 +17,7 @@ pub table-spec : {M : Type 1} → statement M
 table-spec =
     tie.close
     (tie.spec
-    Inv-loop μ-loop (λ c. written-none 188 _) (λ c κs. search needs) (λ c. search needs) (λ c. search needs) (λ c. search needs)
-    (λ c. search needs) (λ c. written-next (c .before .before .before .before .before .loop .inv) (search needs) _ (c .table-entry .ensures)) (λ c. λ k h. c .before .loop .inv .entries k (omega arith)))
+    Inv-loop μ-loop (λ c. written-none 188 _) (λ c κs. search needs) (λ c. search needs) (λ c. search needs)
+    (λ c. search needs) (λ c. search needs)
+    (λ c. written-next (c .before .before .before .before .before .loop .inv) (search needs) _ (c .table-entry .ensures))
+    (λ c. λ k h. c .before .loop .inv .entries k (omega arith)))

@@ -27,5 +27,8 @@ pub used-data-spec : {M : Type 1} → statement M
 used-data-spec =
     tie.close
     (tie.spec
-    (λ c κs. search needs) (λ c κs. search needs) (λ c. search needs) (λ c. search needs) (λ c. rw (c .group-in .ensures .0) (cluster-runs .start-le _ (c .before .renumber .ensures .1))) (λ c. search needs)
-    (λ c κs. (search needs, search needs, rw pilot-place at (c .before .before .pre .3))) (λ c. search needs) returns)
+    (λ c κs. search needs) (λ c κs. search needs) (λ c. search needs) (λ c. search needs)
+    (λ c. rw (c .group-in .ensures .0) (cluster-runs .start-le _ (c .before .renumber .ensures .1)))
+    (λ c. search needs)
+    (λ c κs. (search needs, search needs, rw pilot-place at (c .before .before .pre .3)))
+    (λ c. search needs) returns)

@@ -33,7 +33,9 @@ pub carrier-row-spec : {M : Type 1} → statement M
 carrier-row-spec =
     tie.close
     (tie.spec
-    Inv-loop μ-loop (λ c. tiles-none _) (λ c κs. (search needs, search needs, c .loop-test .taken, c .before .before .pre .2)) (λ c. search needs) (λ c κs. search needs) (λ c. search needs)
-    (λ c. search needs) (λ c. search needs) (λ c κs. search needs) (λ c. search needs) (λ c. search needs)
-    (λ c. search needs) (λ c κs. search needs) (λ c. search needs) (λ c. search needs) (λ c κs. search needs)
-    (λ c. search needs) (λ c. search needs) loop-again (λ c. tiles-all (c .before .loop .inv) (c .loop-test .left)))
+    Inv-loop μ-loop (λ c. tiles-none _)
+    (λ c κs. (search needs, search needs, c .loop-test .taken, c .before .before .pre .2))
+    (λ c. search needs) (λ c κs. search needs) (λ c. search needs) (λ c. search needs) (λ c. search needs)
+    (λ c κs. search needs) (λ c. search needs) (λ c. search needs) (λ c. search needs) (λ c κs. search needs)
+    (λ c. search needs) (λ c. search needs) (λ c κs. search needs) (λ c. search needs) (λ c. search needs) loop-again
+    (λ c. tiles-all (c .before .loop .inv) (c .loop-test .left)))

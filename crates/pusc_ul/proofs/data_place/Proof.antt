@@ -31,5 +31,10 @@ unfolding dataPlace
 data-place-spec =
     tie.close
     (tie.spec
-    (λ c. search needs) (λ c. inner _ _ (λ e. omega arith) (search needs) (c .before .pre .3) .0) (λ c. search needs) (λ c. search needs) (λ c. search needs) (λ c. search needs)
-    (λ c. search needs) (λ c. inner _ _ (c .if2 .left) (search needs) (c .before .before .pre .3) .0) (λ c. search needs) (λ c. search needs) (λ c. simp (eq-eqb _ _ (c .if1 .taken)) (search needs)) (λ c. simp (ne-eqb _ _ (c .before .if1 .left), eq-eqb _ _ (c .if2 .taken)) (search needs)) returns-3)
+    (λ c. search needs)
+    (λ c. inner _ _ (λ e. omega arith) (search needs) (c .before .pre .3) .0)
+    (λ c. search needs) (λ c. search needs) (λ c. search needs) (λ c. search needs) (λ c. search needs)
+    (λ c. inner _ _ (c .if2 .left) (search needs) (c .before .before .pre .3) .0)
+    (λ c. search needs) (λ c. search needs) (λ c. simp (eq-eqb _ _ (c .if1 .taken)) (search needs))
+    (λ c. simp (ne-eqb _ _ (c .before .if1 .left), eq-eqb _ _ (c .if2 .taken)) (search needs))
+    returns-3)

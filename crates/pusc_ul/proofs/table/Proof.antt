@@ -18,6 +18,8 @@ unfolding tableEntry
 table-spec =
     tie.close
     (tie.spec
-    Inv-loop μ-loop (λ c. written-none 188 _) (λ c. search needs) (λ c κs. search needs) (λ c. search needs) (λ c. search needs)
-    (λ c. search needs) (λ c. search needs) (λ c. search needs) (λ c. search needs) (λ c. search needs) (λ c. written-next (c .before .before .loop .inv) (omega arith) _ (rw (c .wide .ensures .0)))
+    Inv-loop μ-loop (λ c. written-none 188 _) (λ c. search needs) (λ c κs. search needs) (λ c. search needs)
+    (λ c. search needs) (λ c. search needs) (λ c. search needs) (λ c. search needs) (λ c. search needs)
+    (λ c. search needs)
+    (λ c. written-next (c .before .before .loop .inv) (omega arith) _ (rw (c .wide .ensures .0)))
     (λ c. λ k h. c .before .loop .inv .entries k (omega arith)))

@@ -28,4 +28,6 @@ tile-start-spec =
     tie.close
     (tie.spec
     (λ c. search needs) (λ c. search needs) (λ c. search needs) (λ c κs. search needs) (λ c. search needs)
-    (λ c κs. rw (c .pusc-band .ensures) (omega arith)) (λ c. rw (c .carrier .ensures, c .before .pusc-band .ensures) (omega (arith, start-lt _ (c .before .before .before .pre .2)))) add-result-2 returns)
+    (λ c κs. rw (c .pusc-band .ensures) (omega arith))
+    (λ c. rw (c .carrier .ensures, c .before .pusc-band .ensures) (omega (arith, start-lt _ (c .before .before .before .pre .2))))
+    add-result-2 returns)
