@@ -41,7 +41,7 @@ unfolding setFrom tabulate amcOf answerOf amcHit question.isCell mode.cells amc.
 adjacent = refl
 
 pub known : Known
-unfolding tabulate skip placeOf placeAt mode.width mode.cells mode.subchannels mode.symbols mode.band mode.spotOf question.isMode question.isFourSizes question.isSize question.isCell question.isSlot question.isSubchannel question.isIndex band.carrierOf bin.binPilotPlace bin.usedOfData dl.groupUsed dl.spotOf group.reached group.groupIn group.groupSize group.ofSize group.baseOf group.groupData cluster.unrenumber cluster.firstPilot cluster.secondPilot cluster.clusterPlace ul.spotOf tile.tileOf tile.placeSymbol tile.placeTile tile.placeCarrier ofusc.groupOf ofusc.term ofusc.mask ofusc.dataNumber field.modulus field.coefficient field.product field.remainder field.times field.power field.p1 field.p2
+unfolding tabulate skip placeOf placeAt mode.width mode.cells mode.subchannels mode.symbols mode.band mode.spotOf question.isMode question.isFourSizes question.isSize question.isCell question.isSlot question.isSubchannel question.isIndex band.carrierOf bin.binPilotPlace bin.usedOfData dl.groupUsed dl.spotOf group.groupIn group.groupSize group.ofSize group.baseOf group.groupData cluster.unrenumber cluster.firstPilot cluster.secondPilot cluster.clusterPlace ul.spotOf tile.tileOf tile.placeSymbol tile.placeTile tile.placeCarrier ofusc.groupOf ofusc.term ofusc.mask ofusc.dataNumber field.modulus field.coefficient field.product field.remainder field.times field.power field.p1 field.p2
 known =
     record {
       line-1 = (refl, refl);

@@ -11,7 +11,7 @@ use Rattle.base.specs.Steps.{rotate, unrotate, entry}
 use Rattle.base.proofs.Perm.{Perm, rotation, compose}
 use Rattle.base.proofs.Table.{all, all-at}
 use Rattle.base.proofs.Test.{cases}
-use Rattle.pusc_dl.specs.Group.{clusterStarts, subchannelStarts, reached, groupIn, groupSize, ofSize, baseOf, baseInverse, groupData, groupSubchannel, groupIndex}
+use Rattle.pusc_dl.specs.Group.{clusterStarts, subchannelStarts, groupIn, groupSize, ofSize, baseOf, baseInverse, groupData, groupSubchannel, groupIndex}
 use Rattle.pusc_dl.proofs.Tables.{b12-perm, b8-perm}
 
 pub size-pos : (g : ℕ) → 0 < groupSize g
@@ -126,18 +126,9 @@ module _ (starts : List ℕ) (w total : ℕ) where
       at f test g r hg hr = all-at (f g) (run g) (all-at (every-run f) 6 test g hg) r hr
 
 pub subchannel-runs : Runs subchannelStarts 1 60
-unfolding reached groupIn groupSize
+unfolding groupIn groupSize
 subchannel-runs = runs subchannelStarts 1 60 tt tt tt tt tt
 
 pub cluster-runs : Runs clusterStarts 2 120
-unfolding reached groupIn groupSize
+unfolding groupIn groupSize
 cluster-runs = runs clusterStarts 2 120 tt tt tt tt tt
-
--- two groups to so many numbers
-pub subchannel-pairs : (x : ℕ) → x < 60 → x / 20 * 2 + reached 12 (x % 20) ≡ groupIn subchannelStarts x
-unfolding reached groupIn
-subchannel-pairs x h = eqb→eq _ _ (all-at (λ x. eqb (x / 20 * 2 + reached 12 (x % 20)) (groupIn subchannelStarts x)) 60 tt x h)
-
-pub cluster-pairs : (x : ℕ) → x < 120 → x / 40 * 2 + reached 24 (x % 40) ≡ groupIn clusterStarts x
-unfolding reached groupIn
-cluster-pairs x h = eqb→eq _ _ (all-at (λ x. eqb (x / 40 * 2 + reached 24 (x % 40)) (groupIn clusterStarts x)) 120 tt x h)

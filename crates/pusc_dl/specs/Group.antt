@@ -12,14 +12,14 @@ clusterStarts = 0 ∷ 24 ∷ 40 ∷ 64 ∷ 80 ∷ 104 ∷ []
 abbrev pub subchannelStarts : List ℕ
 subchannelStarts = 0 ∷ 12 ∷ 20 ∷ 32 ∷ 40 ∷ 52 ∷ []
 
--- 1 where x is at or after a start, otherwise 0
-unfoldable pub reached : (start x : ℕ) → ℕ
-reached start x = pick (ltb x start) 0 1
-
--- the group whose run of numbers holds x, for six runs that start at the numbers of a list: how many later starts x has reached
+-- the group whose run of numbers holds x, for six runs that start at the numbers of a list
 unfoldable pub groupIn : (starts : List ℕ) (x : ℕ) → ℕ
 groupIn starts x =
-    reached (entry starts 1) x + reached (entry starts 2) x + reached (entry starts 3) x + reached (entry starts 4) x + reached (entry starts 5) x
+    pick (ltb x (entry starts 1)) 0
+    (pick (ltb x (entry starts 2)) 1
+    (pick (ltb x (entry starts 3)) 2
+    (pick (ltb x (entry starts 4)) 3
+    (pick (ltb x (entry starts 5)) 4 5))))
 
 -- M, the number of subchannels of group g
 unfoldable pub groupSize : (g : ℕ) → ℕ

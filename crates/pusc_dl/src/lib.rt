@@ -17,7 +17,7 @@ ghost use Rattle.carriers.specs.Model.{spotNumber};
 ghost use Rattle.pusc_dl.specs.Table.{renumberingInverse, base12, base8};
 ghost use Rattle.pusc_dl.specs.Cluster as cluster;
 ghost use Rattle.pusc_dl.specs.Cluster.{firstPilot, secondPilot, isClusterPilot, clusterPlace, clusterData};
-ghost use Rattle.pusc_dl.specs.Group.{clusterStarts, subchannelStarts, reached as Reached, groupIn, groupSize, ofSize, groupData, groupSubchannel, groupIndex};
+ghost use Rattle.pusc_dl.specs.Group.{groupIn, groupSize, ofSize, groupData, groupSubchannel, groupIndex};
 ghost use Rattle.pusc_dl.specs.Map.{groupUsed, usedGroup, usedData, spotOf, addressOf};
 ghost use Rattle.pusc_dl.specs.Model.{tableEntry, baseStart, groupSpot};
 
@@ -357,27 +357,26 @@ fn cluster_data(symbol: usize, place: usize) -> usize
     unskip(p.first, unskip(p.second, place))
 }
 
-// 1 where x is at or after a start, otherwise 0.
-fn reached(start: usize, x: usize) -> usize
-    ensures { λ r. ⌜ (r ≡ Reached start x) × (r ≤ 1) ⌝ }
+// The group whose run of numbers holds x.
+fn group_in(starts: [usize; 6], x: usize) -> usize
+    ensures { λ g. ⌜ (g ≡ groupIn starts x) × (g < 6) ⌝ }
 {
-    if x < start { 0 } else { 1 }
-}
-
-// The group of a subchannel: two groups to 20 subchannels, the first of 12.
-fn subchannel_group(x: usize) -> usize
-    requires { ⌜ x < 60 ⌝ }
-    ensures { λ g. ⌜ (g ≡ groupIn subchannelStarts x) × (g < 6) ⌝ }
-{
-    x / 20 * 2 + reached(12, x % 20)
-}
-
-// The group of a logical cluster: two groups to 40 clusters, the first of 24.
-fn cluster_group(x: usize) -> usize
-    requires { ⌜ x < 120 ⌝ }
-    ensures { λ g. ⌜ (g ≡ groupIn clusterStarts x) × (g < 6) ⌝ }
-{
-    x / 40 * 2 + reached(24, x % 40)
+    if x < starts[1] {
+        return 0;
+    }
+    if x < starts[2] {
+        return 1;
+    }
+    if x < starts[3] {
+        return 2;
+    }
+    if x < starts[4] {
+        return 3;
+    }
+    if x < starts[5] {
+        return 4;
+    }
+    5
 }
 
 // The number of subchannels of a group.
@@ -463,7 +462,7 @@ pub fn spot(cell: usize, subchannel: usize, index: usize) -> Spot
     requires { ⌜ (cell < 32) × (subchannel < 60) × (index < 48) ⌝ }
     ensures { λ r. ⌜ r ≡ spotOf cell subchannel index ⌝ }
 {
-    let g = subchannel_group(subchannel);
+    let g = group_in(SUBCHANNEL_STARTS, subchannel);
     let s = subchannel - SUBCHANNEL_STARTS[g];
     let d = group_data(g, cell, s, index % 24);
     let offset = index / 24;
@@ -487,7 +486,7 @@ fn used_data(cell: usize, symbol: usize, used: usize) -> Datum
 {
     let logical = renumber(cell, Physical(used / 14));
     let l = logical.0;
-    let g = cluster_group(l);
+    let g = group_in(CLUSTER_STARTS, l);
     Datum {
         group: g,
         number: (l - CLUSTER_STARTS[g]) * 12 + cluster_data(symbol, used % 14),
@@ -606,6 +605,6 @@ pub fn spots(cell: usize, subchannel: usize, table: &[u16; 188]) -> [u16; 48]
     requires { ⌜ (cell < 32) × (subchannel < 60) × Starts 188 (tableEntry cell) (now table) ⌝ }
     ensures { λ r. ⌜ r ≡ tabulate 48 (λ index. spotNumber (spotOf cell subchannel index)) ⌝ }
 {
-    let g = subchannel_group(subchannel);
+    let g = group_in(SUBCHANNEL_STARTS, subchannel);
     group_spots(cell, g, subchannel - SUBCHANNEL_STARTS[g], table)
 }

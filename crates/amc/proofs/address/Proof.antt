@@ -4,9 +4,6 @@ use borrow.Author.Needs.{needs}
 use Rattle.amc.proofs.address.Statement.{statement}
 use Rattle.amc.proofs.address.Tie as tie
 
-returns : tie.Need-returns
-unfolding addressOf
-returns c = rw (c .index .ensures)
-
 pub address-spec : {M : Type 1} → statement M
-address-spec = tie.close (tie.spec (λ c. search needs) (λ c. search needs) (λ c κs. search needs) returns)
+unfolding addressOf
+address-spec = tie.close (tie.spec (λ c. search needs) (λ c. search needs) (λ c κs. search needs) (λ c. rw (c .index .ensures)))

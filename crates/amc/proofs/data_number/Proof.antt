@@ -6,16 +6,12 @@ use borrow.Author.Needs.{needs}
 use Rattle.amc.proofs.data_number.Statement.{statement}
 use Rattle.amc.proofs.data_number.Tie as tie
 
-mul-result-2 : tie.Need-mul-result-2
-mul-result-2 c = omega (arith, traffic-lt (c .before .args .cell) (c .before .pre .0) (c .before .args .index))
-
-add-result-2 : tie.Need-add-result-2
-add-result-2 c = omega (arith, traffic-lt (c .before .args .cell) (c .before .pre .0) (c .before .args .index))
-
-returns : tie.Need-returns
-unfolding dataNumber
-returns c = rw (c .traffic .ensures)
-
 pub data-number-spec : {M : Type 1} → statement M
+unfolding dataNumber
 data-number-spec =
-    tie.close (tie.spec (λ c κs. search needs) (λ c. search needs) (λ c. search needs) mul-result-2 add-result-2 returns)
+    tie.close
+    (tie.spec
+    (λ c κs. search needs) (λ c. search needs) (λ c. search needs)
+    (λ c. omega (arith, traffic-lt (c .before .args .cell) (c .before .pre .0) (c .before .args .index)))
+    (λ c. omega (arith, traffic-lt (c .before .args .cell) (c .before .pre .0) (c .before .args .index)))
+    (λ c. rw (c .traffic .ensures)))

@@ -5,10 +5,10 @@ use Rattle.amc.specs.Element.{subtract}
 use Rattle.amc.proofs.difference.Statement.{statement}
 use Rattle.amc.proofs.difference.Tie as tie
 
-returns : tie.Need-returns
-unfolding subtract
-returns c = (rw (c .before .unrotate .ensures .0, c .unrotate2 .ensures .0), omega arith)
-
 pub difference-spec : {M : Type 1} → statement M
+unfolding subtract
 difference-spec =
-    tie.close (tie.spec (λ c κs. search needs) (λ c. search needs) (λ c κs. search needs) (λ c. search needs) returns)
+    tie.close
+    (tie.spec
+    (λ c κs. search needs) (λ c. search needs) (λ c κs. search needs) (λ c. search needs)
+    (λ c. (rw (c .before .unrotate .ensures .0, c .unrotate2 .ensures .0), omega arith)))

@@ -8,11 +8,10 @@ use Rattle.amc.proofs.ZeroRule.{sum-off, sum-other}
 use Rattle.amc.proofs.entry_of.Statement.{statement}
 use Rattle.amc.proofs.entry_of.Tie as tie
 
-returns : tie.Need-returns
-returns c = rw (sum-off _ _ (ap (λ (x : ℕ). baseSeven (digits x)) (c .before .if1 .taken))) (c .difference .ensures)
-
-returns-2 : tie.Need-returns-2
-returns-2 c = rw (sum-other _ _ (λ e. c .before .if1 .left (sym (number-digits _) ∙ e ∙ number-digits _))) (c .difference2 .ensures)
-
 pub entry-of-spec : {M : Type 1} → statement M
-entry-of-spec = tie.close (tie.spec (λ c κs. search needs) (λ c κs. search needs) returns returns-2)
+entry-of-spec =
+    tie.close
+    (tie.spec
+    (λ c κs. search needs) (λ c κs. search needs)
+    (λ c. rw (sum-off _ _ (ap (λ (x : ℕ). baseSeven (digits x)) (c .before .if1 .taken))) (c .difference .ensures))
+    (λ c. rw (sum-other _ _ (λ e. c .before .if1 .left (sym (number-digits _) ∙ e ∙ number-digits _))) (c .difference2 .ensures)))

@@ -16,25 +16,18 @@ Inv-loop cell subchannel table first row₀ i₀ row i = Written 48 (sequenceNum
 abbrev μ-loop : tie.MeasureT-loop
 μ-loop cell subchannel table first row₀ i₀ row i = 48 - i
 
-loop-holds : tie.Need-loop-holds Inv-loop μ-loop
-loop-holds c = written-none 48 _
-
 entry-is : (c : tie.After-row Inv-loop μ-loop) → entry (c .before .before .before .args .table .now) (c .before .before .loop .i) ≡ sequencePlace (c .before .before .before .args .cell) (c .before .before .loop .i)
 entry-is c = c .before .before .before .pre .1 _ (c .before .loop-test .taken)
 
 add-row : tie.Need-add-row Inv-loop μ-loop
 add-row c = rw (entry-is c) (omega (arith, sequence-place-lt _ (c .before .before .loop .i) (c .before .before .before .pre .0 .0) (c .before .loop-test .taken)))
 
-loop-again : tie.Need-loop-again Inv-loop μ-loop
-unfolding sequenceNumber
-loop-again c = written-next (c .before .before .loop .inv) (c .before .loop-test .taken) _ (rw (entry-is c))
-
-returns : tie.Need-returns Inv-loop μ-loop
-returns c = written-all (c .before .loop .inv) (c .loop-test .left)
-
 pub numbers-spec : {M : Type 1} → statement M
+unfolding sequenceNumber
 numbers-spec =
     tie.close
     (tie.spec
-    Inv-loop μ-loop (λ c. search needs) (λ c. search needs) loop-holds (λ c. search needs) (λ c. search needs) add-row
-    (λ c. search needs) (λ c. search needs) (λ c. search needs) (λ c. search needs) loop-again returns)
+    Inv-loop μ-loop (λ c. search needs) (λ c. search needs) (λ c. written-none 48 _) (λ c. search needs)
+    (λ c. search needs) add-row (λ c. search needs) (λ c. search needs) (λ c. search needs) (λ c. search needs)
+    (λ c. written-next (c .before .before .loop .inv) (c .before .loop-test .taken) _ (rw (entry-is c)))
+    (λ c. written-all (c .before .loop .inv) (c .loop-test .left)))

@@ -9,9 +9,6 @@ use Rattle.amc.proofs.Row.{entry-digits}
 use Rattle.amc.proofs.sequence_place.Statement.{statement}
 use Rattle.amc.proofs.sequence_place.Tie as tie
 
-cast-sum-place-3 : tie.Need-cast-sum-place-3
-cast-sum-place-3 c = rw (c .before .pre .0) (omega (arith, entry-digits (c .before .args .i) (c .before .pre .2) .high-lt))
-
 sum-place-requires : tie.Need-sum-place-requires
 sum-place-requires c κs =
     let d = entry-digits _ (c .before .pre .2) in
@@ -25,4 +22,7 @@ returns c =
 pub sequence-place-spec : {M : Type 1} → statement M
 sequence-place-spec =
     tie.close
-    (tie.spec (λ c. search needs) (λ c. search needs) (λ c. search needs) cast-sum-place-3 sum-place-requires returns)
+    (tie.spec
+    (λ c. search needs) (λ c. search needs) (λ c. search needs)
+    (λ c. rw (c .before .pre .0) (omega (arith, entry-digits (c .before .args .i) (c .before .pre .2) .high-lt)))
+    sum-place-requires returns)

@@ -14,10 +14,6 @@ sub-result c =
     offset-above _ _ _ (p .0) (p .1) (p .2) (p .3) (p .4)
     (rw (c .before .before .digit-sum .ensures .0, c .before .digit-sum2 .ensures .0) at (c .if1 .taken))
 
-returns : tie.Need-returns
-unfolding sumPlace zeroRule add
-returns c = rw (eq-eqb _ 0 (rw (c .before .before .digit-sum .ensures .0, c .before .digit-sum2 .ensures .0) at (c .if1 .taken)))
-
 returns-2 : tie.Need-returns-2
 unfolding sumPlace zeroRule add
 returns-2 c =
@@ -26,8 +22,11 @@ returns-2 c =
     rw (high, low, ne-eqb _ 0 (rw (high, low) at (c .if1 .left)))
 
 pub sum-place-spec : {M : Type 1} → statement M
+unfolding sumPlace zeroRule add
 sum-place-spec =
     tie.close
     (tie.spec
-    (λ c κs. search needs) (λ c. search needs) (λ c κs. search needs) (λ c. search needs)
-    (λ c. search needs) (λ c. search needs) sub-result (λ c. search needs) returns returns-2)
+    (λ c κs. search needs) (λ c. search needs) (λ c κs. search needs) (λ c. search needs) (λ c. search needs)
+    (λ c. search needs) sub-result (λ c. search needs)
+    (λ c. rw (eq-eqb _ 0 (rw (c .before .before .digit-sum .ensures .0, c .before .digit-sum2 .ensures .0) at (c .if1 .taken))))
+    returns-2)

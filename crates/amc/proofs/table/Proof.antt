@@ -14,18 +14,11 @@ Inv-loop cell p table₀ i₀ table i = Written 188 (sequencePlace cell) table i
 abbrev μ-loop : tie.MeasureT-loop
 μ-loop cell p table₀ i₀ table i = 48 - i
 
-loop-holds : tie.Need-loop-holds Inv-loop μ-loop
-loop-holds c = written-none 188 _
-
-loop-again : tie.Need-loop-again Inv-loop μ-loop
-loop-again c = written-next (c .before .before .before .loop .inv) (omega arith) _ (c .sequence-place .ensures)
-
-returns : tie.Need-returns Inv-loop μ-loop
-returns c = written-starts (c .before .loop .inv) 48 (c .loop-test .left)
-
 pub table-spec : {M : Type 1} → statement M
 table-spec =
     tie.close
     (tie.spec
-    Inv-loop μ-loop loop-holds (λ c κs. search needs) (λ c. search needs) (λ c. search needs) (λ c. search needs)
-    (λ c. search needs) loop-again returns)
+    Inv-loop μ-loop (λ c. written-none 188 _) (λ c κs. search needs) (λ c. search needs) (λ c. search needs)
+    (λ c. search needs) (λ c. search needs)
+    (λ c. written-next (c .before .before .before .loop .inv) (omega arith) _ (c .sequence-place .ensures))
+    (λ c. written-starts (c .before .loop .inv) 48 (c .loop-test .left)))

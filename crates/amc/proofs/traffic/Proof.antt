@@ -5,11 +5,9 @@ use Rattle.amc.proofs.Row.{traffic-at}
 use Rattle.amc.proofs.traffic.Statement.{statement}
 use Rattle.amc.proofs.traffic.Tie as tie
 
-sequence-place-requires : tie.Need-sequence-place-requires
-sequence-place-requires c κs = (refl, search needs, search needs)
-
-returns : tie.Need-returns
-returns c = c .wide16 .ensures .0 ∙ c .before .sequence-place .ensures ∙ traffic-at _ _
-
 pub traffic-spec : {M : Type 1} → statement M
-traffic-spec = tie.close (tie.spec (λ c. search needs) sequence-place-requires (λ c κs. search needs) returns)
+traffic-spec =
+    tie.close
+    (tie.spec
+    (λ c. search needs) (λ c κs. (refl, search needs, search needs)) (λ c κs. search needs)
+    (λ c. c .wide16 .ensures .0 ∙ c .before .sequence-place .ensures ∙ traffic-at _ _))

@@ -16,15 +16,6 @@ Inv-loop cell-a cell-b places-a places-b hits₀ count₀ j₀ hits count j = Pa
 abbrev μ-loop : tie.MeasureT-loop
 μ-loop cell-a cell-b places-a places-b hits₀ count₀ j₀ hits count j = 48 - j
 
-loop-holds : tie.Need-loop-holds Inv-loop μ-loop
-loop-holds c = start _
-
-cast-count : tie.Need-cast-count Inv-loop μ-loop
-cast-count c = tt
-
-add-count : tie.Need-add-count Inv-loop μ-loop
-add-count c = search (fits, needs)
-
 loop-again : tie.Need-loop-again Inv-loop μ-loop
 unfolding amcHit
 loop-again c =
@@ -33,13 +24,10 @@ loop-again c =
     (c .before .before .before .table .ensures ((c .before .loop .j + c .before .before .before .before .args .cell-a % 48) % 48) (omega arith) ∙ traffic-at (c .before .before .before .before .args .cell-a) (c .before .loop .j))
     (c .before .before .table2 .ensures ((c .before .loop .j + c .before .before .before .before .args .cell-b % 48) % 48) (omega arith) ∙ traffic-at (c .before .before .before .before .args .cell-b) (c .before .loop .j)))
 
-returns : tie.Need-returns Inv-loop μ-loop
-returns c = answer _ _ _ _ (c .before .loop .inv) (c .loop-test .left)
-
 pub amc-hits-spec : {M : Type 1} → statement M
 amc-hits-spec =
     tie.close
     (tie.spec
-    Inv-loop μ-loop (λ c κs. search needs) (λ c κs. search needs) loop-holds (λ c. search needs) (λ c. search needs)
-    (λ c. search needs) (λ c. search needs) (λ c. search needs) (λ c. search needs) (λ c. search needs) cast-count
-    add-count (λ c. search needs) (λ c. search needs) loop-again returns)
+    Inv-loop μ-loop (λ c κs. search needs) (λ c κs. search needs) (λ c. start _) (λ c. search needs) (λ c. search needs)
+    (λ c. search needs) (λ c. search needs) (λ c. search needs) (λ c. search needs) (λ c. search needs) (λ c. tt)
+    (λ c. search (fits, needs)) (λ c. search needs) (λ c. search needs) loop-again (λ c. answer _ _ _ _ (c .before .loop .inv) (c .loop-test .left)))

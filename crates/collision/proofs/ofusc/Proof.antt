@@ -12,18 +12,6 @@ use Rattle.collision.proofs.ofusc.Tie as tie
 four : (c : tie.Else1) → isFourSizes (c .before .before .args .size) ≡ true
 four c = sym (c .before .is-four-sizes .ensures) ∙ not-false _ (c .if1 .left)
 
-returns : tie.Need-returns
-returns c = c .refused .ensures ∙ ofusc-2 _ _ _ _ _ (sym (c .before .before .is-four-sizes .ensures) ∙ not-true _ (c .before .if1 .taken))
-
-mul-if2 : tie.Need-mul-if2
-mul-if2 c = omega (arith, wide _ (four c) .few)
-
-returns-2 : tie.Need-returns-2
-returns-2 c = c .refused2 .ensures ∙ ofusc-3a _ _ _ _ _ (four (c .before .before)) (c .before .if2 .taken)
-
-mul-if3 : tie.Need-mul-if3
-mul-if3 c = omega (arith, wide _ (four (c .before)) .few)
-
 returns-3 : tie.Need-returns-3
 returns-3 c = c .refused3 .ensures ∙ ofusc-3b _ _ _ _ _ (four (c .before .before .before)) (c .before .before .if2 .left) (c .before .if3 .taken)
 
@@ -43,6 +31,9 @@ pub ofusc-spec : {M : Type 1} → statement M
 ofusc-spec =
     tie.close
     (tie.spec
-    (λ c κs. search needs) (λ c κs. search needs) returns mul-if2 (λ c κs. search needs) returns-2 mul-if3
-    (λ c κs. search needs) returns-3 (λ c κs. search needs) returns-4 (λ c κs. search needs) returns-5
-    ofusc-hits-requires returns-6)
+    (λ c κs. search needs) (λ c κs. search needs)
+    (λ c. c .refused .ensures ∙ ofusc-2 _ _ _ _ _ (sym (c .before .before .is-four-sizes .ensures) ∙ not-true _ (c .before .if1 .taken)))
+    (λ c. omega (arith, wide _ (four c) .few)) (λ c κs. search needs)
+    (λ c. c .refused2 .ensures ∙ ofusc-3a _ _ _ _ _ (four (c .before .before)) (c .before .if2 .taken))
+    (λ c. omega (arith, wide _ (four (c .before)) .few)) (λ c κs. search needs) returns-3 (λ c κs. search needs)
+    returns-4 (λ c κs. search needs) returns-5 ofusc-hits-requires returns-6)

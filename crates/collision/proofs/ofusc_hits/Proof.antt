@@ -15,21 +15,6 @@ Inv-loop n cell-a a cell-b b numbers-a numbers-b s t hits₀ count₀ k₀ hits 
 abbrev μ-loop : tie.MeasureT-loop
 μ-loop n cell-a a cell-b b numbers-a numbers-b s t hits₀ count₀ k₀ hits count k = 48 - k
 
-cast-s : tie.Need-cast-s Inv-loop μ-loop
-cast-s c = omega (arith, size (c .before .before .pre .0), c .before .before .pre .1 .1 .0)
-
-cast-t : tie.Need-cast-t Inv-loop μ-loop
-cast-t c = omega (arith, size (c .before .before .pre .0), c .before .before .pre .1 .1 .1)
-
-loop-holds : tie.Need-loop-holds Inv-loop μ-loop
-loop-holds c = start _
-
-cast-count : tie.Need-cast-count Inv-loop μ-loop
-cast-count c = tt
-
-add-count : tie.Need-add-count Inv-loop μ-loop
-add-count c = search (fits, needs)
-
 loop-again : tie.Need-loop-again Inv-loop μ-loop
 loop-again c =
     let p = c .before .before .before .before .pre in
@@ -38,13 +23,13 @@ loop-again c =
     (rw (c .before .before .before .table .ensures (c .before .loop .k) h, c .before .before .table2 .ensures (c .before .loop .k) h)
     (number-hit (p .0) _ h _ _ _ _ (p .1 .1 .0) (p .1 .1 .1)))
 
-returns : tie.Need-returns Inv-loop μ-loop
-returns c = answer _ _ _ _ (c .before .loop .inv) (c .loop-test .left)
-
 pub ofusc-hits-spec : {M : Type 1} → statement M
 ofusc-hits-spec =
     tie.close
     (tie.spec
-    Inv-loop μ-loop (λ c κs. search needs) (λ c κs. search needs) cast-s cast-t loop-holds (λ c. search needs)
-    (λ c. search needs) (λ c. search needs) (λ c. search needs) (λ c. search needs) cast-count add-count
-    (λ c. search needs) (λ c. search needs) loop-again returns)
+    Inv-loop μ-loop (λ c κs. search needs) (λ c κs. search needs)
+    (λ c. omega (arith, size (c .before .before .pre .0), c .before .before .pre .1 .1 .0))
+    (λ c. omega (arith, size (c .before .before .pre .0), c .before .before .pre .1 .1 .1))
+    (λ c. start _) (λ c. search needs) (λ c. search needs) (λ c. search needs) (λ c. search needs) (λ c. search needs)
+    (λ c. tt) (λ c. search (fits, needs)) (λ c. search needs) (λ c. search needs) loop-again
+    (λ c. answer _ _ _ _ (c .before .loop .inv) (c .loop-test .left)))

@@ -5,9 +5,6 @@ use Rattle.collision.specs.Collision.{answerOf}
 use Rattle.collision.proofs.refused.Statement.{statement}
 use Rattle.collision.proofs.refused.Tie as tie
 
-returns : tie.Need-returns
-unfolding answerOf tabulate
-returns c = refl
-
 pub refused-spec : {M : Type 1} → statement M
-refused-spec = tie.close (tie.spec returns)
+unfolding answerOf tabulate
+refused-spec = tie.close (tie.spec (λ c. refl))

@@ -9,23 +9,11 @@ use Rattle.ofusc.proofs.Sequence.{size, pos}
 use Rattle.ofusc.proofs.address.Statement.{statement}
 use Rattle.ofusc.proofs.address.Tie as tie
 
-parts-requires : tie.Need-parts-requires
-parts-requires c κs = c .pre .0
-
 group-lt : (c : tie.After-parts) → c .parts .result .quotient < 48
 group-lt c = rw (c .parts .ensures .0) (div-lt-iff-lt-mul (pos (c .before .pre .0)) .1 (c .before .pre .1 .1))
 
-mask-requires : tie.Need-mask-requires
-mask-requires c κs = (c .before .pre .0, (c .before .pre .1 .0, group-lt c))
-
 value-lt : (c : tie.After-struct-known) → bitXor (c .before .before .parts .result .remainder) (c .before .mask .result) < c .before .before .before .args .n
 value-lt c = rw (c .before .mask .ensures, c .before .before .parts .ensures .0, c .before .before .parts .ensures .1) (subchannel-lt (c .before .before .before .pre .0) _ _)
-
-mul-unrotate : tie.Need-mul-unrotate
-mul-unrotate c = omega (arith, value-lt c, size (c .before .before .before .pre .0))
-
-unrotate-requires : tie.Need-unrotate-requires
-unrotate-requires c κs = omega (arith, group-lt (c .before .before))
 
 returns : tie.Need-returns
 unfolding addressOf
@@ -33,4 +21,9 @@ returns c = rw (c .unrotate .ensures .0, c .before .before .mask .ensures, c .be
 
 pub address-spec : {M : Type 1} → statement M
 address-spec =
-    tie.close (tie.spec parts-requires mask-requires mul-unrotate unrotate-requires returns)
+    tie.close
+    (tie.spec
+    (λ c κs. c .pre .0)
+    (λ c κs. (c .before .pre .0, (c .before .pre .1 .0, group-lt c)))
+    (λ c. omega (arith, value-lt c, size (c .before .before .before .pre .0)))
+    (λ c κs. omega (arith, group-lt (c .before .before))) returns)

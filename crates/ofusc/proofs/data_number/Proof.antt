@@ -10,15 +10,6 @@ use Rattle.ofusc.proofs.data_number.Tie as tie
 group-below : (c : tie.After-group) → c .group .result < 48
 group-below c = omega (arith, group-lt (c .before .args .subchannel) (c .before .args .index))
 
-group-requires : tie.Need-group-requires
-group-requires c κs = omega (arith, size (c .pre .0))
-
-mul-result : tie.Need-mul-result
-mul-result c = omega (arith, start-lt (c .before .pre .0) (c .group .result) (group-below c))
-
-mask-requires : tie.Need-mask-requires
-mask-requires c κs = (c .before .pre .0, (c .before .pre .1 .0, group-below c))
-
 returns : tie.Need-returns
 unfolding dataNumber
 returns c = rw (c .mask .ensures, c .before .group .ensures)
@@ -31,4 +22,10 @@ add-result c =
     omega (arith, returns c, size (p .0), law (p .0) (a .cell) .number-lt (a .subchannel) (a .index) (p .1 .1) (p .1 .2))
 
 pub data-number-spec : {M : Type 1} → statement M
-data-number-spec = tie.close (tie.spec group-requires mul-result mask-requires add-result returns)
+data-number-spec =
+    tie.close
+    (tie.spec
+    (λ c κs. omega (arith, size (c .pre .0)))
+    (λ c. omega (arith, start-lt (c .before .pre .0) (c .group .result) (group-below c)))
+    (λ c κs. (c .before .pre .0, (c .before .pre .1 .0, group-below c)))
+    add-result returns)

@@ -4,9 +4,6 @@ use borrow.Author.Needs.{needs}
 use Rattle.ofusc.proofs.group.Statement.{statement}
 use Rattle.ofusc.proofs.group.Tie as tie
 
-returns : tie.Need-returns
-unfolding groupOf
-returns c = search needs
-
 pub group-spec : {M : Type 1} → statement M
-group-spec = tie.close (tie.spec (λ c. search needs) (λ c. search needs) returns)
+unfolding groupOf
+group-spec = tie.close (tie.spec (λ c. search needs) (λ c. search needs) (λ c. search needs))

@@ -5,9 +5,6 @@ use Rattle.ofusc.proofs.Tables.{mask-is}
 use Rattle.ofusc.proofs.mask.Statement.{statement}
 use Rattle.ofusc.proofs.mask.Tie as tie
 
-parts-requires : tie.Need-parts-requires
-parts-requires c κs = c .pre .0
-
 term-requires : tie.Need-term-requires
 term-requires c κs = (c .before .before .pre .0, (rw (c .before .parts .ensures .1) (mod-lt _ (pos (c .before .before .pre .0))), c .before .before .pre .1 .1))
 
@@ -18,4 +15,4 @@ returns : tie.Need-returns
 returns c = rw (c .before .before .term .ensures, c .term2 .ensures, c .before .before .before .before .parts .ensures .0, c .before .before .before .before .parts .ensures .1) (mask-is (c .before .before .before .before .before .pre .0) _ _)
 
 pub mask-spec : {M : Type 1} → statement M
-mask-spec = tie.close (tie.spec parts-requires term-requires term-requires-2 returns)
+mask-spec = tie.close (tie.spec (λ c κs. c .pre .0) term-requires term-requires-2 returns)

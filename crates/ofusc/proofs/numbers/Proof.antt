@@ -15,24 +15,16 @@ Inv-loop n cell subchannel table s row₀ k₀ row k = Written 48 (groupNumber n
 abbrev μ-loop : tie.MeasureT-loop
 μ-loop n cell subchannel table s row₀ k₀ row k = 48 - k
 
-cast-s : tie.Need-cast-s Inv-loop μ-loop
-cast-s c = omega (arith, size (c .pre .0))
-
-loop-holds : tie.Need-loop-holds Inv-loop μ-loop
-loop-holds c = written-none 48 _
-
 loop-again : tie.Need-loop-again Inv-loop μ-loop
 loop-again c =
     let p = c .before .before .before .pre in
     let h = c .before .loop-test .taken in
     written-next (c .before .before .loop .inv) h _ (rw (p .1 .1 _ h) (with-subchannel (p .0) _ _ _ (p .1 .0)))
 
-returns : tie.Need-returns Inv-loop μ-loop
-returns c = written-all (c .before .loop .inv) (c .loop-test .left)
-
 pub numbers-spec : {M : Type 1} → statement M
 numbers-spec =
     tie.close
     (tie.spec
-    Inv-loop μ-loop cast-s loop-holds (λ c. search needs) (λ c. search needs) (λ c. search needs) (λ c. search needs)
-    (λ c. search needs) (λ c. search needs) loop-again returns)
+    Inv-loop μ-loop (λ c. omega (arith, size (c .pre .0))) (λ c. written-none 48 _) (λ c. search needs)
+    (λ c. search needs) (λ c. search needs) (λ c. search needs) (λ c. search needs) (λ c. search needs) loop-again
+    (λ c. written-all (c .before .loop .inv) (c .loop-test .left)))

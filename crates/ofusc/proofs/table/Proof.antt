@@ -17,18 +17,6 @@ Inv-loop n cell first second c1 c2 table₀ k₀ table k = Written 188 (cellNumb
 abbrev μ-loop : tie.MeasureT-loop
 μ-loop n cell first second c1 c2 table₀ k₀ table k = 48 - k
 
-rem-c1 : tie.Need-rem-c1 Inv-loop μ-loop
-rem-c1 c = pos (c .pre .0)
-
-div-c2 : tie.Need-div-c2 Inv-loop μ-loop
-div-c2 c = pos (c .pre .0)
-
-loop-holds : tie.Need-loop-holds Inv-loop μ-loop
-loop-holds c = written-none 188 _
-
-term-requires : tie.Need-term-requires Inv-loop μ-loop
-term-requires c κs = (c .before .before .before .pre .0, (mod-lt _ (pos (c .before .before .before .pre .0)), c .before .loop-test .taken))
-
 term-requires-2 : tie.Need-term-requires-2 Inv-loop μ-loop
 term-requires-2 c κs =
     let p = c .before .before .before .before .before .pre in
@@ -43,21 +31,18 @@ cast-table c =
     let p = c .before .before .before .before .before .before .pre in
     omega (arith, cell-entry (p .0) _ _ _ _ (c .before .before .before .before .loop-test .taken) (c .before .before .term .ensures) (c .term2 .ensures) .1)
 
-add-table : tie.Need-add-table Inv-loop μ-loop
-add-table c = omega (arith, cast-table c)
-
 loop-again : tie.Need-loop-again Inv-loop μ-loop
 loop-again c =
     let p = c .before .before .before .before .before .before .pre in
     written-next (c .before .before .before .before .before .loop .inv) (omega (arith, c .before .before .before .before .loop-test .taken)) _
     (cell-entry (p .0) _ _ _ _ (c .before .before .before .before .loop-test .taken) (c .before .before .term .ensures) (c .term2 .ensures) .0)
 
-returns : tie.Need-returns Inv-loop μ-loop
-returns c = written-starts (c .before .loop .inv) 48 (c .loop-test .left)
-
 pub table-spec : {M : Type 1} → statement M
 table-spec =
     tie.close
     (tie.spec
-    Inv-loop μ-loop rem-c1 div-c2 loop-holds term-requires term-requires-2 mul-table add-table cast-table
-    (λ c. search needs) (λ c. search needs) (λ c. search needs) (λ c. search needs) loop-again returns)
+    Inv-loop μ-loop (λ c. pos (c .pre .0)) (λ c. pos (c .pre .0)) (λ c. written-none 188 _)
+    (λ c κs. (c .before .before .before .pre .0, (mod-lt _ (pos (c .before .before .before .pre .0)), c .before .loop-test .taken)))
+    term-requires-2 mul-table (λ c. omega (arith, cast-table c)) cast-table (λ c. search needs) (λ c. search needs)
+    (λ c. search needs) (λ c. search needs) loop-again
+    (λ c. written-starts (c .before .loop .inv) 48 (c .loop-test .left)))

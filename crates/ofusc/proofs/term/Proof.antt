@@ -8,26 +8,14 @@ use borrow.Author.Needs.{needs}
 use Rattle.ofusc.proofs.term.Statement.{statement}
 use Rattle.ofusc.proofs.term.Tie as tie
 
-returns : tie.Need-returns
-returns c = sym (term-zero _ _ _ _ (c .if1 .taken))
-
-add-turn : tie.Need-add-turn
-add-turn c = omega (arith, size (c .before .pre .0))
-
 -- the row of N lies within the table
 row-below : (c : tie.After-turn) → c .before .before .args .n + c .turn .result < 63
 row-below c = rw (c .turn .ensures) (place-lt (c .before .before .pre .0) _)
 
-add-i : tie.Need-add-i
-add-i c = omega (arith, row-below c)
-
-element-copy-out-wide : tie.Need-element-copy-out-wide
-element-copy-out-wide c = row-below c
-
-returns-2 : tie.Need-returns-2
-returns-2 c = rw (c .wide .ensures .0, c .before .before .turn .ensures) (sym (term-turn _ _ _ _ (c .before .before .before .if1 .left)))
-
 pub term-spec : {M : Type 1} → statement M
 term-spec =
     tie.close
-    (tie.spec returns add-turn (λ c κs. search needs) add-i element-copy-out-wide (λ c κs. search needs) returns-2)
+    (tie.spec
+    (λ c. sym (term-zero _ _ _ _ (c .if1 .taken))) (λ c. omega (arith, size (c .before .pre .0)))
+    (λ c κs. search needs) (λ c. omega (arith, row-below c)) (λ c. row-below c) (λ c κs. search needs)
+    (λ c. rw (c .wide .ensures .0, c .before .before .turn .ensures) (sym (term-turn _ _ _ _ (c .before .before .before .if1 .left)))))

@@ -11,9 +11,6 @@ use Rattle.pusc_dl.proofs.group_data.Tie as tie
 data-small : (g size n r : ℕ) → size ≡ groupSize g → n < 24 → r < groupSize g → n * size + r < 24 * groupSize g
 data-small g size n r e hn hr = rw e (digits-lt hn hr)
 
-mul-result : tie.Need-mul-result
-mul-result c = omega (arith, digits-lt (c .before .before .rotate .ensures .1) (c .before .before .before .group-size .ensures .1))
-
 add-result : tie.Need-add-result
 add-result c =
     let size = c .before .before .before .before .group-size .ensures in
@@ -32,4 +29,6 @@ group-data-spec =
     tie.close
     (tie.spec
     (λ c κs. search needs) (λ c. search needs) (λ c κs. search needs) (λ c. search needs) (λ c κs. search needs)
-    (λ c κs. search needs) mul-result (λ c. search needs) (λ c κs. search needs) add-result returns)
+    (λ c κs. search needs)
+    (λ c. omega (arith, digits-lt (c .before .before .rotate .ensures .1) (c .before .before .before .group-size .ensures .1)))
+    (λ c. search needs) (λ c κs. search needs) add-result returns)

@@ -16,19 +16,10 @@ Inv-loop cell g s table start size base turn row₀ k₀ row k = Halves 24 (grou
 abbrev μ-loop : tie.MeasureT-loop
 μ-loop cell g s table start size base turn row₀ k₀ row k = 24 - k
 
-loop-holds : tie.Need-loop-holds Inv-loop μ-loop
-loop-holds c = halves-none 24 _
-
-mul-spot-numbers : tie.Need-mul-spot-numbers Inv-loop μ-loop
-mul-spot-numbers c = omega (arith, digits-lt (c .mod-24 .ensures .1) (c .before .before .before .before .group-size .ensures .1))
-
 -- what is known once n is
 turn-at : (c : tie.After-mod-24 Inv-loop μ-loop) → let a = c .before .before .before .before .before .args in
     Turn (a .cell) (a .table .now) (a .g) (a .s) (c .before .before .loop .k) (c .mod-24 .result)
 turn-at c = search (needs, c .before .before .before .before .before .pre .3)
-
-element-copy-out-wide16 : tie.Need-element-copy-out-wide16 Inv-loop μ-loop
-element-copy-out-wide16 c = rw (c .before .before .before .base-start .ensures .0) (in-base (turn-at c))
 
 add-spot-numbers : tie.Need-add-spot-numbers Inv-loop μ-loop
 add-spot-numbers c = omega (arith, digits-lt (c .before .before .mod-24 .ensures .1) (c .before .before .before .before .before .before .group-size .ensures .1))
@@ -52,15 +43,15 @@ loop-again c =
     (both .0 ∙ rw d (omega (arith, spot t 0 k (omega arith) (omega arith))))
     (both .1 ∙ rw d (spot t 1 (k + 24) (omega arith) (omega arith)))
 
-returns : tie.Need-returns Inv-loop μ-loop
-returns c = halves-all (c .before .loop .inv) (c .loop-test .left)
-
 pub group-spots-spec : {M : Type 1} → statement M
 group-spots-spec =
     tie.close
     (tie.spec
     Inv-loop μ-loop (λ c. search needs) (λ c. search needs) (λ c κs. search needs) (λ c κs. search needs)
-    (λ c. search needs) (λ c. search needs) loop-holds (λ c. search needs) (λ c κs. search needs) mul-spot-numbers
-    (λ c. search needs) (λ c. search needs) element-copy-out-wide16 (λ c κs. search needs) add-spot-numbers
-    spot-numbers-requires (λ c. search needs) (λ c. search needs) (λ c. search needs) (λ c. search needs)
-    (λ c. search needs) (λ c. search needs) (λ c. search needs) loop-again returns)
+    (λ c. search needs) (λ c. search needs) (λ c. halves-none 24 _) (λ c. search needs) (λ c κs. search needs)
+    (λ c. omega (arith, digits-lt (c .mod-24 .ensures .1) (c .before .before .before .before .group-size .ensures .1)))
+    (λ c. search needs) (λ c. search needs)
+    (λ c. rw (c .before .before .before .base-start .ensures .0) (in-base (turn-at c)))
+    (λ c κs. search needs) add-spot-numbers spot-numbers-requires (λ c. search needs) (λ c. search needs)
+    (λ c. search needs) (λ c. search needs) (λ c. search needs) (λ c. search needs) (λ c. search needs) loop-again
+    (λ c. halves-all (c .before .loop .inv) (c .loop-test .left)))

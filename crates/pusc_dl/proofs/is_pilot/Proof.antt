@@ -17,11 +17,5 @@ at-second : (y u p q : ℕ) → p ≡ firstPilot y → q ≡ secondPilot y → (
 unfolding isClusterPilot
 at-second y u p q e f h = simp (← e, ← f, ne-eqb (u % 14) p h)
 
-returns : tie.Need-returns
-returns c = search (at-first, needs)
-
-returns-2 : tie.Need-returns-2
-returns-2 c = search (at-second, needs)
-
 pub is-pilot-spec : {M : Type 1} → statement M
-is-pilot-spec = tie.close (tie.spec (λ c κs. search needs) returns returns-2)
+is-pilot-spec = tie.close (tie.spec (λ c κs. search needs) (λ c. search (at-first, needs)) (λ c. search (at-second, needs)))

@@ -7,20 +7,13 @@ use Rattle.pusc_dl.proofs.Group.{size-8}
 use Rattle.pusc_dl.proofs.of_size.Statement.{statement}
 use Rattle.pusc_dl.proofs.of_size.Tie as tie
 
-array-read-wide-2 : tie.Need-array-read-wide-2
-array-read-wide-2 c = omega (arith, size-8 (c .before .before .args .g) _ (c .before .group-size .ensures .0) (c .if1 .left))
-
-returns : tie.Need-returns
-unfolding ofSize
-returns c = rw (sym (c .before .before .group-size .ensures .0) ∙ c .before .if1 .taken) (search needs)
-
-returns-2 : tie.Need-returns-2
-unfolding ofSize
-returns-2 c = rw (size-8 _ _ (c .before .before .group-size .ensures .0) (c .before .if1 .left)) (search needs)
-
 pub of-size-spec : {M : Type 1} → statement M
+unfolding ofSize
 of-size-spec =
     tie.close
     (tie.spec
-    (λ c κs. search needs) (λ c. search needs) (λ c κs. search needs) array-read-wide-2 (λ c κs. search needs)
-    returns returns-2)
+    (λ c κs. search needs) (λ c. search needs) (λ c κs. search needs)
+    (λ c. omega (arith, size-8 (c .before .before .args .g) _ (c .before .group-size .ensures .0) (c .if1 .left)))
+    (λ c κs. search needs)
+    (λ c. rw (sym (c .before .before .group-size .ensures .0) ∙ c .before .if1 .taken) (search needs))
+    (λ c. rw (size-8 _ _ (c .before .before .group-size .ensures .0) (c .before .if1 .left)) (search needs)))

@@ -15,11 +15,5 @@ odd : (y : ℕ) → (y % 2 ≡ 0 → ⊥) → (0 ≡ firstPilot y) × (12 ≡ se
 unfolding firstPilot secondPilot
 odd y ne = simp (ne-eqb (y % 2) 0 ne) (search needs)
 
-returns : tie.Need-returns
-returns c = even _ (search needs)
-
-returns-2 : tie.Need-returns-2
-returns-2 c = odd _ (search needs)
-
 pub pilots-spec : {M : Type 1} → statement M
-pilots-spec = tie.close (tie.spec returns returns-2)
+pilots-spec = tie.close (tie.spec (λ c. even _ (search needs)) (λ c. odd _ (search needs)))

@@ -6,11 +6,10 @@ use Rattle.pusc_dl.proofs.Group.{size-8}
 use Rattle.pusc_dl.proofs.size_quotient.Statement.{statement}
 use Rattle.pusc_dl.proofs.size_quotient.Tie as tie
 
-returns : tie.Need-returns
-returns c = let e = sym (c .before .group-size .ensures .0) ∙ c .if1 .taken in rw e (refl, omega arith)
-
-returns-2 : tie.Need-returns-2
-returns-2 c = let e = size-8 _ _ (c .before .group-size .ensures .0) (c .if1 .left) in rw e (refl, omega arith)
-
 pub size-quotient-spec : {M : Type 1} → statement M
-size-quotient-spec = tie.close (tie.spec (λ c κs. search needs) returns returns-2)
+size-quotient-spec =
+    tie.close
+    (tie.spec
+    (λ c κs. search needs)
+    (λ c. let e = sym (c .before .group-size .ensures .0) ∙ c .if1 .taken in rw e (refl, omega arith))
+    (λ c. let e = size-8 _ _ (c .before .group-size .ensures .0) (c .if1 .left) in rw e (refl, omega arith)))

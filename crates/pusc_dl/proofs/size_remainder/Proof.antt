@@ -6,11 +6,10 @@ use Rattle.pusc_dl.proofs.Group.{size-8}
 use Rattle.pusc_dl.proofs.size_remainder.Statement.{statement}
 use Rattle.pusc_dl.proofs.size_remainder.Tie as tie
 
-returns : tie.Need-returns
-returns c = rw (sym (c .before .group-size .ensures .0) ∙ c .if1 .taken) (refl, omega arith, omega arith)
-
-returns-2 : tie.Need-returns-2
-returns-2 c = rw (size-8 _ _ (c .before .group-size .ensures .0) (c .if1 .left)) (refl, omega arith, omega arith)
-
 pub size-remainder-spec : {M : Type 1} → statement M
-size-remainder-spec = tie.close (tie.spec (λ c κs. search needs) returns returns-2)
+size-remainder-spec =
+    tie.close
+    (tie.spec
+    (λ c κs. search needs)
+    (λ c. rw (sym (c .before .group-size .ensures .0) ∙ c .if1 .taken) (refl, omega arith, omega arith))
+    (λ c. rw (size-8 _ _ (c .before .group-size .ensures .0) (c .if1 .left)) (refl, omega arith, omega arith)))

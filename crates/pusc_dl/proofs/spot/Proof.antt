@@ -6,19 +6,15 @@ use Rattle.pusc_dl.proofs.Group.{subchannel-runs}
 use Rattle.pusc_dl.proofs.spot.Statement.{statement}
 use Rattle.pusc_dl.proofs.spot.Tie as tie
 
-sub-s : tie.Need-sub-s
-sub-s c = rw (c .subchannel-group .ensures .0) (subchannel-runs .start-le _ (c .before .pre .1))
-
 group-data-requires : tie.Need-group-data-requires
-group-data-requires c κs = (search needs, rw (c .subchannel-group .ensures .0) (omega (arith, subchannel-runs .run-lt (c .before .args .subchannel) (c .before .pre .1))), search needs)
-
-returns : tie.Need-returns
-unfolding spotOf
-returns c = rw (c .group-used .ensures, c .before .group-data .ensures .0, c .before .before .subchannel-group .ensures .0)
+group-data-requires c κs = (search needs, rw (c .group-in .ensures .0) (omega (arith, subchannel-runs .run-lt (c .before .args .subchannel) (c .before .pre .1))), search needs)
 
 pub spot-spec : {M : Type 1} → statement M
+unfolding spotOf
 spot-spec =
     tie.close
     (tie.spec
-    (λ c κs. search needs) (λ c. search needs) (λ c. search needs) sub-s group-data-requires (λ c κs. search needs)
-    returns)
+    (λ c κs. search needs) (λ c. search needs) (λ c. search needs)
+    (λ c. rw (c .group-in .ensures .0) (subchannel-runs .start-le _ (c .before .pre .1)))
+    group-data-requires (λ c κs. search needs)
+    (λ c. rw (c .group-used .ensures, c .before .group-data .ensures .0, c .before .before .group-in .ensures .0)))

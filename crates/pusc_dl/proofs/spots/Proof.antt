@@ -7,18 +7,15 @@ use Rattle.pusc_dl.proofs.Group.{subchannel-runs}
 use Rattle.pusc_dl.proofs.spots.Statement.{statement}
 use Rattle.pusc_dl.proofs.spots.Tie as tie
 
-sub-group-spots : tie.Need-sub-group-spots
-sub-group-spots c = rw (c .subchannel-group .ensures .0) (subchannel-runs .start-le _ (c .before .pre .1))
-
 group-spots-requires : tie.Need-group-spots-requires
-group-spots-requires c κs = (search needs, search needs, rw (c .subchannel-group .ensures .0) (omega (arith, subchannel-runs .run-lt (c .before .args .subchannel) (c .before .pre .1))), c .before .pre .2)
-
-returns : tie.Need-returns
-unfolding spotOf groupSpot
-returns c = rw (c .group-spots .ensures, c .before .subchannel-group .ensures .0)
+group-spots-requires c κs = (search needs, search needs, rw (c .group-in .ensures .0) (omega (arith, subchannel-runs .run-lt (c .before .args .subchannel) (c .before .pre .1))), c .before .pre .2)
 
 pub spots-spec : {M : Type 1} → statement M
+unfolding spotOf groupSpot
 spots-spec =
     tie.close
     (tie.spec
-    (λ c κs. search needs) (λ c. search needs) (λ c. search needs) sub-group-spots group-spots-requires returns)
+    (λ c κs. search needs) (λ c. search needs) (λ c. search needs)
+    (λ c. rw (c .group-in .ensures .0) (subchannel-runs .start-le _ (c .before .pre .1)))
+    group-spots-requires
+    (λ c. rw (c .group-spots .ensures, c .before .group-in .ensures .0)))

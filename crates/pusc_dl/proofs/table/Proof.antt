@@ -13,18 +13,11 @@ Inv-loop cell inverse twelve eight table₀ i₀ table i = Written 188 (tableEnt
 abbrev μ-loop : tie.MeasureT-loop
 μ-loop cell inverse twelve eight table₀ i₀ table i = 188 - i
 
-loop-holds : tie.Need-loop-holds Inv-loop μ-loop
-loop-holds c = written-none 188 _
-
-loop-again : tie.Need-loop-again Inv-loop μ-loop
-loop-again c = written-next (c .before .before .before .before .before .loop .inv) (search needs) _ (c .table-entry .ensures)
-
-returns : tie.Need-returns Inv-loop μ-loop
-returns c = λ k h. c .before .loop .inv .entries k (omega arith)
-
 pub table-spec : {M : Type 1} → statement M
 table-spec =
     tie.close
     (tie.spec
-    Inv-loop μ-loop loop-holds (λ c κs. search needs) (λ c. search needs) (λ c. search needs) (λ c. search needs)
-    (λ c. search needs) loop-again returns)
+    Inv-loop μ-loop (λ c. written-none 188 _) (λ c κs. search needs) (λ c. search needs) (λ c. search needs)
+    (λ c. search needs) (λ c. search needs)
+    (λ c. written-next (c .before .before .before .before .before .loop .inv) (search needs) _ (c .table-entry .ensures))
+    (λ c. λ k h. c .before .loop .inv .entries k (omega arith)))

@@ -5,15 +5,12 @@ use Rattle.pusc_ul.proofs.Law.{pilot-carrier}
 use Rattle.pusc_ul.proofs.address.Statement.{statement}
 use Rattle.pusc_ul.proofs.address.Tie as tie
 
-data-place-requires : tie.Need-data-place-requires
-data-place-requires c κs = (search needs, search needs, search needs, rw pilot-carrier at (c .before .pre .3))
-
-returns : tie.Need-returns
-unfolding addressOf
-returns c = rw (c .data-place .ensures .0, c .before .tile-subchannel .ensures .0)
-
 pub address-spec : {M : Type 1} → statement M
+unfolding addressOf
 address-spec =
     tie.close
     (tie.spec
-    (λ c κs. search needs) data-place-requires (λ c. search needs) (λ c. search needs) (λ c. search needs) returns)
+    (λ c κs. search needs)
+    (λ c κs. (search needs, search needs, search needs, rw pilot-carrier at (c .before .pre .3)))
+    (λ c. search needs) (λ c. search needs) (λ c. search needs)
+    (λ c. rw (c .data-place .ensures .0, c .before .tile-subchannel .ensures .0)))

@@ -16,12 +16,6 @@ Inv-loop cell subchannel table row₀ t₀ row t = TileTurn (placeNumber cell su
 abbrev μ-loop : tie.MeasureT-loop
 μ-loop cell subchannel table row₀ t₀ row t = 6 - t
 
-loop-holds : tie.Need-loop-holds Inv-loop μ-loop
-loop-holds c = tiles-none _
-
-tile-start-requires : tie.Need-tile-start-requires Inv-loop μ-loop
-tile-start-requires c κs = (search needs, search needs, c .loop-test .taken, c .before .before .pre .2)
-
 loop-again : tie.Need-loop-again Inv-loop μ-loop
 unfolding dataPlace isTilePilot
 loop-again c =
@@ -35,14 +29,13 @@ loop-again c =
     (two-of _ _ _ h 1 2 _ _ (omega arith) (omega arith) (lit< tt) (lit< tt) refl refl (omega (arith, first)))
     (two-of _ _ _ h 2 1 _ _ (omega arith) (omega arith) (lit< tt) (lit< tt) refl refl (omega (arith, first))))
 
-returns : tie.Need-returns Inv-loop μ-loop
-returns c = tiles-all (c .before .loop .inv) (c .loop-test .left)
-
 pub carrier-row-spec : {M : Type 1} → statement M
 carrier-row-spec =
     tie.close
     (tie.spec
-    Inv-loop μ-loop loop-holds tile-start-requires (λ c. search needs) (λ c κs. search needs) (λ c. search needs)
-    (λ c. search needs) (λ c. search needs) (λ c κs. search needs) (λ c. search needs) (λ c. search needs)
-    (λ c. search needs) (λ c κs. search needs) (λ c. search needs) (λ c. search needs) (λ c κs. search needs)
-    (λ c. search needs) (λ c. search needs) loop-again returns)
+    Inv-loop μ-loop (λ c. tiles-none _)
+    (λ c κs. (search needs, search needs, c .loop-test .taken, c .before .before .pre .2))
+    (λ c. search needs) (λ c κs. search needs) (λ c. search needs) (λ c. search needs) (λ c. search needs)
+    (λ c κs. search needs) (λ c. search needs) (λ c. search needs) (λ c. search needs) (λ c κs. search needs)
+    (λ c. search needs) (λ c. search needs) (λ c κs. search needs) (λ c. search needs) (λ c. search needs) loop-again
+    (λ c. tiles-all (c .before .loop .inv) (c .loop-test .left)))

@@ -5,17 +5,11 @@ use Rattle.pusc_ul.specs.Tile.{placeSymbol, placeTile, placeCarrier}
 use Rattle.pusc_ul.proofs.data_carrier.Statement.{statement}
 use Rattle.pusc_ul.proofs.data_carrier.Tie as tie
 
-returns : tie.Need-returns
-unfolding placeSymbol placeTile placeCarrier
-returns c = simp (lt-ltb _ _ (c .if1 .taken)) (search needs)
-
-returns-2 : tie.Need-returns-2
-unfolding placeSymbol placeTile placeCarrier
-returns-2 c = simp (le-ltb _ _ (c .before .if1 .left), lt-ltb _ _ (c .if2 .taken)) (search needs)
-
-returns-3 : tie.Need-returns-3
-unfolding placeSymbol placeTile placeCarrier
-returns-3 c = simp (le-ltb _ _ (c .before .if1 .left), le-ltb _ _ (c .if2 .left)) (search needs)
-
 pub data-carrier-spec : {M : Type 1} → statement M
-data-carrier-spec = tie.close (tie.spec (λ c. search needs) (λ c. search needs) returns returns-2 returns-3)
+unfolding placeSymbol placeTile placeCarrier
+data-carrier-spec =
+    tie.close
+    (tie.spec
+    (λ c. search needs) (λ c. search needs) (λ c. simp (lt-ltb _ _ (c .if1 .taken)) (search needs))
+    (λ c. simp (le-ltb _ _ (c .before .if1 .left), lt-ltb _ _ (c .if2 .taken)) (search needs))
+    (λ c. simp (le-ltb _ _ (c .before .if1 .left), le-ltb _ _ (c .if2 .left)) (search needs)))

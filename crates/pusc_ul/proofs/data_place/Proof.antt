@@ -19,20 +19,6 @@ inner o c ne h e =
     (λ t. let z : _≡_ {A = ℕ} 0 1 = cc (rw t at f) in absurd (omega arith))
     (λ t. let n = eqb-false (c % 4) 0 t in let l = eqb-false (c % 4) 3 (rw t at f) in (omega arith, omega arith))
 
-sub-result : tie.Need-sub-result
-sub-result c = inner _ _ (λ e. omega arith) (search needs) (c .before .pre .3) .0
-
-sub-result-2 : tie.Need-sub-result-2
-sub-result-2 c = inner _ _ (c .if2 .left) (search needs) (c .before .before .pre .3) .0
-
-returns : tie.Need-returns
-unfolding dataPlace
-returns c = simp (eq-eqb _ _ (c .if1 .taken)) (search needs)
-
-returns-2 : tie.Need-returns-2
-unfolding dataPlace
-returns-2 c = simp (ne-eqb _ _ (c .before .if1 .left), eq-eqb _ _ (c .if2 .taken)) (search needs)
-
 returns-3 : tie.Need-returns-3
 unfolding dataPlace
 returns-3 c =
@@ -41,8 +27,14 @@ returns-3 c =
     simp (ne-eqb _ _ (c .before .if1 .left), ne-eqb _ _ (c .if2 .left), eq-eqb _ _ last) (search needs)
 
 pub data-place-spec : {M : Type 1} → statement M
+unfolding dataPlace
 data-place-spec =
     tie.close
     (tie.spec
-    (λ c. search needs) sub-result (λ c. search needs) (λ c. search needs) (λ c. search needs) (λ c. search needs)
-    (λ c. search needs) sub-result-2 (λ c. search needs) (λ c. search needs) returns returns-2 returns-3)
+    (λ c. search needs)
+    (λ c. inner _ _ (λ e. omega arith) (search needs) (c .before .pre .3) .0)
+    (λ c. search needs) (λ c. search needs) (λ c. search needs) (λ c. search needs) (λ c. search needs)
+    (λ c. inner _ _ (c .if2 .left) (search needs) (c .before .before .pre .3) .0)
+    (λ c. search needs) (λ c. search needs) (λ c. simp (eq-eqb _ _ (c .if1 .taken)) (search needs))
+    (λ c. simp (ne-eqb _ _ (c .before .if1 .left), eq-eqb _ _ (c .if2 .taken)) (search needs))
+    returns-3)

@@ -4,13 +4,10 @@ use Rattle.pusc_ul.specs.Model.{putTwo}
 use Rattle.pusc_ul.proofs.put_two.Statement.{statement}
 use Rattle.pusc_ul.proofs.put_two.Tie as tie
 
-returns : tie.Need-returns
-unfolding putTwo
-returns c = search needs
-
 pub put-two-spec : {M : Type 1} → statement M
+unfolding putTwo
 put-two-spec =
     tie.close
     (tie.spec
     (λ c. search needs) (λ c. search needs) (λ c. search needs) (λ c. search needs) (λ c. search needs)
-    (λ c. search needs) (λ c. search needs) (λ c. search needs) returns)
+    (λ c. search needs) (λ c. search needs) (λ c. search needs) (λ c. search needs))

@@ -13,20 +13,13 @@ Inv-loop cell permutation table₀ i₀ table i = Written 188 (tableEntry cell) 
 abbrev μ-loop : tie.MeasureT-loop
 μ-loop cell permutation table₀ i₀ table i = 76 - i
 
-loop-holds : tie.Need-loop-holds Inv-loop μ-loop
-loop-holds c = written-none 188 _
-
-loop-again : tie.Need-loop-again Inv-loop μ-loop
-unfolding tableEntry
-loop-again c = written-next (c .before .before .loop .inv) (omega arith) _ (rw (c .wide .ensures .0))
-
-returns : tie.Need-returns Inv-loop μ-loop
-returns c = λ k h. c .before .loop .inv .entries k (omega arith)
-
 pub table-spec : {M : Type 1} → statement M
+unfolding tableEntry
 table-spec =
     tie.close
     (tie.spec
-    Inv-loop μ-loop loop-holds (λ c. search needs) (λ c κs. search needs) (λ c. search needs) (λ c. search needs)
-    (λ c. search needs) (λ c. search needs) (λ c. search needs) (λ c. search needs) (λ c. search needs) loop-again
-    returns)
+    Inv-loop μ-loop (λ c. written-none 188 _) (λ c. search needs) (λ c κs. search needs) (λ c. search needs)
+    (λ c. search needs) (λ c. search needs) (λ c. search needs) (λ c. search needs) (λ c. search needs)
+    (λ c. search needs)
+    (λ c. written-next (c .before .before .loop .inv) (omega arith) _ (rw (c .wide .ensures .0)))
+    (λ c. λ k h. c .before .loop .inv .entries k (omega arith)))

@@ -4,13 +4,10 @@ use Rattle.pusc_ul.specs.Tile.{tileOf}
 use Rattle.pusc_ul.proofs.tile.Statement.{statement}
 use Rattle.pusc_ul.proofs.tile.Tie as tie
 
-returns : tie.Need-returns
-unfolding tileOf
-returns c = (rw (c .wide .ensures .0), search needs)
-
 pub tile-spec : {M : Type 1} → statement M
+unfolding tileOf
 tile-spec =
     tie.close
     (tie.spec
     (λ c. search needs) (λ c. search needs) (λ c. search needs) (λ c κs. search needs) (λ c. search needs)
-    (λ c. search needs) returns)
+    (λ c. search needs) (λ c. (rw (c .wide .ensures .0), search needs)))

@@ -8,12 +8,6 @@ use Rattle.pusc_ul.proofs.Row.{start-lt, table-entry-lt}
 use Rattle.pusc_ul.proofs.tile_start.Statement.{statement}
 use Rattle.pusc_ul.proofs.tile_start.Tie as tie
 
-carrier-requires : tie.Need-carrier-requires
-carrier-requires c κs = rw (c .pusc-band .ensures) (omega arith)
-
-cast-result : tie.Need-cast-result
-cast-result c = rw (c .carrier .ensures, c .before .pusc-band .ensures) (omega (arith, start-lt _ (c .before .before .before .pre .2)))
-
 add-result-2 : tie.Need-add-result-2
 add-result-2 c =
     let p = c .before .before .before .pre in
@@ -34,4 +28,6 @@ tile-start-spec =
     tie.close
     (tie.spec
     (λ c. search needs) (λ c. search needs) (λ c. search needs) (λ c κs. search needs) (λ c. search needs)
-    carrier-requires cast-result add-result-2 returns)
+    (λ c κs. rw (c .pusc-band .ensures) (omega arith))
+    (λ c. rw (c .carrier .ensures, c .before .pusc-band .ensures) (omega (arith, start-lt _ (c .before .before .before .pre .2))))
+    add-result-2 returns)
