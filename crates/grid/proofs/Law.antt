@@ -1,4 +1,4 @@
--- THE LAWS OF THE GRID: they rest on the law of the map, and on no mode's text.
+-- THE LAW OF THE GRID: it rests on the law of the map, and on no mode's text.
 use mathlib.Core.Path.{_≡_, refl, sym, ap, _∙_}
 use mathlib.Core.List.{List}
 use Prim.Native.Nat.{ℕ, _+_, _*_, _/_, _%_, _<_}
@@ -23,7 +23,7 @@ use Rattle.lengths.proofs.Refusal.{SlotAccepted, number-is, slot-numbered, slot
 use Rattle.grid.specs.Row.{position}
 use Rattle.grid.specs.Grid.{Outcome, outcome, contentAt, pointNumber, held, filled, standsAt, emptied, emptyOf, fillOf, sight, lookOf}
 use Rattle.grid.specs.Model.{sightOf}
-use Rattle.grid.specs.Law.{Fills, GridLaw}
+use Rattle.grid.specs.Law.{FilledGrid, GridLaw}
 use Rattle.grid.proofs.Slot.{row-position, column-position, position-lt, stands-lt, stands-holds}
 use Rattle.grid.proofs.Looked.{look-done}
 
@@ -32,7 +32,7 @@ outcome-refusal : (a : Answer (List Float)) (old : List Float) → outcome a old
 outcome-refusal (accepted new) old = refl
 outcome-refusal (refused k) old = refl
 
-module _ (setup : Setup) (slot : ℕ) (p : Point) (points old grid : List Float) (e : Fills setup slot p points old grid) where
+module _ (setup : Setup) (slot : ℕ) (p : Point) (points old grid : List Float) (e : fillOf setup slot p points old ≡ record { refusal = 0; buffer = grid }) where
   accepts : SlotAccepted setup slot (length points) (length old)
   unfolding fillOf
   accepts =
@@ -68,7 +68,7 @@ module _ (setup : Setup) (slot : ℕ) (p : Point) (points old grid : List Float)
       ∙ ap (λ (x : List Float). record { refusal = 0; buffer = x }) (sym (by-points points (48 * subchannels setup) _ (accepts .points-long ∙ omega arith) back))
 
   -- what is in the filled grid where a carrier of the slot holds w
-  module _ (symbol carrier : ℕ) (w : Content) (a : locateOf setup symbol carrier ≡ accepted w) (own : symbol / symbols setup ≡ slot) where
+  module _ (w : Content) (symbol carrier : ℕ) (own : symbol / symbols setup ≡ slot) (a : locateOf setup symbol carrier ≡ accepted w) where
     abbrev row : ℕ
     row = symbol % symbols setup
 
@@ -84,17 +84,18 @@ module _ (setup : Setup) (slot : ℕ) (p : Point) (points old grid : List Float)
     looked =
         sym (look-done setup symbol carrier (accepted w) (sym a) 0 refl grid refl (gridPoints setup) refl long _ refl (held p points w) (sym point-there) _ refl)
 
+  law : FilledGrid setup slot p points grid
+  unfolding sight held
+  law =
+      let told = lengths-listed (accepts .valid) in
+      record {
+        lengths-fit = (accepts .points-long ∙ told .0, long ∙ told .1);
+        emptied-again = again;
+        look-at-point = λ s m place h. looked (point slot s m) (place .symbol) (place .carrier) (in-own-slot setup slot s m h) (located-where-placed setup slot s m h);
+        look-at-pilot = looked pilot;
+        zero-on-guards = point-there guard;
+        zero-on-dc = point-there dc;
+      }
+
 pub grid-law : GridLaw
-unfolding sight held
-grid-law =
-    record {
-      lengths-fit = λ setup slot p points old grid e.
-          let q = lengths-listed (accepts setup slot p points old grid e .valid) in
-          (accepts setup slot p points old grid e .points-long ∙ q .0, long setup slot p points old grid e ∙ q .1);
-      emptied-again = again;
-      look-at-point = λ setup slot p points old grid e s m place h.
-          looked setup slot p points old grid e (place .symbol) (place .carrier) (point slot s m) (located-where-placed setup slot s m h) (in-own-slot setup slot s m h);
-      look-at-pilot = λ setup slot p points old grid e symbol carrier. looked setup slot p points old grid e symbol carrier pilot;
-      zero-on-guards = λ setup slot p points old grid e symbol carrier. point-there setup slot p points old grid e symbol carrier guard;
-      zero-on-dc = λ setup slot p points old grid e symbol carrier. point-there setup slot p points old grid e symbol carrier dc;
-    }
+grid-law = law

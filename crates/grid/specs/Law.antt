@@ -1,4 +1,4 @@
--- THE LAWS OF THE GRID, for every accepted request, every pilot point and whatever the buffers held before. The proofs give its inhabitant, `grid-law`.
+-- THE LAW OF THE GRID, `GridLaw` below; the fields of `FilledGrid` are its theorems. The proofs give its inhabitant, `grid-law`.
 use mathlib.Core.Path.{_≡_}
 use mathlib.Core.List.{List}
 use Prim.Native.Nat.{ℕ, _/_, _%_}
@@ -14,31 +14,27 @@ use Rattle.lengths.specs.Length.{pointsLength, gridLength}
 use Rattle.grid.specs.Row.{position}
 use Rattle.grid.specs.Grid.{pointNumber, fillOf, emptyOf, lookOf, pilot-with, data-with}
 
--- a fill of the points, over a buffer that held `old`, is accepted and leaves `grid`
-abbrev pub Fills : (setup : Setup) (slot : ℕ) (p : Point) (points old grid : List Float) → Type 0
-Fills setup slot p points old grid = fillOf setup slot p points old ≡ record { refusal = 0; buffer = grid }
-
-pub record GridLaw : Type 0 where
-  -- Only buffers of the lengths that are told are accepted.
-  pub lengths-fit : (setup : Setup) (slot : ℕ) (p : Point) (points old grid : List Float) → Fills setup slot p points old grid
-      → (length points ≡ pointsLength (setup .mode) (setup .size)) × (length grid ≡ gridLength (setup .mode) (setup .size))
-  -- Emptying a filled grid gives the points back, whatever the points' buffer held.
-  pub emptied-again : (setup : Setup) (slot : ℕ) (p : Point) (points old grid : List Float) → Fills setup slot p points old grid
-      → (before : List Float) → length before ≡ length points
-      → emptyOf setup slot grid before ≡ record { refusal = 0; buffer = points }
+-- what holds of a grid that a fill of a slot with these points and the pilot point p has left
+pub record FilledGrid (setup : Setup) (slot : ℕ) (p : Point) (points grid : List Float) : Type 0 where
+  -- Both buffers have the lengths that are told.
+  pub lengths-fit : (length points ≡ pointsLength (setup .mode) (setup .size)) × (length grid ≡ gridLength (setup .mode) (setup .size))
+  -- Emptying it gives the points back, whatever the points' buffer held.
+  pub emptied-again : (before : List Float) → length before ≡ length points → emptyOf setup slot grid before ≡ record { refusal = 0; buffer = points }
   -- Looking at the place of a point shows that point and its address.
-  pub look-at-point : (setup : Setup) (slot : ℕ) (p : Point) (points old grid : List Float) → Fills setup slot p points old grid
-      → (subchannel index : ℕ) (place : Place) → placeOf setup slot subchannel index ≡ accepted place
+  pub look-at-point : (subchannel index : ℕ) (place : Place) → placeOf setup slot subchannel index ≡ accepted place
       → lookOf setup (place .symbol) grid (place .carrier) ≡ accepted (data-with (pointAt points (pointNumber subchannel index)) slot subchannel index)
-  -- Looking at a pilot of the slot shows the pilot point.
-  pub look-at-pilot : (setup : Setup) (slot : ℕ) (p : Point) (points old grid : List Float) → Fills setup slot p points old grid
-      → (symbol carrier : ℕ) → locateOf setup symbol carrier ≡ accepted pilot → symbol / symbols setup ≡ slot
+  -- Looking at a pilot, in a symbol of the slot, shows the pilot point.
+  pub look-at-pilot : (symbol carrier : ℕ) → symbol / symbols setup ≡ slot → locateOf setup symbol carrier ≡ accepted pilot
       → lookOf setup symbol grid carrier ≡ accepted (pilot-with p)
-  -- Guards hold 0.0.
-  pub zero-on-guards : (setup : Setup) (slot : ℕ) (p : Point) (points old grid : List Float) → Fills setup slot p points old grid
-      → (symbol carrier : ℕ) → locateOf setup symbol carrier ≡ accepted guard → symbol / symbols setup ≡ slot
+  -- Guards and DC, in a symbol of the slot, hold 0.0.
+  pub zero-on-guards : (symbol carrier : ℕ) → symbol / symbols setup ≡ slot → locateOf setup symbol carrier ≡ accepted guard
       → pointAt grid (position setup (symbol % symbols setup) carrier) ≡ zeroPoint
-  -- DC holds 0.0.
-  pub zero-on-dc : (setup : Setup) (slot : ℕ) (p : Point) (points old grid : List Float) → Fills setup slot p points old grid
-      → (symbol carrier : ℕ) → locateOf setup symbol carrier ≡ accepted dc → symbol / symbols setup ≡ slot
+  pub zero-on-dc : (symbol carrier : ℕ) → symbol / symbols setup ≡ slot → locateOf setup symbol carrier ≡ accepted dc
       → pointAt grid (position setup (symbol % symbols setup) carrier) ≡ zeroPoint
+
+-- Every accepted fill leaves such a grid, whatever its buffer held.
+abbrev pub GridLaw : Type 0
+GridLaw =
+    (setup : Setup) (slot : ℕ) (p : Point) (points old grid : List Float)
+    → fillOf setup slot p points old ≡ record { refusal = 0; buffer = grid }
+    → FilledGrid setup slot p points grid

@@ -60,10 +60,11 @@ by-points l n f e h = tabulated nan l (n * 2) _ e float
 -- ---- one point put
 
 pub length-put : (l : List Float) (n : ℕ) (p : Point) → length (putPoint l n p) ≡ length l
+unfolding putPoint
 length-put l n p = simp length-set
 
 pub put-same : (l : List Float) (n : ℕ) (p : Point) → n * 2 + 1 < length l → pointAt (putPoint l n p) n ≡ p
-unfolding pointAt
+unfolding putPoint pointAt
 put-same l n p h = λ t. record { i = in-phase t; q = quadrature t }
   where
     in-phase : getD (set (set l (n * 2) (p .i)) (n * 2 + 1) (p .q)) (n * 2) nan ≡ p .i
@@ -73,7 +74,7 @@ put-same l n p h = λ t. record { i = in-phase t; q = quadrature t }
     quadrature = getD-set-same (set l (n * 2) (p .i)) (n * 2 + 1) (p .q) nan (rw (length-set l (n * 2) (p .i)) h)
 
 pub put-other : (l : List Float) (n : ℕ) (p : Point) (k : ℕ) → (k ≡ n → ⊥) → pointAt (putPoint l n p) k ≡ pointAt l k
-unfolding pointAt
+unfolding putPoint pointAt
 put-other l n p k ne = λ t. record { i = kept (k * 2) (λ e. omega arith) (λ e. omega arith) t; q = kept (k * 2 + 1) (λ e. omega arith) (λ e. omega arith) t }
   where
     kept : (j : ℕ) → (j ≡ n * 2 → ⊥) → (j ≡ n * 2 + 1 → ⊥) → getD (set (set l (n * 2) (p .i)) (n * 2 + 1) (p .q)) j nan ≡ getD l j nan

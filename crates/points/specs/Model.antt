@@ -7,7 +7,7 @@ use Rattle.base.specs.Steps.{entry}
 use Rattle.points.specs.declared.Point.{Point}
 
 -- a buffer with point n put
-abbrev pub putPoint : (floats : List Float) (n : ℕ) (p : Point) → List Float
+unfoldable pub putPoint : (floats : List Float) (n : ℕ) (p : Point) → List Float
 putPoint floats n p = set (set floats (n * 2) (p .i)) (n * 2 + 1) (p .q)
 
 -- the first m points of a source put at their places
