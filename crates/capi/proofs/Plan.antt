@@ -9,19 +9,18 @@ use Rattle.plan.specs.declared.Written.{Written}
 use Rattle.plan.specs.declared.Written.the-variants.{Bytes}
 use Rattle.plan.specs.Write.{writeOf, written}
 use Rattle.plan.proofs.Round.{written-43}
-use Rattle.plan_numbers.specs.declared.ReadNumbers.{ReadNumbers}
-use Rattle.plan_numbers.specs.Numbers.{readNumbers}
+use Rattle.plan_numbers.specs.Numbers.{numbersOf}
 use Rattle.capi.specs.Plan.{readOut, writeOut}
 
 -- the outcome of reading
-module _ (answer : ReadPlan) (r : ReadNumbers) (e : r ≡ readNumbers answer) (count size : ℕ) (zones : List ℕ) where
+module _ (answer r : ReadPlan) (e : r ≡ answer) (count size : ℕ) (zones : List ℕ) where
   pub read-no : (r .refusal ≡ 0 → ⊥) → record { refusal = r .refusal; count = count; size = size; zones = zones } ≡ readOut answer count size zones
   unfolding readOut
-  read-no h = let q = ap (λ (x : ReadNumbers). x .refusal) e in rw (← q, ne-eqb (r .refusal) 0 h)
+  read-no h = rw (← e, ne-eqb (r .refusal) 0 h)
 
-  pub read-yes : r .refusal ≡ 0 → record { refusal = 0; count = r .count; size = r .size; zones = r .zones } ≡ readOut answer count size zones
+  pub read-yes : (row : List ℕ) → r .refusal ≡ 0 → row ≡ numbersOf (r .plan .zones) → record { refusal = 0; count = r .plan .count; size = r .plan .size; zones = row } ≡ readOut answer count size zones
   unfolding readOut
-  read-yes h = let q = ap (λ (x : ReadNumbers). x .refusal) e in rw (← q, eq-eqb (r .refusal) 0 h, e)
+  read-yes row h q = rw (← e, eq-eqb (r .refusal) 0 h, q)
 
 -- the outcome of writing
 module _ (p : Plan) (d after : List ℕ) (r : Written) (e : written r after ≡ writeOf p d) where

@@ -270,14 +270,15 @@ pub extern "C" fn bp_plan_read(
 ) -> u32
     ensures { λ r. ⌜ record { refusal = r; count = now (count .exit); size = now (size .exit); zones = now (zones .exit) } ≡ readOut (answered (planOf (now (bytes .entry)))) (now (count .entry)) (now (size .entry)) (now (zones .entry)) ⌝ }
 {
-    let answer = plan_numbers::read(bytes);
+    let answer = plan::read(bytes);
     if answer.refusal != 0 {
-        return answer.refusal;
+        return answer.refusal as u32;
     }
-    let row = answer.zones;
-    *count = answer.count;
-    *size = answer.size;
-    *zones = row;
+    let plan = answer.plan;
+    let places = plan.zones;
+    *count = plan.count as u32;
+    *size = plan.size as u32;
+    *zones = plan_numbers::numbers(places);
     0
 }
 

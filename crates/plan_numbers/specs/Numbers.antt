@@ -5,9 +5,7 @@ use lib.ListN.{getD}
 use Rattle.base.specs.Tabulate.{tabulate}
 use Rattle.plan.specs.declared.Zone.{Zone}
 use Rattle.plan.specs.declared.Plan.{Plan}
-use Rattle.plan.specs.declared.ReadPlan.{ReadPlan}
 use Rattle.plan.specs.Zone.{each}
-use Rattle.plan_numbers.specs.declared.ReadNumbers.{ReadNumbers}
 
 -- mode, cell and slots of each place
 abbrev pub threeOf : (zone : Zone) → List ℕ
@@ -25,7 +23,3 @@ placesOf numbers = tabulate 8 (placeIn numbers)
 
 abbrev pub planIn : (count size : ℕ) (numbers : List ℕ) → Plan
 planIn count size numbers = record { count = count; size = size; zones = placesOf numbers }
-
--- an answer of `plan::read`, its plan in numbers
-abbrev pub readNumbers : (answer : ReadPlan) → ReadNumbers
-readNumbers answer = record { refusal = answer .refusal; count = answer .plan .count; size = answer .plan .size; zones = numbersOf (answer .plan .zones) }

@@ -2,20 +2,11 @@
 use plan::Plan;
 use plan::Zone;
 ghost use mathlib.Core.Path.{_≡_};
-ghost use Rattle.plan.specs.Read.{planOf, answered};
-ghost use Rattle.plan_numbers.specs.Numbers.{numbersOf, placesOf, planIn, readNumbers};
+ghost use Rattle.plan_numbers.specs.Numbers.{numbersOf, placesOf, planIn};
 ghost use Rattle.plan_numbers.specs.Model.{AllSmall};
 
-// The refusal, or 0 and the plan; with a refusal all else is zero.
-pub struct ReadNumbers {
-    pub refusal: u32,
-    pub count: u32,
-    pub size: u32,
-    pub zones: [u32; 24],
-}
-
-// Mode, cell and slots of each place.
-fn numbers(zones: [Zone; 8]) -> [u32; 24]
+// Mode, cell and slots of each place, as of a plan that was read.
+pub fn numbers(zones: [Zone; 8]) -> [u32; 24]
     requires { ⌜ AllSmall zones ⌝ }
     ensures { λ r. ⌜ r ≡ numbersOf zones ⌝ }
 {
@@ -56,22 +47,6 @@ fn places(numbers: &[u32; 24]) -> [Zone; 8]
         k += 1;
     }
     zones
-}
-
-// The plan that the bytes are, in numbers, or the first refusal.
-pub fn read(bytes: &[u8]) -> ReadNumbers
-    ensures { λ r. ⌜ r ≡ readNumbers (answered (planOf (now (bytes .entry)))) ⌝ }
-{
-    let answer = plan::read(bytes);
-    let plan = answer.plan;
-    let zones = plan.zones;
-    let row = numbers(zones);
-    ReadNumbers {
-        refusal: answer.refusal as u32,
-        count: plan.count as u32,
-        size: plan.size as u32,
-        zones: row,
-    }
 }
 
 // The plan of a count, a size and 24 numbers.

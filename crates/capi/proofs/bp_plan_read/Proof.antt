@@ -1,5 +1,7 @@
--- `capi::bp_plan_read` meets its contract.
+-- `capi::bp_plan_read` meets its contract: what was read is small enough for 32 bits.
+use native.Mathlib.Omega.{arith}
 use borrow.Author.Needs.{needs}
+use Rattle.plan_numbers.proofs.Laws.{read-small}
 use Rattle.capi.proofs.Plan.{read-no, read-yes}
 use Rattle.capi.proofs.bp_plan_read.Statement.{statement}
 use Rattle.capi.proofs.bp_plan_read.Tie as tie
@@ -9,5 +11,9 @@ bp-plan-read-spec =
     tie.close
     (tie.spec
     (λ c κs. search needs)
-    (λ c. read-no _ _ (c .before .before .read .ensures) _ _ _ (c .if1 .taken))
-    (λ c. read-yes _ _ (c .before .before .before .read .ensures) _ _ _ (c .before .if1 .left)))
+    (λ c. search needs)
+    (λ c. read-no _ _ (c .before .before .before .read .ensures) _ _ _ (c .before .if1 .taken))
+    (λ c. omega (arith, read-small _ _ (c .before .before .before .before .before .read .ensures) .count-is))
+    (λ c. omega (arith, read-small _ _ (c .before .before .before .before .before .before .read .ensures) .size-is))
+    (λ c κs. read-small _ _ (c .before .before .before .before .before .before .read .ensures) .zones-are)
+    (λ c. read-yes _ _ (c .before .before .before .before .before .before .before .read .ensures) _ _ _ _ (c .before .before .before .before .before .if1 .left) (c .numbers .ensures)))
