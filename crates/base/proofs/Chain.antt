@@ -1,10 +1,10 @@
 -- A chain of questions: what it does to the answer that comes after it.
-use mathlib.Core.Path.{_≡_, refl}
+use mathlib.Core.Path.{_≡_, refl, sym}
 use mathlib.Core.Bool.{Bool, true, false}
 use Prim.Native.Nat.{ℕ, suc}
 use native.Mathlib.Omega.{arith}
 use lib.Dec.{eqb}
-use borrow.Author.Tests.{eq-eqb, ne-eqb}
+use borrow.Author.Tests.{eq-eqb, ne-eqb, eqb-true}
 use Rattle.base.specs.Choice.{pick}
 use Rattle.base.specs.Answer.{Answer, accepted, refused, ask, refusalOf}
 use Rattle.base.proofs.Test.{cases}
@@ -48,3 +48,14 @@ question false k e = record { is = rw (ne-eqb (suc k) 0 (λ z. omega arith)) }
 pub number-yes : {A : Type 0} (b : Bool) (k : ℕ) (rest : Answer A) → refusalOf (ask b (suc k) rest) ≡ 0 → (b ≡ true) × (refusalOf rest ≡ 0)
 number-yes true k rest e = (refl, e)
 number-yes false k rest e = absurd (omega arith)
+
+-- the number of a chain before an accepted answer is the chain's own
+pub number-is : {A : Type 0} (n : ℕ) (a : A) → refusalOf (numbered n (accepted a)) ≡ n
+number-is n a = cases (eqb n 0) (λ e. rw e (sym (eqb-true n 0 e))) (λ e. rw e)
+
+-- where it is accepted, the number is 0
+pub number-none : {A : Type 0} (n : ℕ) (rest : Answer A) {a : A} → numbered n rest ≡ accepted a → (n ≡ 0) × (rest ≡ accepted a)
+number-none n rest e =
+    cases (eqb n 0)
+    (λ t. (eqb-true n 0 t, rw t at e))
+    (λ t. absurd (let h = rw t at e in let z : _≡_ {A = ℕ} 0 1 = cc in omega arith))

@@ -7,10 +7,11 @@ use native.Mathlib.Omega.{arith}
 use lib.ListN.{length}
 use lib.Ieee.{Float}
 use Rattle.base.specs.Answer.{Answer, accepted, refused, refusalOf}
+use Rattle.base.proofs.Chain.{number-is}
 use Rattle.map.specs.declared.Setup.{Setup}
 use Rattle.map.specs.Mode.{subchannels, symbols}
 use Rattle.map.specs.Place.{Content, guard, dc, pilot, point, locateOf}
-use Rattle.map.proofs.ByMode.{symbols-range}
+use Rattle.map.proofs.ByMode.{few}
 use Rattle.map.proofs.Law.{locating, located-where-placed, in-own-slot}
 use Rattle.points.specs.declared.Point.{Point}
 use Rattle.points.specs.Points.{pointAt}
@@ -19,7 +20,7 @@ use Rattle.lengths.specs.Length.{gridPoints}
 use Rattle.lengths.specs.Question.{askSlot}
 use Rattle.lengths.specs.Model.{slotRefusal}
 use Rattle.lengths.proofs.Length.{lengths-listed}
-use Rattle.lengths.proofs.Refusal.{SlotAccepted, number-is, slot-numbered, slot-accepted, slot-passes}
+use Rattle.lengths.proofs.Refusal.{SlotAccepted, slot-numbered, slot-accepted, slot-passes}
 use Rattle.grid.specs.Row.{position}
 use Rattle.grid.specs.Grid.{Outcome, outcome, contentAt, pointNumber, held, filled, standsAt, emptied, emptyOf, fillOf, sight, lookOf}
 use Rattle.grid.specs.Model.{sightOf}
@@ -76,7 +77,7 @@ module _ (setup : Setup) (slot : ℕ) (p : Point) (points old grid : List Float)
     point-there =
         let q = locating setup symbol carrier a in
         let r : slot * symbols setup + row ≡ symbol = ap (λ (t : ℕ). t * symbols setup + row) (sym own) ∙ div-add-mod' symbol (symbols setup) in
-        holds (position setup row carrier) (position-lt setup row carrier (q .carrier-below) (mod-lt symbol (symbols-range (accepts .valid) .0)))
+        holds (position setup row carrier) (position-lt setup row carrier (q .carrier-below) (mod-lt symbol (few (accepts .valid) .symbols-pos)))
         ∙ ap (held p points) (rw (row-position setup row carrier (q .carrier-below), column-position setup row carrier (q .carrier-below), r) (q .content-is))
 
     looked : lookOf setup symbol grid carrier ≡ accepted (sight (held p points w) w)

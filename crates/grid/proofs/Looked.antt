@@ -7,7 +7,7 @@ use lib.ListN.{length}
 use lib.Ieee.{Float}
 use borrow.Author.Tests.{eq-eqb, ne-eqb}
 use Rattle.base.specs.Answer.{Answer, accepted, refused, ask, refusalOf}
-use Rattle.base.proofs.Chain.{ask-yes, same-accepted, numbered, yes-all, no-first, no-question, question}
+use Rattle.base.proofs.Chain.{ask-yes, same-accepted, numbered, yes-all, no-first, no-question, question, number-is, number-none}
 use Rattle.map.specs.declared.Setup.{Setup}
 use Rattle.map.specs.Mode.{symbols}
 use Rattle.map.specs.Question.{askSetup, isMode, isSize, isCell, isSymbol, isCarrier}
@@ -18,7 +18,6 @@ use Rattle.points.specs.declared.Point.{Point}
 use Rattle.points.specs.Points.{pointAt}
 use Rattle.lengths.specs.Length.{gridPoints}
 use Rattle.lengths.specs.Question.{isGrid}
-use Rattle.lengths.proofs.Refusal.{number-is, number-none}
 use Rattle.grid.specs.Row.{position}
 use Rattle.grid.specs.Grid.{Sight, data-with, sight, lookOf}
 use Rattle.grid.specs.Model.{sightOf}

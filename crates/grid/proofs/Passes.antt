@@ -10,7 +10,7 @@ use Rattle.map.specs.declared.Setup.{Setup}
 use Rattle.map.specs.Mode.{subchannels}
 use Rattle.map.specs.Place.{Content, guard, dc, pilot, point}
 use Rattle.map.specs.Valid.{Valid}
-use Rattle.map.proofs.ByMode.{subchannels-few}
+use Rattle.map.proofs.ByMode.{few}
 use Rattle.points.specs.declared.Point.{Point}
 use Rattle.points.specs.Points.{pointAt}
 use Rattle.points.specs.Model.{puts}
@@ -94,7 +94,7 @@ pub record SlotTurn (setup : Setup) (slot points grid : ℕ) (place : ℕ → �
 
 pub slot-start : {setup : Setup} {slot points grid : ℕ} {place : ℕ → ℕ} {source : ℕ → Point} {dest₀ : List Float} → SlotAccepted setup slot points grid
     → (n : ℕ) → n ≡ subchannels setup → SlotTurn setup slot points grid place source n dest₀ dest₀ 0
-slot-start a n e = record { fits = a; n-is = e; few = rw e (subchannels-few (a .valid)); put = putting-none _ _ _ _ }
+slot-start a n e = record { fits = a; n-is = e; few = rw e (few (a .valid) .subchannels-few); put = putting-none _ _ _ _ }
 
 module _ {setup : Setup} {slot points grid : ℕ} {place : ℕ → ℕ} {source : ℕ → Point} {n : ℕ} {dest₀ dest : List Float} {s : ℕ}
     (t : SlotTurn setup slot points grid place source n dest₀ dest s) where

@@ -3,18 +3,16 @@ use mathlib.Core.Path.{_≡_, refl, sym, ap, _∙_}
 use Prim.Native.Nat.{ℕ, _*_, _<_, _≤_}
 use native.Mathlib.Nat.{mul-le-mul}
 use native.Mathlib.Omega.{arith}
-use lib.Dec.{eqb}
 use borrow.Author.Tests.{lt-ltb, le-ltb, eq-eqb, ne-eqb, ltb-true, eqb-true}
 use Rattle.base.specs.Answer.{Answer, accepted, refused, refusalOf}
-use Rattle.base.proofs.Test.{cases}
-use Rattle.base.proofs.Chain.{numbered, no-first, no-question, question, number-yes}
+use Rattle.base.proofs.Chain.{numbered, no-first, no-question, question, number-yes, number-is, number-none}
 use Rattle.map.specs.declared.Setup.{Setup}
 use Rattle.map.specs.Mode.{subchannels, symbols}
 use Rattle.map.specs.Question.{isMode, isSize, isCell, isSlot}
 use Rattle.map.specs.Model.{setupRefusal}
 use Rattle.map.specs.Valid.{Valid}
 use Rattle.map.proofs.Accept.{valid, passes, refused-number}
-use Rattle.map.proofs.ByMode.{symbols-range, size-few}
+use Rattle.map.proofs.ByMode.{few}
 use Rattle.lengths.specs.Length.{gridPoints}
 use Rattle.lengths.specs.Question.{arePoints, isGrid, askSlot}
 use Rattle.lengths.specs.Model.{slotRefusal}
@@ -22,22 +20,11 @@ use Rattle.lengths.specs.Model.{slotRefusal}
 -- a slot's grid is small
 pub grid-few : {setup : Setup} → Valid setup → gridPoints setup ≤ 6144
 unfolding gridPoints
-grid-few {setup} v = mul-le-mul {n₁ = symbols setup} {m₁ = setup .size} {n₂ = 3} {m₂ = 2048} (symbols-range v .1) (size-few v)
+grid-few {setup} v = mul-le-mul {n₁ = symbols setup} {m₁ = setup .size} {n₂ = 3} {m₂ = 2048} (few v .symbols-few) (few v .size-few)
 
 pub grid-is : {setup : Setup} → Valid setup → (n : ℕ) → n ≡ symbols setup → (n * setup .size ≡ gridPoints setup) × (n * setup .size < 65536)
 unfolding gridPoints
 grid-is v n e = let few = grid-few v in rw e (refl, omega arith)
-
--- the number of a chain before an accepted answer is the chain's own
-pub number-is : {A : Type 0} (n : ℕ) (a : A) → refusalOf (numbered n (accepted a)) ≡ n
-number-is n a = cases (eqb n 0) (λ e. rw e (sym (eqb-true n 0 e))) (λ e. rw e)
-
--- where it is accepted, the number is 0
-pub number-none : {A : Type 0} (n : ℕ) (rest : Answer A) {a : A} → numbered n rest ≡ accepted a → (n ≡ 0) × (rest ≡ accepted a)
-number-none n rest e =
-    cases (eqb n 0)
-    (λ t. (eqb-true n 0 t, rw t at e))
-    (λ t. absurd (let h = rw t at e in let z : _≡_ {A = ℕ} 0 1 = cc in omega arith))
 
 module _ (setup : Setup) (slot points grid : ℕ) where
   -- question by question

@@ -223,18 +223,3 @@ module _ {c : Setup} (v : Valid c) (y u : ℕ) (hu : u < band c .used) (np : isP
         rw e (bin-width v (λ z. omega arith) (λ z. omega arith)),
         (rw e (r .cell-lt), rw (e, h) (data-lt y u (mode-2 _ _ _ _ _ _ q ∙ np) (width c) (rw (r .used-are) at hu))),
       )
-
-pub symbols-range : {c : Setup} → Valid c → (0 < symbols c) × (symbols c ≤ 3)
-symbols-range v = (few v .symbols-pos, few v .symbols-few)
-
-pub size-few : {c : Setup} → Valid c → c .size ≤ 2048
-size-few v = few v .size-few
-
-pub subchannels-few : {c : Setup} → Valid c → subchannels c ≤ 70
-subchannels-few v = few v .subchannels-few
-
-pub left-few : {c : Setup} → Valid c → band c .left ≤ 184
-left-few v = few v .left-few
-
-pub used-few : {c : Setup} → Valid c → band c .used ≤ 1728
-used-few v = few v .used-few

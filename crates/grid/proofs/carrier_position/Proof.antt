@@ -3,7 +3,7 @@ use mathlib.Core.Path.{refl}
 use native.Mathlib.Nat.{mod-lt}
 use native.Mathlib.Omega.{arith}
 use borrow.Author.Needs.{needs}
-use Rattle.map.proofs.ByMode.{symbols-range}
+use Rattle.map.proofs.ByMode.{few}
 use Rattle.lengths.proofs.Refusal.{grid-few}
 use Rattle.grid.proofs.Slot.{position-is}
 use Rattle.grid.proofs.carrier_position.Statement.{statement}
@@ -12,7 +12,7 @@ use Rattle.grid.proofs.carrier_position.Tie as tie
 returns : tie.Need-returns
 returns c =
     let start = c .before .before in
-    position-is (start .pre .0) _ _ (mod-lt (start .args .symbol) (symbols-range (start .pre .0) .0)) (start .pre .1) _ _ (c .before .offset-of .ensures) refl
+    position-is (start .pre .0) _ _ (mod-lt (start .args .symbol) (few (start .pre .0) .symbols-pos)) (start .pre .1) _ _ (c .before .offset-of .ensures) refl
 
 mul-result : tie.Need-mul-result
 mul-result c = omega (arith, grid-few (c .before .before .pre .0), returns c)

@@ -3,7 +3,7 @@ use mathlib.Core.Path.{sym, _∙_}
 use Prim.Native.Nat.{_-_}
 use native.Mathlib.Omega.{arith}
 use borrow.Author.Needs.{needs}
-use Rattle.map.proofs.ByMode.{symbols-range}
+use Rattle.map.proofs.ByMode.{few}
 use Rattle.grid.proofs.Pilots.{GroundTurn, ground-start, ground-asks, ground-next, ground-done}
 use Rattle.grid.proofs.ground.Statement.{statement}
 use Rattle.grid.proofs.ground.Tie as tie
@@ -17,7 +17,7 @@ abbrev μ-loop : tie.MeasureT-loop
 add-row : tie.Need-add-row Inv-loop μ-loop
 add-row c =
     let turn = c .before .before .before .before .before .loop .inv in
-    omega (arith, symbols-range (turn .valid), turn .rows-are, c .before .before .before .before .loop-test .taken)
+    omega (arith, few (turn .valid), turn .rows-are, c .before .before .before .before .loop-test .taken)
 
 pub ground-spec : {M : Type 1} → statement M
 ground-spec =

@@ -1,16 +1,16 @@
 -- `grid::lay` meets its contract.
 use native.Mathlib.Omega.{arith}
 use borrow.Author.Needs.{needs}
-use Rattle.map.proofs.ByMode.{subchannels-few}
+use Rattle.map.proofs.ByMode.{few}
 use Rattle.grid.proofs.Slot.{row-asks, row-laid}
 use Rattle.grid.proofs.lay.Statement.{statement}
 use Rattle.grid.proofs.lay.Tie as tie
 
 shift-requires : tie.Need-shift-requires
-shift-requires c κs = omega (arith, c .before .before .before .pre .1 .0 .0, subchannels-few (c .before .before .before .pre .0))
+shift-requires c κs = omega (arith, c .before .before .before .pre .1 .0 .0, few (c .before .before .before .pre .0))
 
 mul-lay-row : tie.Need-mul-lay-row
-mul-lay-row c = omega (arith, c .before .before .before .before .before .pre .1 .0 .0, subchannels-few (c .before .before .before .before .before .pre .0))
+mul-lay-row c = omega (arith, c .before .before .before .before .before .pre .1 .0 .0, few (c .before .before .before .before .before .pre .0))
 
 lay-row-requires : tie.Need-lay-row-requires
 lay-row-requires c κs =

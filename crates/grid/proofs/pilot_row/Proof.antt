@@ -3,7 +3,7 @@ use mathlib.Core.Path.{sym, _∙_}
 use Prim.Native.Nat.{_-_, _*_}
 use native.Mathlib.Omega.{arith}
 use borrow.Author.Needs.{needs}
-use Rattle.map.proofs.ByMode.{slot-few, symbols-range}
+use Rattle.map.proofs.ByMode.{slot-few, few}
 use Rattle.grid.proofs.Pilots.{RowTurn, row-start, turn-long, first-asks, second-asks, two-more, row-done}
 use Rattle.grid.proofs.pilot_row.Statement.{statement}
 use Rattle.grid.proofs.pilot_row.Tie as tie
@@ -22,7 +22,7 @@ mul-pilot-comb c =
 add-pilot-comb : tie.Need-add-pilot-comb Inv-loop μ-loop
 add-pilot-comb c =
     let start = c .before .before in
-    omega (arith, symbols-range (start .pre .0), slot-few (start .pre .0) (start .args .slot) (c .symbols .result) (start .pre .1 .0) (c .symbols .ensures))
+    omega (arith, few (start .pre .0), slot-few (start .pre .0) (start .args .slot) (c .symbols .result) (start .pre .1 .0) (c .symbols .ensures))
 
 loop-holds : tie.Need-loop-holds Inv-loop μ-loop
 loop-holds c =

@@ -2,7 +2,7 @@
 use mathlib.Core.Path.{ap, _∙_}
 use native.Mathlib.Omega.{arith}
 use borrow.Author.Needs.{needs}
-use Rattle.map.proofs.ByMode.{row-few, left-few, used-few}
+use Rattle.map.proofs.ByMode.{row-few, few}
 use Rattle.points.specs.Model.{putPoint}
 use Rattle.lengths.proofs.Refusal.{grid-few}
 use Rattle.grid.proofs.Slot.{used-position-is}
@@ -15,7 +15,7 @@ mul-place c = let start = c .before .before in omega (arith, row-few (start .pre
 carrier-requires : tie.Need-carrier-requires
 carrier-requires c κs =
     let start = c .before .before .before in
-    (rw (c .band .ensures) (omega (arith, left-few (start .pre .0))), omega (arith, used-few (start .pre .0)))
+    (rw (c .band .ensures) (omega (arith, few (start .pre .0))), omega (arith, few (start .pre .0)))
 
 add-place : tie.Need-add-place
 add-place c =

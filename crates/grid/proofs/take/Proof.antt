@@ -1,16 +1,16 @@
 -- `grid::take` meets its contract.
 use native.Mathlib.Omega.{arith}
 use borrow.Author.Needs.{needs}
-use Rattle.map.proofs.ByMode.{subchannels-few}
+use Rattle.map.proofs.ByMode.{few}
 use Rattle.grid.proofs.Slot.{row-asks, row-taken}
 use Rattle.grid.proofs.take.Statement.{statement}
 use Rattle.grid.proofs.take.Tie as tie
 
 shift-requires : tie.Need-shift-requires
-shift-requires c κs = omega (arith, c .before .before .before .pre .1 .0 .0, subchannels-few (c .before .before .before .pre .0))
+shift-requires c κs = omega (arith, c .before .before .before .pre .1 .0 .0, few (c .before .before .before .pre .0))
 
 mul-take-row : tie.Need-mul-take-row
-mul-take-row c = omega (arith, c .before .before .before .before .before .pre .1 .0 .0, subchannels-few (c .before .before .before .before .before .pre .0))
+mul-take-row c = omega (arith, c .before .before .before .before .before .pre .1 .0 .0, few (c .before .before .before .before .before .pre .0))
 
 take-row-requires : tie.Need-take-row-requires
 take-row-requires c κs =

@@ -2,7 +2,7 @@
 use mathlib.Core.Path.{refl}
 use native.Mathlib.Omega.{arith}
 use borrow.Author.Needs.{needs}
-use Rattle.map.proofs.ByMode.{subchannels-few}
+use Rattle.map.proofs.ByMode.{few}
 use Rattle.map.proofs.Outcome.{now-valid}
 use Rattle.lengths.specs.Length.{pointsLength}
 use Rattle.lengths.proofs.Length.{unlisted, listed}
@@ -10,7 +10,7 @@ use Rattle.lengths.proofs.points_length.Statement.{statement}
 use Rattle.lengths.proofs.points_length.Tie as tie
 
 mul-result : tie.Need-mul-result
-mul-result c = omega (arith, subchannels-few (now-valid _ _ (c .before .before .refusal .ensures) (c .before .if1 .left)))
+mul-result c = omega (arith, few (now-valid _ _ (c .before .before .refusal .ensures) (c .before .if1 .left)))
 
 pub points-length-spec : {M : Type 1} → statement M
 unfolding pointsLength

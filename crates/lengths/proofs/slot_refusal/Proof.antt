@@ -1,14 +1,14 @@
 -- `lengths::slot_refusal` meets its contract.
 use native.Mathlib.Omega.{arith}
 use borrow.Author.Needs.{needs}
-use Rattle.map.proofs.ByMode.{subchannels-few}
+use Rattle.map.proofs.ByMode.{few}
 use Rattle.map.proofs.Outcome.{now-valid}
 use Rattle.lengths.proofs.Refusal.{slot-setup, slot-4, slot-8, slot-9, slot-0}
 use Rattle.lengths.proofs.slot_refusal.Statement.{statement}
 use Rattle.lengths.proofs.slot_refusal.Tie as tie
 
 mul-if3 : tie.Need-mul-if3
-mul-if3 c = omega (arith, subchannels-few (now-valid _ _ (c .before .before .before .refusal .ensures) (c .before .before .if1 .left)))
+mul-if3 c = omega (arith, few (now-valid _ _ (c .before .before .before .refusal .ensures) (c .before .before .if1 .left)))
 
 pub slot-refusal-spec : {M : Type 1} → statement M
 slot-refusal-spec =
