@@ -18,10 +18,6 @@ pub size-pos : (g : ℕ) → 0 < groupSize g
 unfolding groupSize
 size-pos g = cases (eqb (g % 2) 0) (λ e. rw e (lit< tt)) (λ e. rw e (lit< tt))
 
-pub size-le : (g : ℕ) → groupSize g ≤ 12
-unfolding groupSize
-size-le g = cases (eqb (g % 2) 0) (λ e. rw e (omega arith)) (λ e. rw e (omega arith))
-
 -- a size that is not 12 is 8
 pub size-8 : (g size : ℕ) → size ≡ groupSize g → (size ≡ 12 → ⊥) → groupSize g ≡ 8
 unfolding groupSize
