@@ -1,6 +1,8 @@
 -- Tests that are computed, and facts from them.
 use mathlib.Core.Path.{_≡_, refl}
 use mathlib.Core.Bool.{Bool, true, false, not}
+use Prim.Native.Nat.{ℕ}
+use native.Mathlib.Omega.{arith}
 use lib.Dec.{T}
 
 abbrev pub both : Bool → Bool → Bool
@@ -23,3 +25,6 @@ cases false f g = g refl
 pub failed : (b : Bool) → T (not b) → b ≡ false
 failed true t = absurd t
 failed false t = refl
+
+pub true-false : true ≡ false → ⊥
+true-false e = let z : _≡_ {A = ℕ} 0 1 = cc in omega arith

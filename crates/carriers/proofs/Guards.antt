@@ -7,7 +7,7 @@ use lib.Dec.{ltb, leb}
 use borrow.Author.Tests.{le-ltb, lt-leb, ne-eqb, ltb-false, leb-false, eqb-false}
 use Rattle.base.specs.Choice.{pick}
 use Rattle.base.specs.Steps.{skip, unskip}
-use Rattle.base.proofs.Test.{cases}
+use Rattle.base.proofs.Test.{cases, true-false}
 use Rattle.base.proofs.LeaveOut.{unskip-skip, skip-unskip, skip-ne, skip-lt, unskip-lt}
 use Rattle.carriers.specs.declared.Band.{Band}
 use Rattle.carriers.specs.Band.{binBand, puscBand, carrierOf, usedOf, isGuard, isDc}
@@ -34,9 +34,6 @@ guard-cases b size carrier g =
     cases (ltb carrier (b .left))
     (λ e. absurd (true-false (sym (ap (λ t. pick t true (leb (size - b .right) carrier)) e) ∙ g)))
     (λ e. (ltb-false carrier (b .left) e, leb-false (size - b .right) carrier (sym (ap (λ t. pick t true (leb (size - b .right) carrier)) e) ∙ g)))
-  where
-    true-false : true ≡ false → ⊥
-    true-false e = let z : _≡_ {A = ℕ} 0 1 = cc in omega arith
 
 module _ (b : Band) (size : ℕ) (law : BandLaw b size) where
   -- a used number's carrier

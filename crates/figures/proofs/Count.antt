@@ -11,7 +11,7 @@ use lib.ListN.{length, take, drop, length-take, length-drop, take-append-drop, L
 use lib.Seq.{getD-take, getD-drop, drop-drop}
 use borrow.Author.Tests.{eqb-true, eqb-false, ne-eqb, ltb-true, ltb-false}
 use Rattle.base.specs.Tabulate.{tabulate}
-use Rattle.base.proofs.Test.{cases}
+use Rattle.base.proofs.Test.{cases, true-false}
 use Rattle.base.proofs.Tabulate.{length-tabulate, getD-tabulate}
 use Rattle.collision.specs.Collision.{countOf}
 use Rattle.collision.proofs.Count.{one}
@@ -46,9 +46,6 @@ unfolding countOf
 no-three [] h = omega arith
 no-three (false ∷ hits) h = omega (arith, no-three hits (λ i j m l g. h (suc i) (suc j) (suc m) (omega arith) (omega arith)))
 no-three (true ∷ hits) h = omega (arith, no-two hits (λ i j l. h 0 (suc i) (suc j) (omega arith) (omega arith) refl))
-
-true-false : true ≡ false → ⊥
-true-false e = let z : _≡_ {A = ℕ} 0 1 = cc in omega arith
 
 -- where a mark is set within a row, it is set in the whole
 pub marked-in-row : (many k : ℕ) (hits : List Bool) (i : ℕ) → Marked (inRow many k hits) i → (i < many) × Marked hits (k + i)

@@ -8,7 +8,7 @@ use lib.Arith.{digits-mod, digits-lt}
 use lib.Dec.{eqb, lit<}
 use borrow.Author.Tests.{eq-eqb, eqb-true}
 use Rattle.base.specs.Choice.{pick}
-use Rattle.base.proofs.Test.{cases}
+use Rattle.base.proofs.Test.{cases, true-false}
 use Rattle.carriers.specs.Bin.{isBinPilot, binPilotPlace}
 use Rattle.pusc_dl.specs.Cluster.{isClusterPilot, firstPilot, secondPilot}
 use Rattle.pusc_ul.specs.Tile.{isTilePilot}
@@ -88,9 +88,6 @@ none-law b e used is-pilot none =
       number-is = λ j h. absurd (omega arith);
       pilot-is = λ u h t. absurd (true-false (sym t ∙ none u));
     }
-  where
-    true-false : true ≡ false → ⊥
-    true-false e = let z : _≡_ {A = ℕ} 0 1 = cc in omega arith
 
 same-twice : (b : Bool) → b ≡ pick b true b
 same-twice true = refl
