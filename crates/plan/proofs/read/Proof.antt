@@ -41,9 +41,10 @@ read-spec =
     (λ c κs. search needs) (λ c. search needs) (λ c κs. search needs) (λ c. search needs) (λ c κs. search needs)
     (λ c κs. search needs)
     (λ c.
-    let first = c .before .before .before .before .before .before .before in
+    let second = c .before .before .before .before in
+    let first = second .before .before .before in
     let size = sym (c .before .before .is-four-sizes .ensures) ∙ not-true _ (c .before .if3 .taken) in
-    rw (c .refused5 .ensures, ← first .before .before .before .before .before .read .ensures, first .before .before .before .count .given .1, good _ (first .before .if1 .left) (first .if2 .left), ← c .before .before .before .before .before .before .read2 .ensures, c .before .before .before .before .size .given .1, size))
+    rw (c .refused5 .ensures, ← first .before .before .before .before .before .read .ensures, first .before .before .before .count .given .1, good _ (first .before .if1 .left) (first .if2 .left), ← second .before .before .read2 .ensures, second .size .given .1, size))
     add-next
     (λ c κs. search needs)
     (λ c. rw (c .refused .ensures, ← c .before .before .before .before .read .ensures, c .before .before .number .given .1))
@@ -51,6 +52,7 @@ read-spec =
     let first = c .before .before .before .before .before in
     rw (c .refused4 .ensures, ← first .before .before .before .before .before .read .ensures, first .before .before .before .count .given .1, good _ (first .before .if1 .left) (first .if2 .left), ← c .before .before .before .before .read2 .ensures, c .before .before .number2 .given .1))
     (λ c.
-    let first = c .before .before .before .before .before .before .before in
+    let second = c .before .before .before .before in
+    let first = second .before .before .before in
     let size = sym (c .before .before .is-four-sizes .ensures) ∙ not-false _ (c .before .if3 .left) in
-    rw (c .zones-at .ensures, ← first .before .before .before .before .before .read .ensures, first .before .before .before .count .given .1, good _ (first .before .if1 .left) (first .if2 .left), ← c .before .before .before .before .before .before .read2 .ensures, c .before .before .before .before .size .given .1, size, drop-drop)))
+    rw (c .zones-at .ensures, ← first .before .before .before .before .before .read .ensures, first .before .before .before .count .given .1, good _ (first .before .if1 .left) (first .if2 .left), ← second .before .before .read2 .ensures, second .size .given .1, size, drop-drop)))
