@@ -1,12 +1,12 @@
--- Elements with digits below 7: their numbers in base seven, and addition, which is a rotation of each digit.
+-- Elements with twoDigits below 7: their numbers in base seven, and addition, which is a rotation of each digit.
 use mathlib.Core.Path.{_≡_, sym, ap, _∙_}
 use Prim.Native.Nat.{ℕ, _+_, _/_, _%_, _<_}
 use native.Mathlib.Omega.{arith}
 use lib.Dec.{lit<}
 use Rattle.base.proofs.Perm.{rotation}
-use Rattle.amc.specs.Element.{Element, element, baseSeven, digits, add, subtract}
+use Rattle.amc.specs.Element.{Element, element, baseSeven, twoDigits, add, subtract}
 
--- both digits are 0..6
+-- both twoDigits are 0..6
 pub record Proper (e : Element) : Type 0 where
   pub high-lt : e .high < 7
   pub low-lt : e .low < 7
@@ -14,13 +14,13 @@ pub record Proper (e : Element) : Type 0 where
 pub number-lt : (e : Element) → Proper e → baseSeven e < 49
 number-lt e p = omega arith
 
-pub digits-proper : (x : ℕ) → x < 49 → Proper (digits x)
+pub digits-proper : (x : ℕ) → x < 49 → Proper (twoDigits x)
 digits-proper x h = omega arith
 
-pub number-digits : (x : ℕ) → baseSeven (digits x) ≡ x
+pub number-digits : (x : ℕ) → baseSeven (twoDigits x) ≡ x
 number-digits x = omega arith
 
-pub digits-number : (e : Element) → Proper e → digits (baseSeven e) ≡ e
+pub digits-number : (e : Element) → Proper e → twoDigits (baseSeven e) ≡ e
 digits-number e p = λ i. element (high i) (low i)
   where
     high : baseSeven e / 7 ≡ e .high
@@ -30,7 +30,7 @@ digits-number e p = λ i. element (high i) (low i)
     low = omega arith
 
 pub same-number : (a b : Element) → Proper a → Proper b → baseSeven a ≡ baseSeven b → a ≡ b
-same-number a b p q e = sym (digits-number a p) ∙ ap digits e ∙ digits-number b q
+same-number a b p q e = sym (digits-number a p) ∙ ap twoDigits e ∙ digits-number b q
 
 pub add-proper : (x o : Element) → Proper (add x o)
 unfolding add

@@ -8,7 +8,7 @@ use Rattle.base.specs.Steps.{entry, unrotate}
 use Rattle.base.proofs.Perm.{Perm, rotation}
 use Rattle.carriers.specs.Law.{NumberLaw}
 use Rattle.amc.specs.Table.{positions}
-use Rattle.amc.specs.Element.{Element, baseSeven, digits, add, subtract, sequence}
+use Rattle.amc.specs.Element.{Element, baseSeven, twoDigits, add, subtract, sequence}
 use Rattle.amc.specs.Map.{off, zeroRule, sumOf, elementOf, traffic, indexOf, dataNumber, addressOf}
 use Rattle.amc.proofs.Digit.{Proper, number-lt, digits-proper, digits-number, add-proper, subtract-proper, subtract-add, add-subtract, added-differs, subtracted-differs}
 use Rattle.amc.proofs.Tables.{powers, position-lt, at-position}
@@ -66,7 +66,7 @@ module _ (cell : ℕ) (range : cell < 2352) where
   index-traffic j h =
       let x = sequence (turn j) in
       let q = powers (turn j) (turn-lt j) in
-      ap (λ (v : ℕ). index (digits v)) (traffic-number j)
+      ap (λ (v : ℕ). index (twoDigits v)) (traffic-number j)
       ∙ ap index (digits-number (elementOf cell j) (element-proper j))
       ∙ ap (λ (y : Element). unrotate 48 (cell % 48) (entry positions (baseSeven (subtract y o)))) (sum-back o (sum j) (sum-is-proper j) (sum-differs j))
       ∙ ap (λ (y : Element). unrotate 48 (cell % 48) (entry positions (baseSeven y))) (subtract-add x o (q .proper))
@@ -75,7 +75,7 @@ module _ (cell : ℕ) (range : cell < 2352) where
 
   module _ (v : ℕ) (h : v < 48) where
     abbrev pub e : Element
-    e = digits (v + 1)
+    e = twoDigits (v + 1)
 
     abbrev pub y : Element
     y = sumOf o e
@@ -124,9 +124,9 @@ module _ (cell : ℕ) (range : cell < 2352) where
   law n =
       record {
         number-lt = λ a j ha hj. omega (arith, number-is a j, traffic-lt j);
-        found = λ a j ha hj. λ i. record { subchannel = subchannel a j i; index = (ap (indexOf cell) (number-v a j) ∙ index-traffic j hj) i };
+        back = λ a j ha hj. λ i. record { subchannel = subchannel a j i; index = (ap (indexOf cell) (number-v a j) ∙ index-traffic j hj) i };
         names = λ d h. record { subchannel-lt = omega arith; index-lt = traffic-perm .from-lt (d / 8 % 6 * 8 + d % 8) (omega arith) };
-        placed = λ d h. number-is (d / 8 / 6) (indexOf cell (d / 8 % 6 * 8 + d % 8)) ∙ ap (λ (v : ℕ). 48 * (d / 8 / 6) + v) (traffic-index (d / 8 % 6 * 8 + d % 8) (omega arith)) ∙ omega arith;
+        forth = λ d h. number-is (d / 8 / 6) (indexOf cell (d / 8 % 6 * 8 + d % 8)) ∙ ap (λ (v : ℕ). 48 * (d / 8 / 6) + v) (traffic-index (d / 8 % 6 * 8 + d % 8) (omega arith)) ∙ omega arith;
       }
     where
       subchannel : (a j : ℕ) → dataNumber cell a j / 8 / 6 ≡ a

@@ -13,9 +13,9 @@ element a b = record { high = a; low = b }
 abbrev pub baseSeven : (e : Element) → ℕ
 baseSeven e = e .high * 7 + e .low
 
--- a number below 49 as two base-seven digits
-abbrev pub digits : (x : ℕ) → Element
-digits x = element (x / 7) (x % 7)
+-- a number below 49 as two base-seven twoDigits
+abbrev pub twoDigits : (x : ℕ) → Element
+twoDigits x = element (x / 7) (x % 7)
 
 unfoldable pub add : (x y : Element) → Element
 add x y = element ((x .high + y .high) % 7) ((x .low + y .low) % 7)

@@ -2,7 +2,7 @@
 use mathlib.Core.List.{List, [], _∷_}
 use Prim.Native.Nat.{ℕ}
 
--- Document 004, "Basic sequence defined in GF(7²)", in hepta-notation: 22 is the pair of digits 2 and 2.
+-- Document 004, "Basic sequence defined in GF(7²)", in hepta-notation: 22 is the pair of twoDigits 2 and 2.
 abbrev pub sequenceDigits : List ℕ
 sequenceDigits = 1 ∷ 22 ∷ 46 ∷ 52 ∷ 42 ∷ 41 ∷ 26 ∷ 50 ∷ 5 ∷ 33 ∷ 62 ∷ 43 ∷ 63 ∷ 65 ∷ 32 ∷ 40 ∷ 4 ∷ 11 ∷ 23 ∷ 61 ∷ 21 ∷ 24 ∷ 13 ∷ 60 ∷ 6 ∷ 55 ∷ 31 ∷ 25 ∷ 35 ∷ 36 ∷ 51 ∷ 20 ∷ 2 ∷ 44 ∷ 15 ∷ 34 ∷ 14 ∷ 12 ∷ 45 ∷ 30 ∷ 3 ∷ 66 ∷ 54 ∷ 16 ∷ 56 ∷ 53 ∷ 64 ∷ 10 ∷ []
 

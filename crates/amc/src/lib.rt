@@ -1,4 +1,4 @@
-// AMC, six bins by one symbol: pairs of base-seven digits, the sequence P, the zero rule.
+// AMC, six bins by one symbol: pairs of base-seven twoDigits, the sequence P, the zero rule.
 use base::unrotate;
 use base::wide;
 use base::wide16;
@@ -8,7 +8,7 @@ ghost use Prim.Native.Nat.{_+_, _/_, _%_, _<_};
 ghost use Rattle.base.specs.Tabulate.{tabulate};
 ghost use Rattle.base.specs.Model.{Starts};
 ghost use Rattle.amc.specs.Table.{sequenceDigits};
-ghost use Rattle.amc.specs.Element.{element, baseSeven, digits, subtract};
+ghost use Rattle.amc.specs.Element.{element, baseSeven, twoDigits, subtract};
 ghost use Rattle.amc.specs.Map.{sumOf, traffic as Traffic, indexOf, dataNumber, addressOf};
 ghost use Rattle.amc.specs.Model.{sumPlace, sequencePlace, sequenceNumber};
 
@@ -117,7 +117,7 @@ const POSITIONS: [u8; 49] = [
     41,
 ];
 
-// The sum of two digits, modulo 7.
+// The sum of two twoDigits, modulo 7.
 fn digit_sum(a: u16, b: u16) -> u16
     requires { ⌜ (a < 7) × (b < 7) ⌝ }
     ensures { λ r. ⌜ (r ≡ (a + b) % 7) × (r < 7) ⌝ }
@@ -125,7 +125,7 @@ fn digit_sum(a: u16, b: u16) -> u16
     if a + b < 7 { a + b } else { a + b - 7 }
 }
 
-// v of the entry x of P, two digits, under the offset whose digits are high and low: the sum, or the offset itself where
+// v of the entry x of P, two twoDigits, under the offset whose twoDigits are high and low: the sum, or the offset itself where
 // that sum is zero.
 fn sum_place(high: u16, low: u16, x: u16) -> u16
     requires { ⌜ (high < 7) × (low < 7) × (x / 10 < 7) × (x % 10 < 7) × (0 < x) ⌝ }
@@ -158,7 +158,7 @@ fn traffic(cell: usize, j: usize) -> usize
 // The difference of two elements, all three read in base seven.
 fn difference(x: usize, o: usize) -> usize
     requires { ⌜ x < 49 ⌝ }
-    ensures { λ r. ⌜ (r ≡ baseSeven (subtract (digits x) (digits o))) × (r < 49) ⌝ }
+    ensures { λ r. ⌜ (r ≡ baseSeven (subtract (twoDigits x) (twoDigits o))) × (r < 49) ⌝ }
 {
     unrotate(7, o / 7, x / 7) * 7 + unrotate(7, o % 7, x % 7)
 }
@@ -166,7 +166,7 @@ fn difference(x: usize, o: usize) -> usize
 // The reverse: the entry of P that gives the element e under the offset o, all three read in base seven.
 fn entry_of(o: usize, e: usize) -> usize
     requires { ⌜ e < 49 ⌝ }
-    ensures { λ r. ⌜ (r ≡ baseSeven (subtract (sumOf (digits o) (digits e)) (digits o))) × (r < 49) ⌝ }
+    ensures { λ r. ⌜ (r ≡ baseSeven (subtract (sumOf (twoDigits o) (twoDigits e)) (twoDigits o))) × (r < 49) ⌝ }
 {
     if e == o {
         difference(0, o)

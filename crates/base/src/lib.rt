@@ -16,20 +16,20 @@ pub fn wide16(x: u16) -> usize
     x as usize
 }
 
-// x moved on by c, modulo n.
-pub fn rotate(n: usize, c: usize, x: usize) -> usize
-    requires { ⌜ (0 < n) × (c < 65536) × (x < 65536) ⌝ }
-    ensures { λ r. ⌜ (r ≡ Rotate n c x) × (r < n) ⌝ }
+// x moved on, modulo n.
+pub fn rotate(n: usize, by: usize, x: usize) -> usize
+    requires { ⌜ (0 < n) × (by < 65536) × (x < 65536) ⌝ }
+    ensures { λ r. ⌜ (r ≡ Rotate n by x) × (r < n) ⌝ }
 {
-    (x + c) % n
+    (x + by) % n
 }
 
-// y moved back by c, modulo n.
-pub fn unrotate(n: usize, c: usize, y: usize) -> usize
+// y moved back, modulo n.
+pub fn unrotate(n: usize, by: usize, y: usize) -> usize
     requires { ⌜ (0 < n) × (n < 65536) × (y < 65536) ⌝ }
-    ensures { λ r. ⌜ (r ≡ Unrotate n c y) × (r < n) ⌝ }
+    ensures { λ r. ⌜ (r ≡ Unrotate n by y) × (r < n) ⌝ }
 {
-    (y + (n - c % n)) % n
+    (y + (n - by % n)) % n
 }
 
 // The place of the number r when the place p is left out.

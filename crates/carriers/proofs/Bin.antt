@@ -88,12 +88,12 @@ bin-law y n {number} {address} law =
     record {
       lies = λ s m hs hm.
           record { offset-lt = lit< tt; used-lt = used-lt y (number s m) n (law .number-lt s m hs hm); no-pilot = used-no-pilot y (number s m) };
-      found = λ s m hs hm. ap address (data-used y (number s m)) ∙ law .found s m hs hm;
+      back = λ s m hs hm. ap address (data-used y (number s m)) ∙ law .back s m hs hm;
       names = λ o u ho hu np. law .names (dataOfUsed y u) (data-lt y u np n hu);
-      placed = λ o u ho hu np.
+      forth = λ o u ho hu np.
           λ i. record {
             offset = zero-is o ho i;
-            used = (ap (usedOfData y) (law .placed (dataOfUsed y u) (data-lt y u np n hu)) ∙ used-data y u np) i;
+            used = (ap (usedOfData y) (law .forth (dataOfUsed y u) (data-lt y u np n hu)) ∙ used-data y u np) i;
           };
     }
   where

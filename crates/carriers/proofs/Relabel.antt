@@ -17,9 +17,9 @@ module _
         lies = λ s m hs hm.
             let l = law .lies s m hs hm in
             record { offset-lt = l .offset-lt; used-lt = l .used-lt; no-pilot = same-pilot (spot s m .offset) (spot s m .used) (l .offset-lt) ∙ l .no-pilot };
-        found = λ s m hs hm. same-address (spot s m .offset) (spot s m .used) (law .lies s m hs hm .offset-lt) ∙ law .found s m hs hm;
+        back = λ s m hs hm. same-address (spot s m .offset) (spot s m .used) (law .lies s m hs hm .offset-lt) ∙ law .back s m hs hm;
         names = λ o u ho hu np. subst⁻¹ (PointOf subchannels) (same-address o u ho) (law .names o u ho hu (sym (same-pilot o u ho) ∙ np));
-        placed = λ o u ho hu np.
+        forth = λ o u ho hu np.
             subst⁻¹ (λ (a : Address). spot (a .subchannel) (a .index) ≡ record { offset = o; used = u }) (same-address o u ho)
-            (law .placed o u ho hu (sym (same-pilot o u ho) ∙ np));
+            (law .forth o u ho hu (sym (same-pilot o u ho) ∙ np));
       }

@@ -19,15 +19,15 @@ pub record PointOf (subchannels : ℕ) (a : Address) : Type 0 where
 -- `spot` puts each point on a data carrier of the slot and `address` finds it there; `address` knows each data carrier's point and `spot` puts it there.
 pub record SlotLaw (symbols subchannels used : ℕ) (isPilot : ℕ → ℕ → Bool) (spot : ℕ → ℕ → Spot) (address : ℕ → ℕ → Address) : Type 0 where
   pub lies : (s m : ℕ) → s < subchannels → m < 48 → DataSpot symbols used isPilot (spot s m)
-  pub found : (s m : ℕ) → s < subchannels → m < 48
+  pub back : (s m : ℕ) → s < subchannels → m < 48
       → address (spot s m .offset) (spot s m .used) ≡ record { subchannel = s; index = m }
   pub names : (o u : ℕ) → o < symbols → u < used → isPilot o u ≡ false → PointOf subchannels (address o u)
-  pub placed : (o u : ℕ) → o < symbols → u < used → isPilot o u ≡ false
+  pub forth : (o u : ℕ) → o < symbols → u < used → isPilot o u ≡ false
       → spot (address o u .subchannel) (address o u .index) ≡ record { offset = o; used = u }
 
 -- The same for a mode that numbers the data carriers of a symbol, 48 for each subchannel.
 pub record NumberLaw (subchannels : ℕ) (number : ℕ → ℕ → ℕ) (address : ℕ → Address) : Type 0 where
   pub number-lt : (s m : ℕ) → s < subchannels → m < 48 → number s m < 48 * subchannels
-  pub found : (s m : ℕ) → s < subchannels → m < 48 → address (number s m) ≡ record { subchannel = s; index = m }
+  pub back : (s m : ℕ) → s < subchannels → m < 48 → address (number s m) ≡ record { subchannel = s; index = m }
   pub names : (d : ℕ) → d < 48 * subchannels → PointOf subchannels (address d)
-  pub placed : (d : ℕ) → d < 48 * subchannels → number (address d .subchannel) (address d .index) ≡ d
+  pub forth : (d : ℕ) → d < 48 * subchannels → number (address d .subchannel) (address d .index) ≡ d

@@ -1,4 +1,4 @@
--- Rows of spots and of their carriers as numbers, 2048 for each symbol of the slot, since no size is larger.
+-- Rows of spots and of their carriers as numbers, 2048 for each symbol of the slot, since no size is larger. No reader needs this to know what the calls do.
 use Prim.Native.Nat.{ℕ, _+_, _*_, _%_}
 use lib.Dec.{leb}
 use Rattle.base.specs.Choice.{pick}

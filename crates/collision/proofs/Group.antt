@@ -17,9 +17,8 @@ use Rattle.ofusc.specs.Map.{groupOf, mask, dataNumber}
 use Rattle.ofusc.specs.Model.{cellNumber, groupNumber}
 use Rattle.ofusc.proofs.Sequence.{pos, sum-lt, mask-lt}
 use Rattle.ofusc.proofs.Row.{with-subchannel}
-use Rattle.map.specs.Mode.{width, band, spotOf}
+use Rattle.map.specs.Mode.{width, band, spotOf, setupWith}
 use Rattle.map.specs.Place.{placeAt}
-use Rattle.map.specs.Valid.{setupWith}
 use Rattle.map.proofs.Accept.{width-is}
 use Rattle.collision.specs.Collision.{indexIn, carrierIn, ofuscHit}
 

@@ -9,10 +9,9 @@ use Rattle.base.specs.Steps.{unrotate}
 use Rattle.base.specs.Tabulate.{tabulate}
 use Rattle.amc.specs.Map.{traffic}
 use Rattle.map.specs.declared.Setup.{Setup}
-use Rattle.map.specs.Mode.{spotOf}
+use Rattle.map.specs.Mode.{spotOf, setupWith}
 use Rattle.map.specs.Question.{isFourSizes, isCell, isSubchannel}
 use Rattle.map.specs.Place.{placeAt}
-use Rattle.map.specs.Valid.{setupWith}
 use Rattle.collision.specs.declared.Collisions.{Collisions}
 
 -- how many marks are set
@@ -20,7 +19,7 @@ unfoldable pub countOf : (hits : List Bool) → ℕ
 countOf [] = 0
 countOf (hit ∷ hits) = pick hit 1 0 + countOf hits
 
--- Each subchannel has one point in group k: that of index m with k = (m+23s) mod 48, which is (k-23s) mod 48.
+-- Each subchannel has one point in group k: that of index m with k = (m+23s) mod 48, which is (k-23s) mod 48 (this index and no other: `a-index` of `Figures`).
 unfoldable pub indexIn : (s k : ℕ) → ℕ
 indexIn s k = unrotate 48 (23 * s) k
 

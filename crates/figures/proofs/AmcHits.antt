@@ -11,7 +11,7 @@ use Rattle.ofusc.proofs.Sequence.{pos}
 use Rattle.amc.specs.Map.{traffic, dataNumber}
 use Rattle.amc.proofs.Law.{law}
 use Rattle.map.specs.Place.{Place, placeOf}
-use Rattle.map.specs.Valid.{setupWith}
+use Rattle.map.specs.Mode.{setupWith}
 use Rattle.collision.specs.Collision.{amcHit}
 use Rattle.figures.specs.Word.{SamePlace}
 use Rattle.collision.proofs.Group.{same-number}

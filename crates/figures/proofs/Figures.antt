@@ -17,10 +17,9 @@ use Rattle.ofusc.specs.Field.{modulus, coefficient, product, remainder, times, 
 use Rattle.ofusc.specs.Map.{groupOf, term, mask, dataNumber}
 use Rattle.amc.specs.Element.{add, sequence, times as product′}
 use Rattle.amc.specs.Map.{off, zeroRule, elementOf, traffic}
-use Rattle.map.specs.Mode.{width, cells, subchannels, band, spotOf}
+use Rattle.map.specs.Mode.{width, cells, subchannels, band, spotOf, setupWith}
 use Rattle.map.specs.Question.{isFourSizes, isCell, isSubchannel}
 use Rattle.map.specs.Place.{Place, placeAt, placeOf}
-use Rattle.map.specs.Valid.{setupWith}
 use Rattle.map.proofs.Accept.{width-is}
 use Rattle.map.proofs.Law.{placing}
 use Rattle.map.proofs.ByMode.{in-ofusc}

@@ -10,9 +10,9 @@ use Rattle.ofusc.specs.Width.{Width}
 use Rattle.ofusc.specs.Map.{groupOf, dataNumber}
 use Rattle.ofusc.proofs.Sequence.{pos}
 use Rattle.ofusc.proofs.Law.{group-digit, law}
-use Rattle.map.specs.Mode.{width, symbols, subchannels, band, spotOf}
+use Rattle.map.specs.Mode.{width, symbols, subchannels, band, spotOf, setupWith}
 use Rattle.map.specs.Place.{Place, placeAt, placeOf}
-use Rattle.map.specs.Valid.{setupWith, ofusc, amc}
+use Rattle.map.specs.Model.{ofusc, amc}
 use Rattle.map.proofs.Accept.{width-is}
 use Rattle.map.proofs.Law.{place-accepts}
 use Rattle.collision.specs.Collision.{indexIn}
@@ -51,7 +51,7 @@ module _ {n : ℕ} (w : Width n) (cell slot s k m : ℕ) (hs : s < n) (hk : k < 
   index-is g = sym (rotation 48 (23 * s) (lit< tt) .back m hm) ∙ ap (indexIn s) group
     where
       d : ℕ
-      d = g .number
+      d = g .data-number
 
       whole : k * n + (d - k * n) ≡ d
       whole = let l = g .from in omega arith
@@ -69,7 +69,7 @@ module _ {n : ℕ} (w : Width n) (cell slot s k m : ℕ) (hs : s < n) (hk : k < 
           ∙ digits-div k rest
 
   pub index-in : m ≡ indexIn s k → InGroup n slot k (carrierAt n slot (dataNumber n cell s m))
-  index-in e = record { number = dataNumber n cell s m; from = omega (arith, is); below = omega (arith, is, element-lt w k hk cell s hs); lies = refl }
+  index-in e = record { data-number = dataNumber n cell s m; from = omega (arith, is); below = omega (arith, is, element-lt w k hk cell s hs); lies = refl }
     where
       is : dataNumber n cell s m ≡ k * n + element w k hk cell s
       is = ap (dataNumber n cell s) e ∙ number-in w k hk cell s

@@ -1,4 +1,4 @@
--- THE PLANNERS' FIGURES, as one statement: demand 3, sentence by sentence, and what document 01, "Meetings", says of one cell given twice. The letters are those of docs/FIGURES.md. Statements are about what the two calls return (`ofuscOf`, `amcOf`) and about placing (`placeOf`). `Width n` says that N is 4, 8, 16 or 32; the size is 64·N.
+-- THE PLANNERS' FIGURES, as one statement: demand 3, sentence by sentence, and what document 01, "Meetings", says of one cell given twice. The letters are those of docs/FIGURES.md. Statements are about what the two calls return (`ofuscOf`, `amcOf`) and about placing (`placeOf`). `Width n` says that N is 4, 8, 16 or 32; the size is 64·N. Its proof is `figures`.
 use mathlib.Core.Path.{_≡_}
 use mathlib.Core.Logic.{_↔_}
 use Prim.Native.Nat.{ℕ, _-_, _*_, _<_, _≤_}
@@ -6,7 +6,7 @@ use Rattle.base.specs.Answer.{accepted}
 use Rattle.ofusc.specs.Width.{Width}
 use Rattle.amc.specs.Map.{traffic}
 use Rattle.map.specs.Place.{Place, placeOf}
-use Rattle.map.specs.Valid.{setupWith}
+use Rattle.map.specs.Mode.{setupWith}
 use Rattle.collision.specs.Collision.{countOf, indexIn, ofuscOf, amcOf}
 use Rattle.figures.specs.Word.{Allowed, Pair, InGroup, Marked, inRow, SamePlace, SameInGroup, Reached, sum, most}
 

@@ -26,10 +26,10 @@ pub record Pair (n a s b t : ℕ) : Type 0 where
 
 -- Document 01, "Meetings": group k of a symbol is its data numbers N·k to N·k+N-1. A carrier of symbol y lies there:
 pub record InGroup (n y k carrier : ℕ) : Type 0 where
-  pub number : ℕ
-  pub from : k * n ≤ number
-  pub below : number < k * n + n
-  pub lies : carrier ≡ carrierOf (binBand n) (usedOfData y number)
+  pub data-number : ℕ
+  pub from : k * n ≤ data-number
+  pub below : data-number < k * n + n
+  pub lies : carrier ≡ carrierOf (binBand n) (usedOfData y data-number)
 
 -- mark k is set
 abbrev pub Marked : (hits : List Bool) (k : ℕ) → Type 0

@@ -10,13 +10,14 @@ use Rattle.base.specs.Answer.{Answer, accepted, refused, refusalOf}
 use Rattle.base.proofs.Chain.{number-is}
 use Rattle.map.specs.declared.Setup.{Setup}
 use Rattle.map.specs.Mode.{subchannels, symbols}
+use Rattle.map.specs.Law.{Passes}
 use Rattle.map.specs.Place.{Content, guard, dc, pilot, point, locateOf}
 use Rattle.map.proofs.ByMode.{few}
-use Rattle.map.proofs.Law.{locating, located-where-placed, in-own-slot}
+use Rattle.map.proofs.Law.{setup-asked, locating, located-where-placed, in-own-slot}
 use Rattle.points.specs.declared.Point.{Point}
 use Rattle.points.specs.Points.{pointAt}
 use Rattle.points.proofs.Points.{length-floats, point-floats, by-points}
-use Rattle.lengths.specs.Length.{gridPoints}
+use Rattle.lengths.specs.Length.{gridPoints, pointsLength, gridLength}
 use Rattle.lengths.specs.Question.{askSlot}
 use Rattle.lengths.specs.Model.{slotRefusal}
 use Rattle.lengths.proofs.Length.{lengths-listed}
@@ -88,9 +89,9 @@ module _ (setup : Setup) (slot : ℕ) (p : Point) (points old grid : List Float)
   law : FilledGrid setup slot p points grid
   unfolding sight held
   law =
-      let told = lengths-listed (accepts .valid) in
+      let long′ = lengths-listed (accepts .valid) in
       record {
-        lengths-fit = (accepts .points-long ∙ told .0, long ∙ told .1);
+        lengths-fit = (accepts .points-long ∙ long′ .0, long ∙ long′ .1);
         emptied-again = again;
         look-at-point = λ s m place h. looked (point slot s m) (place .symbol) (place .carrier) (in-own-slot setup slot s m h) (located-where-placed setup slot s m h);
         look-at-pilot = looked pilot;
@@ -98,5 +99,19 @@ module _ (setup : Setup) (slot : ℕ) (p : Point) (points old grid : List Float)
         zero-on-dc = point-there dc;
       }
 
+-- buffers of the lengths that are told are as long as questions 8 and 9 ask
+told : (setup : Setup) (slot points grid : ℕ) → Passes setup → slot < 512 → points ≡ pointsLength (setup .mode) (setup .size)
+    → grid ≡ gridLength (setup .mode) (setup .size) → SlotAccepted setup slot points grid
+told setup slot points grid e h p g =
+    let v = setup-asked setup _ e .0 in
+    let long = lengths-listed v in
+    record { valid = v; slot-lt = h; points-long = p ∙ sym (long .0); grid-long = g ∙ sym (long .1) }
+
 pub grid-law : GridLaw
-grid-law = law
+unfolding fillOf emptyOf
+grid-law =
+    record {
+      fills = law;
+      fill-accepts = λ setup slot p points old e h l g. ap (λ a. outcome a old .refusal) (slot-passes (told setup slot (length points) (length old) e h l g));
+      empty-accepts = λ setup slot grid old e h l g. ap (λ a. outcome a old .refusal) (slot-passes (told setup slot (length old) (length grid) e h l g));
+    }

@@ -12,7 +12,7 @@ use Rattle.map.specs.declared.Setup.{Setup}
 use Rattle.map.specs.Mode.{symbols}
 use Rattle.map.specs.Question.{askSetup, isMode, isSize, isCell, isSymbol, isCarrier}
 use Rattle.map.specs.Place.{Content, guard, dc, pilot, point, contentOf, locateOf}
-use Rattle.map.specs.Valid.{Valid}
+use Rattle.map.specs.Model.{Valid}
 use Rattle.map.proofs.Law.{Locating, locating}
 use Rattle.points.specs.declared.Point.{Point}
 use Rattle.points.specs.Points.{pointAt}

@@ -9,7 +9,7 @@ use Rattle.base.specs.Answer.{Answer, accepted}
 use Rattle.map.specs.declared.Setup.{Setup}
 use Rattle.map.specs.Mode.{subchannels}
 use Rattle.map.specs.Place.{Content, guard, dc, pilot, point}
-use Rattle.map.specs.Valid.{Valid}
+use Rattle.map.specs.Model.{Valid}
 use Rattle.map.proofs.ByMode.{few}
 use Rattle.points.specs.declared.Point.{Point}
 use Rattle.points.specs.Points.{pointAt}

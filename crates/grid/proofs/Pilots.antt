@@ -12,7 +12,7 @@ use Rattle.carriers.specs.Band.{usedOf}
 use Rattle.map.specs.declared.Setup.{Setup}
 use Rattle.map.specs.Mode.{symbols, band, isPilot}
 use Rattle.map.specs.Place.{Content, guard, dc, pilot, point}
-use Rattle.map.specs.Valid.{Valid}
+use Rattle.map.specs.Model.{Valid}
 use Rattle.map.proofs.Law.{pilot-content, pilot-at}
 use Rattle.points.specs.declared.Point.{Point}
 use Rattle.rows.specs.declared.Comb.{Comb}

@@ -18,7 +18,7 @@ use Rattle.carriers.proofs.Guards.{carrier-lt}
 use Rattle.map.specs.declared.Setup.{Setup}
 use Rattle.map.specs.Mode.{subchannels, symbols, band, isPilot, spotOf}
 use Rattle.map.specs.Place.{point, Place, placeAt}
-use Rattle.map.specs.Valid.{Valid}
+use Rattle.map.specs.Model.{Valid}
 use Rattle.map.proofs.Slot.{slot-law, band-law}
 use Rattle.map.proofs.Law.{content-placed, locate-accepts, placed-where-located, placing}
 use Rattle.lengths.specs.Length.{gridPoints}

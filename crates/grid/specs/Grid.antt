@@ -59,7 +59,7 @@ standsAt setup slot n =
 unfoldable pub emptied : (setup : Setup) (slot : ℕ) (grid : List Float) → List Float
 emptied setup slot grid = floatsOf (48 * subchannels setup) (λ n. pointAt grid (standsAt setup slot n))
 
--- The reverse: empty takes the points off the grid, and writes them only. Questions 1, 2, 3, 4, 8, 9.
+-- Empty does the reverse and writes the points only. Questions 1, 2, 3, 4, 8, 9. (It is to be believed: of a grid that no fill left, no law speaks.)
 unfoldable pub emptyOf : (setup : Setup) (slot : ℕ) (grid points : List Float) → Outcome
 emptyOf setup slot grid points =
     outcome

@@ -1,13 +1,14 @@
--- THE LAW OF THE GRID, `GridLaw` below; the fields of `FilledGrid` are its theorems. The proofs give its inhabitant, `grid-law`.
+-- What is claimed of grids: THE LAW OF THE GRID, `GridLaw` below. Its proof is `grid-law`.
 use mathlib.Core.Path.{_≡_}
 use mathlib.Core.List.{List}
-use Prim.Native.Nat.{ℕ, _/_, _%_}
+use Prim.Native.Nat.{ℕ, _/_, _%_, _<_}
 use lib.ListN.{length}
 use lib.Ieee.{Float}
 use Rattle.base.specs.Answer.{accepted}
 use Rattle.map.specs.declared.Setup.{Setup}
 use Rattle.map.specs.Mode.{symbols}
 use Rattle.map.specs.Place.{Place, guard, dc, pilot, placeOf, locateOf}
+use Rattle.map.specs.Law.{Passes}
 use Rattle.points.specs.declared.Point.{Point}
 use Rattle.points.specs.Points.{zeroPoint, pointAt}
 use Rattle.lengths.specs.Length.{pointsLength, gridLength}
@@ -32,9 +33,14 @@ pub record FilledGrid (setup : Setup) (slot : ℕ) (p : Point) (points grid : Li
   pub zero-on-dc : (symbol carrier : ℕ) → symbol / symbols setup ≡ slot → locateOf setup symbol carrier ≡ accepted dc
       → pointAt grid (position setup (symbol % symbols setup) carrier) ≡ zeroPoint
 
--- Every accepted fill leaves such a grid, whatever its buffer held.
-abbrev pub GridLaw : Type 0
-GridLaw =
-    (setup : Setup) (slot : ℕ) (p : Point) (points old grid : List Float)
-    → fillOf setup slot p points old ≡ record { refusal = 0; buffer = grid }
-    → FilledGrid setup slot p points grid
+pub record GridLaw : Type 0 where
+  -- Every accepted fill leaves such a grid, whatever its buffer held.
+  pub fills : (setup : Setup) (slot : ℕ) (p : Point) (points old grid : List Float)
+      → fillOf setup slot p points old ≡ record { refusal = 0; buffer = grid } → FilledGrid setup slot p points grid
+  -- Buffers of the lengths that are told are accepted, so that none of this is empty.
+  pub fill-accepts : (setup : Setup) (slot : ℕ) (p : Point) (points old : List Float) → Passes setup → slot < 512
+      → length points ≡ pointsLength (setup .mode) (setup .size) → length old ≡ gridLength (setup .mode) (setup .size)
+      → fillOf setup slot p points old .refusal ≡ 0
+  pub empty-accepts : (setup : Setup) (slot : ℕ) (grid old : List Float) → Passes setup → slot < 512
+      → length old ≡ pointsLength (setup .mode) (setup .size) → length grid ≡ gridLength (setup .mode) (setup .size)
+      → emptyOf setup slot grid old .refusal ≡ 0

@@ -12,9 +12,10 @@ position setup row carrier = row * setup .size + carrier
 unfoldable pub usedPosition : (setup : Setup) (row used : ℕ) → ℕ
 usedPosition setup row used = position setup row (carrierOf (band setup) used)
 
--- The reverse: the row and the carrier of point n of the grid.
+-- The reverse: the row of point n of the grid.
 unfoldable pub rowOf : (setup : Setup) (n : ℕ) → ℕ
 rowOf setup n = n / setup .size
 
+-- The reverse: its carrier.
 unfoldable pub columnOf : (setup : Setup) (n : ℕ) → ℕ
 columnOf setup n = n % setup .size

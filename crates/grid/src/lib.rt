@@ -8,7 +8,7 @@ ghost use lib.ListN.{length};
 ghost use Rattle.base.specs.Answer.{refusalOf};
 ghost use Rattle.map.specs.Mode.{symbols, subchannels, band};
 ghost use Rattle.map.specs.Place.{located};
-ghost use Rattle.map.specs.Valid.{Valid};
+ghost use Rattle.map.specs.Model.{Valid};
 ghost use Rattle.rows.specs.Model.{TableOf};
 ghost use Rattle.points.specs.Model.{putPoint};
 ghost use Rattle.lengths.specs.Length.{gridPoints};

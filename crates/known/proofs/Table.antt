@@ -4,7 +4,7 @@ use Prim.Native.Nat.{ℕ, _<_}
 use borrow.Author.Tests.{lt-ltb}
 use Rattle.base.specs.Steps.{skip, unskip}
 use Rattle.base.specs.Tabulate.{tabulate}
-use Rattle.map.specs.Place.{placeOf, locateOf, placeAt, contentOf, pointAt}
+use Rattle.map.specs.Place.{placeOf, locateOf, placeAt, contentOf, dataAt}
 use Rattle.collision.specs.Collision.{countOf, indexIn, carrierIn, ofuscHit, amcHit, answerOf, ofuscOf, amcOf}
 use Rattle.plan.proofs.Points.{starred}
 use Rattle.known.specs.Table.{Known, AnyCell, setFrom, groups, indices}
@@ -23,7 +23,7 @@ use Rattle.map.specs.Mode as mode
 use Rattle.map.specs.Question as question
 
 any-cell : (cell : ℕ) → cell < 32 → AnyCell cell
-unfolding skip unskip locateOf contentOf pointAt mode.cells mode.symbols mode.band mode.isPilot question.isMode question.isSize question.isCell question.isSymbol question.isCarrier band.usedOf band.isGuard band.isDc cluster.isClusterPilot cluster.firstPilot cluster.secondPilot
+unfolding skip unskip locateOf contentOf dataAt mode.cells mode.symbols mode.band mode.isPilot question.isMode question.isSize question.isCell question.isSymbol question.isCarrier band.usedOf band.isGuard band.isDc cluster.isClusterPilot cluster.firstPilot cluster.secondPilot
 any-cell cell h =
     let e = lt-ltb cell 32 h in
     record { data-in-symbol-0 = rw e; pilot-in-symbol-1 = rw e; guard-below = λ y l. rw (e, lt-ltb y 1024 l); dc-in-the-middle = λ y l. rw (e, lt-ltb y 1024 l) }

@@ -1,4 +1,4 @@
--- Document 01, "Known points": the starred lines, in its order, as one statement. A line's number is its place among the eleven.
+-- Document 01, "Known points": the starred lines, in its order, as one statement. A line's number is its place among the eleven. Its proof is `known`.
 use mathlib.Core.Path.{_≡_}
 use mathlib.Core.Bool.{Bool, true, false}
 use mathlib.Core.List.{List, [], _∷_}
@@ -6,7 +6,7 @@ use Prim.Native.Nat.{ℕ, suc, _<_}
 use Rattle.base.specs.Answer.{Answer, accepted, refused}
 use Rattle.base.specs.Tabulate.{tabulate}
 use Rattle.pusc_ul.specs.Tile.{tileOf}
-use Rattle.map.specs.Valid.{setupWith}
+use Rattle.map.specs.Mode.{setupWith}
 use Rattle.map.specs.Place.{Place, Content, guard, dc, pilot, point, placeOf, locateOf}
 use Rattle.collision.specs.Collision.{ofuscOf, amcOf}
 use Rattle.plan.specs.declared.Zone.{Zone}

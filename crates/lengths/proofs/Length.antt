@@ -10,10 +10,9 @@ use Rattle.base.specs.Answer.{accepted}
 use Rattle.base.proofs.Test.{cases}
 use Rattle.base.proofs.Chain.{ask-yes, number-yes}
 use Rattle.map.specs.declared.Setup.{Setup}
-use Rattle.map.specs.Mode.{width, cells, subchannels, symbols}
+use Rattle.map.specs.Mode.{width, cells, subchannels, symbols, setupWith}
 use Rattle.map.specs.Question.{isMode, isFourSizes, isSize, isCell}
-use Rattle.map.specs.Model.{setupRefusal}
-use Rattle.map.specs.Valid.{Valid, setupWith}
+use Rattle.map.specs.Model.{setupRefusal, Valid}
 use Rattle.map.proofs.Accept.{passes}
 use Rattle.map.proofs.ByMode.{last-mode}
 use Rattle.lengths.specs.Length.{gridPoints, whereListed, pointsLength, gridLength}

@@ -9,8 +9,7 @@ use Rattle.base.proofs.Chain.{numbered, no-first, no-question, question, number
 use Rattle.map.specs.declared.Setup.{Setup}
 use Rattle.map.specs.Mode.{subchannels, symbols}
 use Rattle.map.specs.Question.{isMode, isSize, isCell, isSlot}
-use Rattle.map.specs.Model.{setupRefusal}
-use Rattle.map.specs.Valid.{Valid}
+use Rattle.map.specs.Model.{setupRefusal, Valid}
 use Rattle.map.proofs.Accept.{valid, passes, refused-number}
 use Rattle.map.proofs.ByMode.{few}
 use Rattle.lengths.specs.Length.{gridPoints}

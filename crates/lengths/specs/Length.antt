@@ -2,9 +2,8 @@
 use Prim.Native.Nat.{ℕ, _*_}
 use Rattle.base.specs.Choice.{pick}
 use Rattle.map.specs.declared.Setup.{Setup}
-use Rattle.map.specs.Mode.{subchannels, symbols}
+use Rattle.map.specs.Mode.{subchannels, symbols, setupWith}
 use Rattle.map.specs.Question.{isMode, isSize}
-use Rattle.map.specs.Valid.{setupWith}
 
 -- the points of a slot's grid
 unfoldable pub gridPoints : (setup : Setup) → ℕ

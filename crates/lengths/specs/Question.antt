@@ -17,7 +17,7 @@ unfoldable pub isGrid : (setup : Setup) (floats : ℕ) → Bool
 isGrid setup floats = eqb floats (2 * gridPoints setup)
 
 -- the questions of fill and empty: 1, 2, 3, 4, 8, 9
-abbrev pub askSlot : {A : Type 0} → (setup : Setup) (slot points grid : ℕ) → Answer A → Answer A
+abbrev pub askSlot : {A : Type 0} → (setup : Setup) (slot points grid : ℕ) (rest : Answer A) → Answer A
 askSlot setup slot points grid rest =
     askSetup setup
     (ask (isSlot slot) 4
@@ -25,7 +25,7 @@ askSlot setup slot points grid rest =
     (ask (isGrid setup grid) 9 rest)))
 
 -- the questions of look: 1, 2, 3, 4, 7, 9
-abbrev pub askLook : {A : Type 0} → (setup : Setup) (symbol carrier grid : ℕ) → Answer A → Answer A
+abbrev pub askLook : {A : Type 0} → (setup : Setup) (symbol carrier grid : ℕ) (rest : Answer A) → Answer A
 askLook setup symbol carrier grid rest =
     askSetup setup
     (ask (isSymbol setup symbol) 4

@@ -2,7 +2,7 @@
 use map::Setup;
 ghost use mathlib.Core.Path.{_≡_};
 ghost use Prim.Native.Nat.{_<_};
-ghost use Rattle.map.specs.Valid.{Valid};
+ghost use Rattle.map.specs.Model.{Valid};
 ghost use Rattle.lengths.specs.Length.{gridPoints, pointsLength, gridLength};
 ghost use Rattle.lengths.specs.Model.{slotRefusal};
 

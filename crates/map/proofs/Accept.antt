@@ -11,10 +11,9 @@ use Rattle.base.proofs.Chain.{numbered, no-first, no-question, question, number
 use Rattle.ofusc.specs.Width.{Width, n4, n8, n16, n32}
 use Rattle.ofusc.proofs.Sequence.{size}
 use Rattle.map.specs.declared.Setup.{Setup}
-use Rattle.map.specs.Mode.{width, cells}
+use Rattle.map.specs.Mode.{width, cells, setupWith}
 use Rattle.map.specs.Question.{isMode, isFourSizes, isSize, isCell, askSetup}
-use Rattle.map.specs.Model.{setupRefusal}
-use Rattle.map.specs.Valid.{Valid, setupWith, pusc-dl, pusc-ul, ofusc, amc}
+use Rattle.map.specs.Model.{setupRefusal, Valid, pusc-dl, pusc-ul, ofusc, amc}
 
 -- N of a size
 pub width-is : (n : ℕ) → 64 * n / 64 ≡ n

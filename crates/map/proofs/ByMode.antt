@@ -16,7 +16,7 @@ use Rattle.pusc_dl.proofs.Tables.{pilot-parity}
 use Rattle.pusc_ul.specs.Tile.{isTilePilot}
 use Rattle.map.specs.declared.Setup.{Setup}
 use Rattle.map.specs.Mode.{byMode, width, cells, subchannels, symbols, band, isPilot}
-use Rattle.map.specs.Valid.{Valid, pusc-dl, pusc-ul, ofusc, amc}
+use Rattle.map.specs.Model.{Valid, pusc-dl, pusc-ul, ofusc, amc}
 use Rattle.map.proofs.Accept.{width-is}
 use Rattle.ofusc.specs.Map as spread
 use Rattle.ofusc.proofs.Law as spread-law

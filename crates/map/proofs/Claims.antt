@@ -10,7 +10,7 @@ use Rattle.carriers.proofs.Guards.{carrier-lt, carrier-no-guard, carrier-no-dc,
 use Rattle.map.specs.declared.Setup.{Setup}
 use Rattle.map.specs.Mode.{symbols, band, isPilot, spotOf, addressOf}
 use Rattle.map.specs.Place.{Place, pilot, placeAt, placeOf, contentOf, locateOf}
-use Rattle.map.specs.Valid.{Valid}
+use Rattle.map.specs.Model.{Valid}
 use Rattle.map.specs.Law.{Passes, PlacedAt, HoldsData, JustOnePoint, MapLaw}
 use Rattle.map.proofs.Slot.{slot-law, band-law}
 use Rattle.map.proofs.Law.{setup-asked, placing, place-accepts, locate-accepts, located-where-placed, placed-where-located, one-address, in-own-slot, data-placed, pilot-content}

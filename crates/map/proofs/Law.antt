@@ -17,8 +17,8 @@ use Rattle.carriers.proofs.Guards.{carrier-lt, carrier-no-guard, carrier-no-dc,
 use Rattle.map.specs.declared.Setup.{Setup}
 use Rattle.map.specs.Mode.{subchannels, symbols, band, isPilot, spotOf, addressOf}
 use Rattle.map.specs.Question.{askSetup, isMode, isSize, isCell, isSlot, isSymbol, isSubchannel, isIndex, isCarrier}
-use Rattle.map.specs.Place.{Place, Content, pilot, point, placeAt, placeOf, pointAt, contentOf, locateOf}
-use Rattle.map.specs.Valid.{Valid}
+use Rattle.map.specs.Place.{Place, Content, pilot, point, placeAt, placeOf, dataAt, contentOf, locateOf}
+use Rattle.map.specs.Model.{Valid}
 use Rattle.map.proofs.Accept.{valid, passes}
 use Rattle.map.proofs.ByMode.{few}
 use Rattle.map.proofs.Slot.{LawOf, slot-law, band-law}
@@ -95,7 +95,7 @@ module _ (c : Setup) (v : Valid c) (slot s m : ℕ) (hs : s < subchannels c) (hm
   l = slot-law v slot
 
   pub content-placed : contentOf c (slot * symbols c + x .offset) (carrierOf (band c) (x .used)) ≡ point slot s m
-  unfolding contentOf pointAt
+  unfolding contentOf dataAt
   content-placed =
       let h = l .lies s m hs hm in
       let b = band-law v in
@@ -104,7 +104,7 @@ module _ (c : Setup) (v : Valid c) (slot s m : ℕ) (hs : s < subchannels c) (hm
         carrier-no-dc (band c) (c .size) b (x .used) (h .used-lt),
         used-carrier (band c) (c .size) b (x .used) (h .used-lt),
         h .no-pilot,
-        l .found s m hs hm,
+        l .back s m hs hm,
         digits-div slot (h .offset-lt),
       )
 
@@ -127,10 +127,10 @@ module _ (c : Setup) (v : Valid c) (y k : ℕ)
       let o = y % symbols c in
       let h = mod-lt y (symbols-pos v) in
       subst (λ (t : ℕ). isPilot c t u ≡ false → PointOf (subchannels c) (addressOf c t u) × (spotOf c slot (addressOf c t u .subchannel) (addressOf c t u .index) ≡ record { offset = o; used = u }))
-      (div-add-mod' y (symbols c)) (λ q. (slot-law v slot .names o u h u-lt q, slot-law v slot .placed o u h u-lt q)) np
+      (div-add-mod' y (symbols c)) (λ q. (slot-law v slot .names o u h u-lt q, slot-law v slot .forth o u h u-lt q)) np
 
   pub data-content : contentOf c y k ≡ point (y / symbols c) (a .subchannel) (a .index)
-  unfolding contentOf pointAt
+  unfolding contentOf dataAt
   data-content = rw (g, d, np)
 
   pub data-placed : y < 512 * symbols c → placeOf c (y / symbols c) (a .subchannel) (a .index) ≡ accepted (record { symbol = y; carrier = k })
@@ -213,7 +213,7 @@ pub record PilotAt (c : Setup) (y k : ℕ) : Type 0 where
   pub carrier-is : carrierOf (band c) (usedOf (band c) k) ≡ k
 
 pub pilot-at : (c : Setup) → Valid c → (y k : ℕ) → contentOf c y k ≡ pilot → PilotAt c y k
-unfolding contentOf pointAt
+unfolding contentOf dataAt
 pilot-at c v y k e =
     cases (isGuard (band c) (c .size) k)
     (λ g. absurd (let h = rw g at e in let z : _≡_ {A = ℕ} 0 1 = cc in omega arith))

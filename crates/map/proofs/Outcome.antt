@@ -12,9 +12,8 @@ use Rattle.carriers.proofs.Guards.{used-left, used-lt}
 use Rattle.map.specs.declared.Setup.{Setup}
 use Rattle.map.specs.Mode.{subchannels, symbols, band, isPilot, spotOf, addressOf}
 use Rattle.map.specs.Question.{askSetup, isSlot, isSymbol, isSubchannel, isIndex, isCarrier}
-use Rattle.map.specs.Model.{setupRefusal}
-use Rattle.map.specs.Place.{Place, Content, guard, dc, pilot, point, placeAt, placeOf, pointAt, contentOf, locateOf}
-use Rattle.map.specs.Valid.{Valid}
+use Rattle.map.specs.Model.{setupRefusal, Valid}
+use Rattle.map.specs.Place.{Place, Content, guard, dc, pilot, point, placeAt, placeOf, dataAt, contentOf, locateOf}
 use Rattle.map.proofs.Accept.{refused-number, number-valid, passes}
 use Rattle.map.proofs.Slot.{slot-law, band-law}
 use Rattle.map.proofs.Law.{place-accepts, locate-accepts}
@@ -84,7 +83,7 @@ module _ (c : Setup) (y k : ℕ) (b : Band) (e : b ≡ band c) where
   pub content-point : (g : Bool) → g ≡ isGuard b (c .size) k → g ≡ false → (d : Bool) → d ≡ isDc b k → d ≡ false
       → (u : ℕ) → u ≡ usedOf b k → (p : Bool) → p ≡ isPilot c y u → p ≡ false → (a : Address) → a ≡ addressOf c y u → (n : ℕ) → n ≡ y / symbols c
       → accepted (point n (a .subchannel) (a .index)) ≡ accepted (contentOf c y k)
-  unfolding contentOf pointAt
+  unfolding contentOf dataAt
   content-point g h t d h₁ t₁ u h₂ p h₃ t₃ a h₄ n h₅ = rw (← e, ← h, t, ← h₁, t₁, ← h₂, ← h₃, t₃, ← h₄, ← h₅)
 
   -- what the inner functions ask there

@@ -13,7 +13,7 @@ use Rattle.pusc_ul.specs.Tile.{isTilePilot}
 use Rattle.ofusc.proofs.Sequence.{pos}
 use Rattle.map.specs.declared.Setup.{Setup}
 use Rattle.map.specs.Mode.{width, subchannels, symbols, band, isPilot, spotOf, addressOf}
-use Rattle.map.specs.Valid.{Valid, pusc-dl, pusc-ul, ofusc, amc}
+use Rattle.map.specs.Model.{Valid, pusc-dl, pusc-ul, ofusc, amc}
 use Rattle.map.proofs.Accept.{width-is}
 use Rattle.pusc_dl.specs.Map as dl
 use Rattle.pusc_dl.proofs.Law as dl-law

@@ -16,7 +16,7 @@ Passes setup = askSetup {A = Unit {0}} setup (accepted tt) ≡ accepted tt
 
 -- `place` puts the point of a slot there
 abbrev pub PlacedAt : (setup : Setup) (slot subchannel index symbol carrier : ℕ) → Type 0
-PlacedAt setup slot subchannel index y k = placeOf setup slot subchannel index ≡ accepted (record { symbol = y; carrier = k })
+PlacedAt setup slot subchannel index symbol carrier = placeOf setup slot subchannel index ≡ accepted (record { symbol = symbol; carrier = carrier })
 
 -- A carrier holds data in a symbol: it is the carrier of a used number that is no pilot there.
 pub record HoldsData (setup : Setup) (symbol carrier : ℕ) : Type 0 where

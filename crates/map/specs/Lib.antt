@@ -1,6 +1,5 @@
 pub mod Mode
 pub mod Question
 pub mod Place
-pub mod Valid
 pub mod Model
 pub mod Law

@@ -16,6 +16,9 @@ use Rattle.pusc_ul.specs.Map as pusc-ul
 use Rattle.ofusc.specs.Map as ofusc
 use Rattle.amc.specs.Map as amc
 
+abbrev pub setupWith : (mode size cell : ℕ) → Setup
+setupWith mode size cell = record { mode = mode; size = size; cell = cell }
+
 -- PUSC downlink (mode 0, partial down), PUSC uplink (1, partial up), optional FUSC (2, spread), AMC (3, adjacent); any other mode
 abbrev pub byMode : {A : Type 0} (mode : ℕ) (dl ul spread adjacent other : A) → A
 byMode mode dl ul spread adjacent other =

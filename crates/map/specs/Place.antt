@@ -42,8 +42,8 @@ pub data Content : Type 0 where
   point : (slot subchannel index : ℕ) → Content
 
 -- The reverse: the point whose address in its slot is known, in a symbol of the zone.
-unfoldable pub pointAt : (setup : Setup) (symbol : ℕ) (address : Address) → Content
-pointAt setup symbol address = point (symbol / symbols setup) (address .subchannel) (address .index)
+unfoldable pub dataAt : (setup : Setup) (symbol : ℕ) (address : Address) → Content
+dataAt setup symbol address = point (symbol / symbols setup) (address .subchannel) (address .index)
 
 -- guard and DC by the carrier, pilot by its used number in the symbol; else the point that lies there
 unfoldable pub contentOf : (setup : Setup) (symbol carrier : ℕ) → Content
@@ -52,7 +52,7 @@ contentOf setup symbol carrier =
     pick (isGuard (band setup) (setup .size) carrier) guard
     (pick (isDc (band setup) carrier) dc
     (pick (isPilot setup symbol used) pilot
-    (pointAt setup symbol (addressOf setup symbol used))))
+    (dataAt setup symbol (addressOf setup symbol used))))
 
 -- Document 01, "Grids": its reverse takes mode, size, cell, the zone's symbol and a carrier and gives guard, DC, pilot or the data address (slot, subchannel, index). Questions 1, 2, 3, 4, 7.
 unfoldable pub locateOf : (setup : Setup) (symbol carrier : ℕ) → Answer Content

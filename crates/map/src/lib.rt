@@ -9,9 +9,8 @@ ghost use Rattle.base.specs.Answer.{accepted};
 ghost use Rattle.carriers.specs.Bin.{binSpot};
 ghost use Rattle.map.specs.Mode.{width as WidthOf, cells as Cells, subchannels as Subchannels, symbols as Symbols, band as BandOf, isPilot, spotOf, addressOf};
 ghost use Rattle.map.specs.Question.{isFourSizes, isSize};
-ghost use Rattle.map.specs.Model.{setupRefusal};
+ghost use Rattle.map.specs.Model.{setupRefusal, Valid};
 ghost use Rattle.map.specs.Place.{placed, placeAt, placeOf, located, contentOf, locateOf};
-ghost use Rattle.map.specs.Valid.{Valid};
 
 // What a zone fixes: mode, FFT size and cell.
 pub struct Setup {

@@ -66,7 +66,7 @@ module _ {n : ℕ} (w : Width n) (cell : ℕ) where
   law =
       record {
         number-lt = λ s m hs hm. digits-lt (group-lt s m) (element-lt s m hs);
-        found = found;
+        back = found;
         names = λ d h. record { subchannel-lt = subchannel-lt d; index-lt = omega arith };
-        placed = placed;
+        forth = placed;
       }

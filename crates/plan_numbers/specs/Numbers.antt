@@ -1,4 +1,4 @@
--- A plan's eight places as a row of 24 numbers, and back.
+-- A plan's eight places as a row of 24 numbers, and such a row as a plan.
 use mathlib.Core.List.{List, [], _∷_}
 use Prim.Native.Nat.{ℕ, _+_, _*_}
 use lib.ListN.{getD}
@@ -14,7 +14,7 @@ threeOf zone = zone .mode ∷ zone .cell ∷ zone .slots ∷ []
 abbrev pub numbersOf : (zones : List Zone) → List ℕ
 numbersOf zones = each threeOf zones
 
--- The reverse: the eight places of 24 numbers.
+-- the eight places that 24 numbers are
 abbrev pub placeIn : (numbers : List ℕ) (place : ℕ) → Zone
 placeIn numbers place = record { mode = getD numbers (3 * place) 0; cell = getD numbers (3 * place + 1) 0; slots = getD numbers (3 * place + 2) 0 }
 

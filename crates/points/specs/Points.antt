@@ -16,9 +16,9 @@ abbrev pub zeroPoint : Point
 zeroPoint = record { i = zero32; q = zero32 }
 
 -- point n of a buffer, two floats a point (past its end the library's list has no number, `nan`)
-unfoldable pub pointAt : List Float → ℕ → Point
+unfoldable pub pointAt : (floats : List Float) (n : ℕ) → Point
 pointAt floats n = record { i = getD floats (n * 2) nan; q = getD floats (n * 2 + 1) nan }
 
 -- the buffer of n points
-unfoldable pub floatsOf : ℕ → (ℕ → Point) → List Float
+unfoldable pub floatsOf : (n : ℕ) (f : ℕ → Point) → List Float
 floatsOf n f = tabulate (n * 2) (λ j. pick (eqb (j % 2) 0) (f (j / 2) .i) (f (j / 2) .q))

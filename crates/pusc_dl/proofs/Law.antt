@@ -180,4 +180,4 @@ module _ (cell : ℕ) where
         )
 
   pub law : SlotLaw 2 60 1680 isClusterPilot (spotOf cell) (addressOf cell)
-  law = record { lies = lies; found = found; names = names; placed = placed }
+  law = record { lies = lies; back = found; names = names; forth = placed }

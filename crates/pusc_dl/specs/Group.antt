@@ -12,7 +12,7 @@ clusterStarts = 0 ∷ 24 ∷ 40 ∷ 64 ∷ 80 ∷ 104 ∷ []
 abbrev pub subchannelStarts : List ℕ
 subchannelStarts = 0 ∷ 12 ∷ 20 ∷ 32 ∷ 40 ∷ 52 ∷ []
 
--- the group whose run of numbers holds x, for six runs that start at the numbers of a list
+-- the group whose run of numbers holds x, for six runs that start at the numbers of a list; x is below the last one's end
 unfoldable pub groupIn : (starts : List ℕ) (x : ℕ) → ℕ
 groupIn starts x =
     pick (ltb x (entry starts 1)) 0
@@ -43,9 +43,10 @@ groupData size cell s k =
     let n = (k + 13 * s) % 24 in
     n * size + (baseOf size ((s + n) % size) + cell) % size
 
--- The reverse: the subchannel, counted in the group, and the index mod 24 of a group data number.
+-- The reverse: the subchannel, counted in the group, of a group data number.
 unfoldable pub groupSubchannel : (size cell d : ℕ) → ℕ
 groupSubchannel size cell d = unrotate size (d / size) (baseInverse size (unrotate size cell (d % size)))
 
+-- The reverse: its index mod 24.
 unfoldable pub groupIndex : (size cell d : ℕ) → ℕ
 groupIndex size cell d = unrotate 24 (13 * groupSubchannel size cell d) (d / size)

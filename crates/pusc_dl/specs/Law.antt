@@ -1,4 +1,4 @@
--- What is claimed of the renumbering: document 01's formula and its inverse, by which placing goes, undo each other, whatever the cell.
+-- What is claimed of the renumbering: document 01's formula and its inverse, by which placing goes, undo each other, whatever the cell. Its proof is `renumbering`.
 use mathlib.Core.Path.{_≡_}
 use Prim.Native.Nat.{ℕ, _<_}
 use Rattle.pusc_dl.specs.Cluster.{renumber, unrenumber}

@@ -23,18 +23,21 @@ spotOf cell subchannel index =
       used = groupUsed cell (index / 24) g (groupData (groupSize g) cell (subchannel - entry subchannelStarts g) (index % 24));
     }
 
--- The reverse: the group of a used number, its group data number in a symbol, and the address of the point there.
+-- The reverse: the logical cluster of a used number.
 unfoldable pub logicalOf : (cell used : ℕ) → Logical
 logicalOf cell used =
     let physical : Physical = record { 0 = used / 14 } in
     renumber cell physical
 
+-- The reverse: its group.
 unfoldable pub usedGroup : (cell used : ℕ) → ℕ
 usedGroup cell used = groupIn clusterStarts (logicalOf cell used .0)
 
+-- The reverse: its group data number in a symbol.
 unfoldable pub usedData : (cell symbol used : ℕ) → ℕ
 usedData cell symbol used = (logicalOf cell used .0 - entry clusterStarts (usedGroup cell used)) * 12 + clusterData symbol (used % 14)
 
+-- The reverse: the address of the point there.
 unfoldable pub addressOf : (cell offset used : ℕ) → Address
 addressOf cell offset used =
     let g = usedGroup cell used in

@@ -102,4 +102,4 @@ module _ (cell : ℕ) where
         rw (step (tileSubchannel cell (u / 4)) .forth _ (at-u .place-lt), at-u .symbol, at-u .tile, at-u .carrier, tile-forth (u / 4), div-add-mod' u 4)
 
   pub law : SlotLaw 3 70 1680 isTilePilot (spotOf cell) (addressOf cell)
-  law = record { lies = lies; found = found; names = names; placed = placed }
+  law = record { lies = lies; back = found; names = names; forth = placed }

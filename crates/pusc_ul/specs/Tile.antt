@@ -14,7 +14,7 @@ tileOf cell s t = t * 70 + (entry tilePermutation ((s + t) % 70) + cell) % 70
 unfoldable pub tileSubchannel : (cell tile : ℕ) → ℕ
 tileSubchannel cell tile = unrotate 70 (tile / 70) (entry tilePermutationInverse (unrotate 70 cell (tile % 70)))
 
--- corners pilots: the first and the last carrier of a tile in the first and the last symbol of a slot
+-- corners pilots: the first and the last carrier of a tile in the first and the last symbol of a slot; an offset is 0, 1 or 2
 unfoldable pub isTilePilot : (offset used : ℕ) → Bool
 isTilePilot offset used = pick (eqb offset 1) false (pick (eqb (used % 4) 0) true (eqb (used % 4) 3))
 

@@ -14,8 +14,8 @@ use Rattle.pusc_dl.specs.Cluster.{isClusterPilot, firstPilot, secondPilot}
 use Rattle.pusc_ul.specs.Tile.{isTilePilot}
 use Rattle.ofusc.proofs.Sequence.{size}
 use Rattle.map.specs.declared.Setup.{Setup}
-use Rattle.map.specs.Mode.{width, band, isPilot}
-use Rattle.map.specs.Valid.{Valid, setupWith, pusc-dl, pusc-ul, ofusc, amc}
+use Rattle.map.specs.Mode.{width, band, isPilot, setupWith}
+use Rattle.map.specs.Model.{Valid, pusc-dl, pusc-ul, ofusc, amc}
 use Rattle.rows.specs.declared.Comb.{Comb}
 use Rattle.rows.specs.Model.{combOf, pilotNumber}
 

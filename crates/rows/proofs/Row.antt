@@ -22,7 +22,7 @@ use Rattle.carriers.specs.Model.{spotNumber, carrierNumber, carrierStep}
 use Rattle.carriers.proofs.Row.{step-carrier}
 use Rattle.map.specs.declared.Setup.{Setup}
 use Rattle.map.specs.Mode.{width, subchannels, symbols, band, isPilot, spotOf}
-use Rattle.map.specs.Valid.{Valid, pusc-dl, pusc-ul, ofusc, amc}
+use Rattle.map.specs.Model.{Valid, pusc-dl, pusc-ul, ofusc, amc}
 use Rattle.rows.specs.Model.{tableLength, tableEntry, TableOf, shiftOf}
 use Rattle.map.proofs.ByMode.{mode-0, mode-1, mode-2, mode-3, mode-other, in-pusc-dl, in-pusc-ul, in-ofusc, in-amc, bin-width, few}
 use Rattle.map.proofs.Slot.{slot-law}

@@ -6,7 +6,7 @@ ghost use Prim.Native.Nat.{_<_};
 ghost use Rattle.base.specs.Model.{Turned};
 ghost use Rattle.carriers.specs.Model.{spotNumber, carrierNumber};
 ghost use Rattle.map.specs.Mode.{subchannels, band, spotOf};
-ghost use Rattle.map.specs.Valid.{Valid};
+ghost use Rattle.map.specs.Model.{Valid};
 ghost use Rattle.rows.specs.Model.{TableOf, shiftOf, combOf, tileComb, pilotNumber};
 
 // The pilots of a symbol: in each of `count` runs of `step` used numbers the places `first` and `second`.

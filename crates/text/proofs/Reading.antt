@@ -11,7 +11,7 @@ use lib.Seq.{drop-cons}
 use lib.Dec.{eqb}
 use borrow.Author.Tests.{lt-ltb, le-ltb}
 use Rattle.text.proofs.Laws.{below}
-use Rattle.text.specs.Text.{found, digitOf, withDigit, readOn, pastSpaces}
+use Rattle.text.specs.Model.{numeral, digitOf, withDigit, readOn, pastSpaces}
 
 pub digit-low : (byte : ℕ) → byte < 48 → digitOf byte ≡ 10
 unfolding digitOf
@@ -38,11 +38,11 @@ read-digit : (value next byte : ℕ) (rest : List ℕ) → digitOf byte < 10
 unfolding readOn
 read-digit value next byte rest h = rw (lt-ltb (digitOf byte) 10 h)
 
-read-other : (value next byte : ℕ) (rest : List ℕ) → 10 ≤ digitOf byte → readOn value next (byte ∷ rest) ≡ found value next
+read-other : (value next byte : ℕ) (rest : List ℕ) → 10 ≤ digitOf byte → readOn value next (byte ∷ rest) ≡ numeral value next
 unfolding readOn
 read-other value next byte rest h = rw (le-ltb (digitOf byte) 10 h)
 
-read-none : (value next : ℕ) → readOn value next [] ≡ found value next
+read-none : (value next : ℕ) → readOn value next [] ≡ numeral value next
 unfolding readOn
 read-none value next = refl
 
@@ -56,7 +56,7 @@ reads-on src value next digit e h =
 
 -- the reading loop at its end: no digit more
 pub reads-end : (src : List ℕ) (value next digit : ℕ) → digit ≡ digitOf (getD src next 0) → 10 ≤ digit
-    → readOn value next (drop next src) ≡ found value next
+    → readOn value next (drop next src) ≡ numeral value next
 reads-end src value next digit e h =
     ⊎-elim
     (λ inside. ap (readOn value next) (drop-cons src next 0 inside) ∙ read-other value next (getD src next 0) (drop (suc next) src) (rw (← e) h))

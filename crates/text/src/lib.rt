@@ -7,7 +7,7 @@ ghost use mathlib.Core.List.{[], _∷_};
 ghost use Prim.Native.Nat.{_+_, _≤_, _<_};
 ghost use lib.ListN.{length, getD, drop};
 ghost use Rattle.text.specs.Text.{decimal, Put};
-ghost use Rattle.text.specs.Text.{found, digitOf, withDigit, pastSpaces, numberAt};
+ghost use Rattle.text.specs.Model.{numeral, digitOf, withDigit, pastSpaces, numberAt};
 
 // Puts one byte.
 pub fn put_byte(dest: &mut [u8], at: usize, byte: u8) -> usize
@@ -60,7 +60,7 @@ pub struct Number {
 // Reads the number in base ten that stands at a place of `src`, past spaces. It is 0 where no digit
 // stands there, and usize::MAX where it is larger than that.
 pub fn read_number(src: &[u8], at: usize) -> Number
-    ensures { λ r. ⌜ found (r .value) (r .next) ≡ numberAt (now (src .entry)) at ⌝ }
+    ensures { λ r. ⌜ numeral (r .value) (r .next) ≡ numberAt (now (src .entry)) at ⌝ }
 {
     let mut next = past_spaces(src, at);
     let mut value = 0;

@@ -40,6 +40,6 @@ abbrev pub encode : (value : ℕ) → List ℕ
 encode value = encodeIn 3 value
 
 -- What an answer of `read` says: document 01's value, or its number.
-abbrev pub found : Found → Answer Value
+abbrev pub found : (answer : Found) → Answer Value
 found (Is value size) = accepted (record { value = value; size = size })
 found (Refused number) = refused number

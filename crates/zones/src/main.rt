@@ -1,6 +1,6 @@
 // Reads a zone plan from standard input and prints one line a zone, "mode cell slots" in base ten,
-// or "refused N". At most 128 bytes of the input are read: they decide the answer, since an accepted
-// plan has at most 43 and reading looks at no more than 78.
+// or "refused N". At most 128 bytes of the input are read: they decide the answer (`first-128-decide` of
+// plan's law), and an accepted plan has at most 43.
 use libc::STDIN_FILENO;
 use libc::STDOUT_FILENO;
 

@@ -2,7 +2,7 @@
 use mathlib.Core.Path.{sym, ap, _∙_}
 use Prim.Native.Nat.{ℕ}
 use borrow.Author.Needs.{needs}
-use Rattle.amc.specs.Element.{baseSeven, digits}
+use Rattle.amc.specs.Element.{baseSeven, twoDigits}
 use Rattle.amc.proofs.Digit.{number-digits}
 use Rattle.amc.proofs.ZeroRule.{sum-off, sum-other}
 use Rattle.amc.proofs.entry_of.Statement.{statement}
@@ -13,5 +13,5 @@ entry-of-spec =
     tie.close
     (tie.spec
     (λ c κs. search needs) (λ c κs. search needs)
-    (λ c. rw (sum-off _ _ (ap (λ (x : ℕ). baseSeven (digits x)) (c .before .if1 .taken))) (c .difference .ensures))
+    (λ c. rw (sum-off _ _ (ap (λ (x : ℕ). baseSeven (twoDigits x)) (c .before .if1 .taken))) (c .difference .ensures))
     (λ c. rw (sum-other _ _ (λ e. c .before .if1 .left (sym (number-digits _) ∙ e ∙ number-digits _))) (c .difference2 .ensures)))

@@ -7,7 +7,7 @@ use Rattle.base.proofs.unrotate.Statement.{statement}
 use Rattle.base.proofs.unrotate.Tie as tie
 
 sub-result : tie.Need-sub-result
-sub-result c = omega (arith, mod-lt (c .args .c) (c .pre .0))
+sub-result c = omega (arith, mod-lt (c .args .by) (c .pre .0))
 
 returns : tie.Need-returns
 returns c = (refl, mod-lt _ (c .pre .0))

@@ -3,7 +3,7 @@ use borrow.Author.Needs.{needs}
 use Prim.Native.Nat.{_-_}
 use mathlib.Core.Path.{_≡_, refl, sym, _∙_}
 use lib.ListN.{length, drop}
-use Rattle.text.specs.Text.{pastSpaces}
+use Rattle.text.specs.Model.{pastSpaces}
 use Rattle.text.proofs.Reading.{space-more, space-none, space-end}
 use Rattle.text.proofs.past_spaces.Statement.{statement}
 use Rattle.text.proofs.past_spaces.Tie as tie

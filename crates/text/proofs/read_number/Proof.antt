@@ -4,7 +4,7 @@ use Prim.Native.Nat.{ℕ, _-_, _<_}
 use native.Mathlib.Omega.{arith}
 use mathlib.Core.Path.{_≡_, sym, ap, _∙_}
 use lib.ListN.{length, getD, drop}
-use Rattle.text.specs.Text.{digitOf, readOn, numberAt}
+use Rattle.text.specs.Model.{digitOf, readOn, numberAt}
 use Rattle.text.proofs.Reading.{within, reads-on, reads-end}
 use Rattle.text.proofs.read_number.Statement.{statement}
 use Rattle.text.proofs.read_number.Tie as tie

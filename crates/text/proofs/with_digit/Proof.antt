@@ -1,7 +1,7 @@
 -- `text::with_digit` meets its contract.
 use native.Mathlib.Omega.{arith}
 use borrow.Author.Needs.{needs}
-use Rattle.text.specs.Text.{withDigit}
+use Rattle.text.specs.Model.{withDigit}
 use Rattle.text.proofs.with_digit.Statement.{statement}
 use Rattle.text.proofs.with_digit.Tie as tie
 
