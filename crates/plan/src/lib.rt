@@ -227,13 +227,7 @@ pub fn read(bytes: &[u8]) -> ReadPlan
 fn is_unused(zone: Zone) -> bool
     ensures { λ r. ⌜ r ≡ isUnused zone ⌝ }
 {
-    if zone.mode != 0 {
-        return false;
-    }
-    if zone.cell != 0 {
-        return false;
-    }
-    zone.slots == 0
+    (zone.mode | zone.cell | zone.slots) == 0
 }
 
 // Is every place from the count on unused?
