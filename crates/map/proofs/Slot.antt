@@ -41,9 +41,9 @@ only : (slot o : ℕ) → o < 1 → slot * 1 + o ≡ slot
 only slot o h = omega arith
 
 -- a mode that numbers the data carriers of its one symbol
-numbered : (slot n : ℕ) {number : ℕ → ℕ → ℕ} {address : ℕ → Address} → NumberLaw n number address
+by-number : (slot n : ℕ) {number : ℕ → ℕ → ℕ} {address : ℕ → Address} → NumberLaw n number address
     → SlotLaw 1 n (54 * n) (λ o u. isBinPilot (slot * 1 + o) u) (λ s m. binSpot slot (number s m)) (λ o u. address (dataOfUsed (slot * 1 + o) u))
-numbered slot n {number} {address} law =
+by-number slot n {number} {address} law =
     relabel
     (λ o u h. ap (λ (y : ℕ). isBinPilot y u) (only slot o h))
     (λ o u h. ap (λ (y : ℕ). address (dataOfUsed y u)) (only slot o h))
@@ -63,8 +63,8 @@ slot-law (pusc-ul {cell = cell} h) slot =
     (ul-law.law cell)
 slot-law (ofusc {n = n} {cell = cell} w h) slot =
     subst⁻¹ (λ (t : ℕ). SlotLaw 1 t (54 * t) (λ o u. isBinPilot (slot * 1 + o) u) (λ s m. binSpot slot (spread.dataNumber t cell s m)) (λ o u. spread.addressOf t cell (dataOfUsed (slot * 1 + o) u)))
-    (width-is n) (numbered slot n (spread-law.law w cell))
-slot-law (amc {n = n} {cell = cell} w h) slot = rw (width-is n) (numbered slot n (adjacent-law.law cell h n))
+    (width-is n) (by-number slot n (spread-law.law w cell))
+slot-law (amc {n = n} {cell = cell} w h) slot = rw (width-is n) (by-number slot n (adjacent-law.law cell h n))
 
 pub band-law : {c : Setup} → Valid c → BandLaw (band c) (c .size)
 unfolding band width
