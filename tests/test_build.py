@@ -54,6 +54,12 @@ done
 CLEARED = ("CC", "CFLAGS", "LDFLAGS", "BELLPULSAR_LIBRARY")
 
 
+def heed_signals():
+    """In a child, before its program: as from a terminal, even where the tests were started under nohup or behind `&`."""
+    for number in (signal.SIGINT, signal.SIGTERM, signal.SIGHUP):
+        signal.signal(number, signal.SIG_DFL)
+
+
 def stub(tree, name, text):
     """A program of the tree's own."""
     path = os.path.join(tree, "bin", name)
@@ -339,7 +345,7 @@ class Killed(Case):
         self.stub("rt", ENDLESS)
         self.edit("crates", "map", "src", "lib.rt")
         options = {"env": self.env, "stderr": subprocess.DEVNULL, "start_new_session": True}
-        caller = subprocess.Popen(command, cwd=self.tree, **options)
+        caller = subprocess.Popen(command, cwd=self.tree, preexec_fn=heed_signals, **options)
         self.assertTrue(until(lambda: len(self.calls()) == 2))
         processes = list(map(int, self.calls()))
         self.assertTrue(all(map(running, processes)))
