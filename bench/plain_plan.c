@@ -13,7 +13,7 @@ static uint32_t zone_refusal(uint32_t size, const uint32_t *zones, uint32_t k) {
     uint32_t refusal = setup_refusal(mode, size, cell);
     if (refusal) return refusal;
     if (slots < 1 || slots > SLOTS) return 13;
-    if (k == 0) return size == 2048 && (mode != PUSC_DL || cell != 0) ? 14 : 0;
+    if (k == 0) return size == 2048 && mode != PUSC_DL ? 14 : 0;
     return zones[3 * (k - 1)] == AMC && mode != AMC ? 14 : 0;
 }
 

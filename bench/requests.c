@@ -96,8 +96,7 @@ static void any_plan(struct plan *p) {
     uint32_t amc_from = 1 + below(8), other = p->size == 2048 ? PUSC_DL : OFUSC;
     for (uint32_t k = 0; k < p->count; k++) {
         uint32_t mode = below(12) == 0 ? below(4) : k < amc_from ? other : AMC;
-        uint32_t cell = k == 0 && below(12) ? 0 : below(cells(mode, p->size));
-        set_zone(p, k, mode, cell, 1 + below(SLOTS));
+        set_zone(p, k, mode, below(cells(mode, p->size)), 1 + below(SLOTS));
     }
 }
 

@@ -64,11 +64,14 @@ expect 1 "refused 2: Is the size that mode's (of a plan: 256, 512, 1024 or 2048)
 expect 0 "size 2048
 mode 0 cell 0 slots 12
 bytes 01 80 10 00 00 0C" plan 01 80 10 00 00 0C
+expect 0 "size 2048
+mode 0 cell 5 slots 12
+bytes 01 80 10 00 05 0C" plan 01 80 10 00 05 0C
 expect 0 "size 1024
 mode 2 cell 17 slots 3
 mode 3 cell 176 slots 1
 bytes 02 80 08 02 11 03 03 B0 01 01" plan 02 80 08 02 11 03 03 B0 01 01
-expect 1 "refused 14: At 2048, is the first zone mode 0 with cell 0, and does nothing but mode 3 follow mode 3?" plan 01 80 10 02 00 0C
+expect 1 "refused 14: At 2048, is the first zone mode 0, and does nothing but mode 3 follow mode 3?" plan 01 80 10 02 00 0C
 expect 1 "refused 11: Does the value end by its third group, in shortest form?" plan 81 00
 expect 1 "refused 10: Do the bytes reach to the value's end or its third group?" plan
 for word in 100 1 0x1 " 1" -1 +1 0g ""; do

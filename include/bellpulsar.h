@@ -81,7 +81,7 @@ enum bp_refusal {
     BP_REFUSED_FORM = 11,       /* a value goes on after its third group, or is not in its shortest form */
     BP_REFUSED_COUNT = 12,      /* a plan's count of zones is not 1 to 8, or (writing) a place past it is not all zero */
     BP_REFUSED_ZONE_SLOTS = 13, /* a zone's slots are not 1 to 512 */
-    BP_REFUSED_ORDER = 14,      /* at size 2048 the first zone is not mode 0 with cell 0; another mode follows mode 3 */
+    BP_REFUSED_ORDER = 14,      /* at size 2048 the first zone is not mode 0; another mode follows mode 3 */
     BP_REFUSED_LEFT_OVER = 15,  /* bytes are left over behind a plan */
     BP_REFUSED_DEST_LEN = 16    /* the destination is too short for the plan */
 };
@@ -158,7 +158,8 @@ uint32_t bp_amc_collisions(uint32_t cell_a, uint32_t cell_b, uint8_t hits[48], u
 /* Reads a zone plan from its bytes.
  *
  * The bytes are values: the count of zones (1..8), the size (256, 512, 1024, 2048), then mode (0, 2 or 3), cell and slots
- * (1..512) of each zone. A value is one to three groups of seven bits, lowest first, with the top bit set where more
+ * (1..512) of each zone. At size 2048 the first zone is mode 0, with the preamble's cell, any of 0..31; after mode 3 comes
+ * only mode 3. A value is one to three groups of seven bits, lowest first, with the top bit set where more
  * follow, in its shortest form. len may be any number; no plan has more than 43 bytes.
  * Written where it is accepted: *count, *size, and all of zones: mode, cell and slots of eight places one after the other,
  * the places past the count all zero.

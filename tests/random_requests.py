@@ -255,7 +255,7 @@ def good_plan(dice):
     """A plan that is accepted: size and zones."""
     size, zones = dice.choice(ref.BIN_SIZES), []
     if size == 2048:
-        zones.append((ref.PUSC_DL, 0, 1 + within(dice, ref.SLOTS)))
+        zones.append((ref.PUSC_DL, within(dice, ref.cells(ref.PUSC_DL, size)), 1 + within(dice, ref.SLOTS)))
     for _ in range(dice.randrange(0 if zones else 1, 9 - len(zones))):
         modes = [ref.OFUSC, ref.AMC] + [ref.PUSC_DL] * (size == 2048)
         mode = ref.AMC if zones and zones[-1][0] == ref.AMC else dice.choice(modes)

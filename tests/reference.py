@@ -1,4 +1,4 @@
-"""Document 01 in plain Python, written from the papers alone.
+"""Document 01, as changed by document 02's wish 1, in plain Python, written from the papers alone.
 
 The stored vectors and the tests through C are made from this file. It is as simple as it can be
 and slow where that is simpler: locating builds the whole slot by placing and looks the carrier up.
@@ -475,7 +475,7 @@ def judge_zone(size, before, zone):
         raise Refused(number)
     if not 1 <= slots <= 512:
         raise Refused(13)
-    if size == 2048 and before is None and (mode, cell) != (PUSC_DL, 0):
+    if size == 2048 and before is None and mode != PUSC_DL:
         raise Refused(14)
     if before is not None and before[0] == AMC and mode != AMC:
         raise Refused(14)

@@ -193,6 +193,7 @@ class Plans(Case):
         self.prints("plan read " + EXAMPLE, EXAMPLE_TEXT)
         self.prints("plan read 0280080211 0303b00101", EXAMPLE_TEXT)
         self.prints("plan read 01 80 10 00 00 0C", "size 2048\nmode 0 cell 0 slots 12\n")
+        self.prints("plan read 01 80 10 00 05 0C", "size 2048\nmode 0 cell 5 slots 12\n")
 
     def test_read_refusals(self):
         self.refused(14, "plan read 01 80 10 02 00 0C")
@@ -222,6 +223,7 @@ class Plans(Case):
     def test_write(self):
         self.prints("plan write 1024 2,17,3 3,176,1", EXAMPLE + "\n")
         self.prints("plan write 2048 0,0,12", "01 80 10 00 00 0C\n")
+        self.prints("plan write 2048 0,31,12 0,5,1", "02 80 10 00 1F 0C 00 05 01\n")
         self.prints("plan write 256 %s" % " ".join(["3,0,1"] * 8), "08 80 02" + " 03 00 01" * 8 + "\n")
 
     def test_write_refusals(self):
@@ -232,7 +234,8 @@ class Plans(Case):
         self.refused(1, "plan write 1024 2,17,3 %d,17,3" % 2**64)
         self.refused(3, "plan write 1024 2,-1,3")
         self.refused(13, "plan write 1024 2,17,-1")
-        self.refused(14, "plan write 2048 2,0,12")
+        self.refused(14, "plan write 2048 2,0,12", "zone 1: mode 2 is first at size 2048, where only mode 0 is accepted")
+        self.refused(3, "plan write 2048 0,32,12")
         self.refused(14, "plan write 1024 3,0,1 2,0,1")
 
 

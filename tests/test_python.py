@@ -326,9 +326,10 @@ class Refusals(unittest.TestCase):
         self.assertEqual(read("028008 020001 010001"), "zone 2: mode 1 is not one of a plan's: 0, 2, 3")
         self.assertEqual(read("018008 02 8002 01"), "zone 1: cell 256 is not one of mode 2's at size 1024: 0 to 255")
         self.assertEqual(read("018008 02 00 8104"), "zone 1: slots 513 is not one of a zone's: 1 to 512")
-        first = "zone 1: mode %d with cell %d is first at size 2048, where only mode 0 with cell 0 is accepted"
-        self.assertEqual(read("018010 020001"), first % (2, 0))
-        self.assertEqual(write(1, 2048, (0, 5, 1)), first % (0, 5))
+        first = "zone 1: mode %d is first at size 2048, where only mode 0 is accepted"
+        self.assertEqual(read("018010 020001"), first % 2)
+        self.assertEqual(write(1, 2048, (3, 5, 1)), first % 3)
+        self.assertEqual(write(1, 2048, (0, 32, 1)), "zone 1: cell 32 is not one of mode 0's: 0 to 31")
         third = "zone 3: mode 2 follows mode 3, after which only mode 3 is accepted"
         self.assertEqual(write(3, 1024, (2, 0, 1), (3, 0, 1), (2, 0, 1)), third)
         self.assertEqual(read(EXAMPLE.hex() + "00" * 500), "510 bytes are given, and the plan ends after 10")
@@ -687,7 +688,7 @@ def random_plan(rng):
     zones = []
     for _ in range(rng.choice([1, 2, 3, 8])):
         mode = rng.choice([0, 2, 3, 3, 1] if rng.random() < 0.2 else [0] if not zones and size == 2048 else [2, 3])
-        cell = 0 if size == 2048 and not zones else rng.choice([0, 15, 16, 255, 1023, 2351, 2352, MOST])
+        cell = rng.choice([0, 5, 31, 31, 32] if mode == 0 else [0, 15, 16, 255, 1023, 2351, 2352, MOST])
         zones.append((mode, cell, rng.choice([1, 3, 512, 1, 3, 512, 0, 513])))
     return size, zones
 
@@ -710,6 +711,7 @@ class Plans(unittest.TestCase):
         self.assertEqual(plan, bp.Plan(1024, (bp.Zone(2, 17, 3), bp.Zone(3, 176, 1))))
         self.assertEqual((plan.size, plan.zones[1].cell), (1024, 176))
         self.assertEqual(bp.plan_read(bytes.fromhex("01801000000C")), (2048, ((0, 0, 12),)))
+        self.assertEqual(bp.plan_read(bytes.fromhex("01801000050C")), (2048, ((0, 5, 12),)))
         self.assertEqual(refusal(bp.plan_read, bytes.fromhex("01801002000C")), 14)
 
     def test_every_kind_of_bytes(self):

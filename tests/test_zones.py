@@ -41,7 +41,9 @@ REFUSALS = [
     ("018008028001", 10),
     ("018008020000", 13),
     ("01800802008104", 13),
+    ("01801000200C", 3),
     ("01801002000C", 14),
+    ("01801002050C", 14),
     ("0280080300010200 01", 14),
     ("02800802110303B0010100", 15),
 ]
@@ -83,6 +85,7 @@ def of_length(length):
 def inputs():
     yield EXAMPLE
     yield bytes.fromhex("01801000000C")
+    yield bytes.fromhex("01801000050C")
     yield bytes([8, 0x80, 0x10, 0, 0, 1]) + bytes([2, 0xFF, 7, 0x80, 4]) * 7
     for text, _ in REFUSALS:
         yield bytes.fromhex(text)

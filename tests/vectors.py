@@ -317,9 +317,10 @@ ROOM, BEFORE = 48, 238
 PLANS = [
     (1024, [(2, 17, 3), (3, 176, 1)]),
     (2048, [(0, 0, 12)]),
+    (2048, [(0, 5, 12)]),
     (256, [(2, 15, 512)]),
     (512, [(3, 2351, 1), (3, 0, 512)]),
-    (2048, [(0, 0, 1), (2, 1023, 512), (0, 31, 2), (3, 48, 127), (3, 2351, 128)]),
+    (2048, [(0, 17, 1), (2, 1023, 512), (0, 31, 2), (3, 48, 127), (3, 2351, 128)]),
     (2048, [(0, 0, 1)] + [(2, 1023, 512)] * 7),
     (1024, [(3, 2351, 512)] * 8),
 ]
@@ -354,8 +355,8 @@ def one_zone(size, zone):
     return [(0, 0, 1), zone] if size == 2048 else [zone]
 
 
-def wrong_plans():
-    """(count, size, zones) with one fault, and with two, where the first question decides."""
+def limit_plans():
+    """(count, size, zones) about the limits: accepted, with one fault, and with two, where the first question decides."""
     good = [(2, 3, 4)]
     for count in (0, 9, 127, 128):
         yield count, 1024, good * min(count, 9)
@@ -375,7 +376,8 @@ def wrong_plans():
         for slots in (0, 1, 512, 513):
             yield 1, size, [(3, 5, slots)]
             yield 2, size, one_zone(256, (0, 0, slots)) * 2
-    for first in ((0, 0, 1), (0, 1, 1), (2, 0, 1), (3, 0, 1), (2, 0, 0), (0, 32, 1), (1, 0, 0)):
+    firsts = [(0, cell, 1) for cell in range(33)] + [(2, 0, 1), (2, 5, 1), (3, 0, 1), (3, 5, 1), (2, 0, 0), (1, 0, 0)]
+    for first in firsts:
         yield 1, 2048, [first]
         yield 2, 2048, [first, (3, 1, 1)]
     for size in ref.BIN_SIZES:
@@ -409,7 +411,7 @@ def plan_readings():
         yield data + [0]
         yield data + [0x80]
         yield from changed_bytes(data) if len(data) < 30 else ()
-    for count, size, zones in wrong_plans():
+    for count, size, zones in limit_plans():
         data = plan_bytes(count, size, zones)
         yield data
         yield data + [0]
@@ -440,7 +442,7 @@ def plan_writings():
         for field in range(3):
             for value in (2**21, 2**32, LARGEST):
                 yield ROOM, len(zones), size, with_number(zones, len(zones) - 1, field, value)
-    for count, size, zones in wrong_plans():
+    for count, size, zones in limit_plans():
         if len(zones) <= ref.PLACES:
             yield ROOM, count, size, zones
     for size in (1024 + 2**32, LARGEST):

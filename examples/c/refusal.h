@@ -20,7 +20,7 @@ static const char *const questions[17] = {
     "Does the value end by its third group, in shortest form?",
     "Is the count 1 to 8, and in writing every place past it zero?",
     "Are the slots 1 to 512?",
-    "At 2048, is the first zone mode 0 with cell 0, and does nothing but mode 3 follow mode 3?",
+    "At 2048, is the first zone mode 0, and does nothing but mode 3 follow mode 3?",
     "Are the bytes used up?",
     "Is the destination long enough?",
 };

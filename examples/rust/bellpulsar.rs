@@ -75,7 +75,7 @@ impl Refusal {
             11 => "Does the value end by its third group, in shortest form?",
             12 => "Is the count 1 to 8, and in writing every place past it zero?",
             13 => "Are the slots 1 to 512?",
-            14 => "At 2048, is the first zone mode 0 with cell 0, and does nothing but mode 3 follow mode 3?",
+            14 => "At 2048, is the first zone mode 0, and does nothing but mode 3 follow mode 3?",
             15 => "Are the bytes used up?",
             16 => "Is the destination long enough?",
             _ => "A question that document 01 does not have",

@@ -21,7 +21,7 @@ QUESTIONS = {
     11: "Does the value end by its third group, in shortest form?",
     12: "Is the count 1 to 8, and in writing every place past it zero?",
     13: "Are the slots 1 to 512?",
-    14: "At 2048, is the first zone mode 0 with cell 0, and does nothing but mode 3 follow mode 3?",
+    14: "At 2048, is the first zone mode 0, and does nothing but mode 3 follow mode 3?",
     15: "Are the bytes used up?",
     16: "Is the destination long enough?",
 }
@@ -147,9 +147,9 @@ def field_words(number, asked):
 
 
 def order_words(size, zones, at):
-    mode, cell, _ = zones[at]
-    if size == 2048 and at == 0 and (mode, cell) != (0, 0):
-        return "mode %d with cell %d is first at size 2048, where only mode 0 with cell 0 is accepted" % (mode, cell)
+    mode = zones[at][0]
+    if size == 2048 and at == 0 and mode != 0:
+        return "mode %d is first at size 2048, where only mode 0 is accepted" % mode
     if at > 0 and zones[at - 1][0] == 3 and mode != 3:
         return "mode %d follows mode 3, after which only mode 3 is accepted" % mode
 

@@ -105,10 +105,10 @@ static int collisions_are_right(void)
 
 static int plan_is_right(void)
 {
-    const uint8_t bytes[6] = {0x01, 0x80, 0x10, 0x00, 0x00, 0x0C};
+    const uint8_t bytes[6] = {0x01, 0x80, 0x10, 0x00, 0x05, 0x0C};
     uint8_t again[6] = {0, 0, 0, 0, 0, 0};
     uint32_t count, size, zones[24], written;
-    if (bp_plan_read(bytes, 6, &count, &size, zones) != 0 || count != 1 || size != 2048 || zones[2] != 12)
+    if (bp_plan_read(bytes, 6, &count, &size, zones) != 0 || count != 1 || size != 2048 || zones[1] != 5)
         return 0;
     if (bp_plan_write(count, size, zones, again, 6, &written) != 0 || written != 6)
         return 0;

@@ -6,7 +6,7 @@ use Rattle.base.specs.Steps.{skip, unskip}
 use Rattle.base.specs.Tabulate.{tabulate}
 use Rattle.map.specs.Place.{placeOf, locateOf, placeAt, contentOf, dataAt}
 use Rattle.collision.specs.Collision.{countOf, indexIn, carrierIn, ofuscHit, amcHit, answerOf, ofuscOf, amcOf}
-use Rattle.plan.proofs.Points.{starred}
+use Rattle.plan.proofs.Points.{starred, twin}
 use Rattle.known.specs.Table.{Known, AnyCell, setFrom, groups, indices}
 use Rattle.carriers.specs.Band as band
 use Rattle.carriers.specs.Bin as bin
@@ -55,4 +55,5 @@ known =
       line-9 = refl;
       line-10 = any-cell;
       line-11 = starred;
+      line-11-twin = twin;
     }

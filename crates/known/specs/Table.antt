@@ -1,4 +1,4 @@
--- Document 01, "Known points": the starred lines, in its order, as one statement. A line's number is its place among the eleven. Its proof is `known`.
+-- Document 01, "Known points": the starred lines, in its order, as one statement. A line's number is its place among the eleven. What document 02 adds stands behind the line that it belongs to. Its proof is `known`.
 use mathlib.Core.Path.{_≡_}
 use mathlib.Core.Bool.{Bool, true, false}
 use mathlib.Core.List.{List, [], _∷_}
@@ -39,7 +39,7 @@ groups = 0 ∷ 1 ∷ 31 ∷ 32 ∷ []
 abbrev pub indices : List ℕ
 indices = 8 ∷ 24 ∷ 32 ∷ []
 
--- the zone of line 11
+-- the zone of line 11 and its twin
 abbrev pub zone : (mode cell slots : ℕ) → Zone
 zone mode cell slots = record { mode = mode; cell = cell; slots = slots }
 
@@ -73,3 +73,5 @@ pub record Known : Type 0 where
   pub line-10 : (cell : ℕ) → cell < 32 → AnyCell cell
   -- The plan 01 80 10 00 00 0C (hex) is read; with 02 for its mode, refusal 14.
   pub line-11 : (planOf (1 ∷ 0x80 ∷ 0x10 ∷ 0 ∷ 0 ∷ 0x0C ∷ []) ≡ accepted (planWith 1 2048 (zone 0 0 12 ∷ []))) × (planOf (1 ∷ 0x80 ∷ 0x10 ∷ 2 ∷ 0 ∷ 0x0C ∷ []) ≡ refused 14)
+  -- Document 02, wish 1: its twin with cell 5, 01 80 10 00 05 0C (hex), is read.
+  pub line-11-twin : planOf (1 ∷ 0x80 ∷ 0x10 ∷ 0 ∷ 5 ∷ 0x0C ∷ []) ≡ accepted (planWith 1 2048 (zone 0 5 12 ∷ []))

@@ -1,4 +1,4 @@
--- The plans that document 01 names, and others that show which question comes first.
+-- The plans that documents 01 and 02 name, and others that show which question comes first.
 use mathlib.Core.Path.{_≡_, refl}
 use mathlib.Core.List.{[], _∷_}
 use Prim.Native.Nat.{ℕ}
@@ -21,6 +21,11 @@ two-zones = refl
 pub starred : (planOf (1 ∷ 0x80 ∷ 0x10 ∷ 0 ∷ 0 ∷ 0x0C ∷ []) ≡ accepted (planWith 1 2048 (zone 0 0 12 ∷ []))) × (planOf (1 ∷ 0x80 ∷ 0x10 ∷ 2 ∷ 0 ∷ 0x0C ∷ []) ≡ refused 14)
 unfolding planOf readZones valueIn isZoneMode isUpTo isOpening isFollowing inPlaces isSize isCell isFourSizes cells width
 starred = (refl, refl)
+
+-- its twin with cell 5 (document 02, wish 1)
+pub twin : planOf (1 ∷ 0x80 ∷ 0x10 ∷ 0 ∷ 5 ∷ 0x0C ∷ []) ≡ accepted (planWith 1 2048 (zone 0 5 12 ∷ []))
+unfolding planOf readZones valueIn isZoneMode isUpTo isOpening isFollowing inPlaces isSize isCell isFourSizes cells width
+twin = refl
 
 pub first-refusals :
     (planOf (2 ∷ 0x80 ∷ 0x10 ∷ 2 ∷ 0 ∷ 1 ∷ []) ≡ refused 14)

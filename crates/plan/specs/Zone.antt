@@ -31,9 +31,9 @@ isCount count = isUpTo 8 count
 abbrev pub isSlots : (slots : ℕ) → Bool
 isSlots slots = isUpTo 512 slots
 
--- 14 At 2048, is the first zone mode 0 with cell 0 (document 003)?
+-- 14 At 2048, is the first zone mode 0? Its cell is the preamble's, any of mode 0's (document 02, wish 1).
 unfoldable pub isOpening : (size : ℕ) (zone : Zone) → Bool
-isOpening size zone = pick (eqb size 2048) (pick (eqb (zone .mode) 0) (eqb (zone .cell) 0) false) true
+isOpening size zone = pick (eqb size 2048) (eqb (zone .mode) 0) true
 
 -- 14 And at every size, does nothing but mode 3 follow mode 3?
 unfoldable pub isFollowing : (mode : ℕ) (zone : Zone) → Bool

@@ -67,10 +67,7 @@ fn is_order(size: usize, prior: Before, zone: Zone) -> bool
             if size != 2048 {
                 return true;
             }
-            if zone.mode != 0 {
-                return false;
-            }
-            zone.cell == 0
+            zone.mode == 0
         }
         Before::After(mode) => {
             if mode != 3 {

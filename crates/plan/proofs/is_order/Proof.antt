@@ -12,8 +12,7 @@ is-order-spec =
     (tie.spec
     (λ c. search needs)
     (λ c. rw (c .before .enum-told .given .1, ne-eqb _ 2048 (c .if1 .taken)))
-    (λ c. rw (c .before .before .before .enum-told .given .1, eq-eqb _ 2048 (c .before .before .if1 .left), ne-eqb _ 0 (c .if2 .taken)))
     (λ c. search needs)
-    (λ c. rw (c .before .before .prior .given .1, ne-eqb _ 3 (c .if3 .taken)))
-    (λ c. rw (c .before .before .before .before .enum-told .given .1, eq-eqb _ 2048 (c .before .before .before .if1 .left), eq-eqb _ 0 (c .before .if2 .left)))
-    (λ c. rw (c .before .before .before .prior .given .1, eq-eqb _ 3 (c .before .if3 .left))))
+    (λ c. rw (c .before .before .prior .given .1, ne-eqb _ 3 (c .if2 .taken)))
+    (λ c. rw (c .before .before .enum-told .given .1, eq-eqb _ 2048 (c .before .if1 .left)))
+    (λ c. rw (c .before .before .before .prior .given .1, eq-eqb _ 3 (c .before .if2 .left))))
