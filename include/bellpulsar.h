@@ -158,9 +158,9 @@ uint32_t bp_amc_collisions(uint32_t cell_a, uint32_t cell_b, uint8_t hits[48], u
 /* Reads a zone plan from its bytes.
  *
  * The bytes are values: the count of zones (1..8), the size (256, 512, 1024, 2048), then mode (0, 2 or 3), cell and slots
- * (1..512) of each zone. At size 2048 the first zone is mode 0, with the preamble's cell, any of 0..31; after mode 3 comes
- * only mode 3. A value is one to three groups of seven bits, lowest first, with the top bit set where more
- * follow, in its shortest form. len may be any number; no plan has more than 43 bytes.
+ * (1..512) of each zone. At size 2048 the first zone is mode 0, with any cell of that mode; after mode 3 comes only mode 3.
+ * A value is one to three groups of seven bits, lowest first, with the top bit set where more follow, in its shortest form.
+ * len may be any number; no plan has more than 43 bytes.
  * Written where it is accepted: *count, *size, and all of zones: mode, cell and slots of eight places one after the other,
  * the places past the count all zero.
  * Refusals, in this order: 10 and 11 at each value as it is read; 12 directly after the count; 2 directly after the size;

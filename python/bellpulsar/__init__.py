@@ -174,7 +174,10 @@ class Zone(NamedTuple):
 
 
 class Plan(NamedTuple):
-    """A zone plan: the FFT size and its one to eight zones. Unused places, which are all zero, are left out."""
+    """A zone plan: the FFT size and its one to eight zones. Unused places, which are all zero, are left out.
+
+    At size 2048 the first zone is mode 0, with any of its cells; after mode 3 comes only mode 3.
+    """
 
     size: int
     zones: Tuple[Zone, ...]

@@ -33,7 +33,7 @@ Any number may be given: the engine refuses what is out of range."""
 
 PLAN_RULES = """\
 A plan has a SIZE (256, 512, 1024 or 2048) and one to eight zones, each of MODE 0, 2 or 3, a CELL of that mode and 1 to
-512 SLOTS. At 2048 the first zone is mode 0. After a zone of mode 3 come zones of mode 3 only.
+512 SLOTS. At 2048 the first zone is mode 0, with any of its cells. After a zone of mode 3 come zones of mode 3 only.
 ./bellpulsar --help has the modes and their cells."""
 
 OVERVIEW = """\
