@@ -1,12 +1,13 @@
--- The known points hold: each by computing both sides; in line 10 all that is asked of the cell is that it is below 32.
+-- The known points hold: each by computing both sides; in line 10, and in the lemma behind line 11, all that is asked of the cell is that it is below 32.
 use mathlib.Core.Path.{_≡_, refl}
 use Prim.Native.Nat.{ℕ, _<_}
+use native.Mathlib.Omega.{arith}
 use borrow.Author.Tests.{lt-ltb}
 use Rattle.base.specs.Steps.{skip, unskip}
 use Rattle.base.specs.Tabulate.{tabulate}
 use Rattle.map.specs.Place.{placeOf, locateOf, placeAt, contentOf, dataAt}
 use Rattle.collision.specs.Collision.{countOf, indexIn, carrierIn, ofuscHit, amcHit, answerOf, ofuscOf, amcOf}
-use Rattle.plan.proofs.Points.{starred, twin}
+use Rattle.plan.proofs.Points.{any-first-cell, first-refusals}
 use Rattle.known.specs.Table.{Known, AnyCell, setFrom, groups, indices}
 use Rattle.carriers.specs.Band as band
 use Rattle.carriers.specs.Bin as bin
@@ -54,6 +55,6 @@ known =
       line-8 = refl;
       line-9 = refl;
       line-10 = any-cell;
-      line-11 = starred;
-      line-11-twin = twin;
+      line-11 = (any-first-cell 0 (omega arith), first-refusals .0);
+      line-11-twin = any-first-cell 5 (omega arith);
     }
