@@ -1,23 +1,23 @@
--- AMC numbers the data carriers of a symbol one for one: index j and v are a rotation, the sequence P, a sum and the zero rule apart.
+-- AMC numbers the data carriers of a slot one for one: index j and v are a rotation, the sequence P, a sum and the zero rule apart, and v and the data place are digits.
 use mathlib.Core.Path.{_≡_, ap, _∙_}
 use Prim.Native.Nat.{ℕ, _+_, _-_, _*_, _/_, _%_, _<_}
-use native.Mathlib.Nat.{pos-of-ne-zero}
+use native.Mathlib.Nat.{pos-of-ne-zero, mod-lt, mul-assoc, mul-comm, div-add-mod', div-lt-iff-lt-mul}
 use native.Mathlib.Omega.{arith}
+use lib.Arith.{digits-div, digits-mod, digits-lt}
 use lib.Dec.{lit<}
 use Rattle.base.specs.Steps.{entry, unrotate}
 use Rattle.base.proofs.Perm.{Perm, rotation}
+use Rattle.carriers.specs.declared.DataPlace.{DataPlace}
 use Rattle.carriers.specs.Law.{NumberLaw}
+use Rattle.amc.specs.declared.Shape.{Shape}
 use Rattle.amc.specs.Table.{positions}
 use Rattle.amc.specs.Element.{Element, baseSeven, twoDigits, add, subtract, sequence}
-use Rattle.amc.specs.Map.{off, zeroRule, sumOf, elementOf, traffic, indexOf, dataNumber, addressOf}
+use Rattle.amc.specs.Map.{off, zeroRule, sumOf, elementOf, traffic, indexOf, trafficPlace, dataPlace, addressOf}
+use Rattle.amc.specs.Model.{IsShape}
 use Rattle.amc.proofs.Digit.{Proper, number-lt, digits-proper, digits-number, add-proper, subtract-proper, subtract-add, add-subtract, added-differs, subtracted-differs}
 use Rattle.amc.proofs.Tables.{powers, position-lt, at-position}
+use Rattle.amc.proofs.Parts.{bins-pos, symbols-six, by-six, rest-six}
 use Rattle.amc.proofs.ZeroRule.{sum-back, rule-nonzero, rule-proper, rule-back, sum-not-off, sum-proper}
-
--- the 48 data numbers of a subchannel run on from its first
-pub number-by-first : (cell a j : ℕ) → traffic cell j + 48 * a ≡ dataNumber cell a j
-unfolding dataNumber
-number-by-first cell a j = omega arith
 
 module _ (cell : ℕ) (range : cell < 2352) where
   abbrev pub o : Element
@@ -114,23 +114,90 @@ module _ (cell : ℕ) (range : cell < 2352) where
   unfolding indexOf
   traffic-perm = record { to-lt = λ j h. traffic-lt j; from-lt = λ v h. omega arith; back = index-traffic; forth = traffic-index }
 
-  -- 48 data numbers a subchannel, in the order of v
-  number-is : (a j : ℕ) → dataNumber cell a j ≡ 48 * a + traffic cell j
-  unfolding dataNumber
-  number-is a j = omega (arith, traffic-lt j)
+-- the bin of a data number and its place there, which are the subchannel's and v's
+pub bin-of : (shape : Shape) (a v : ℕ) → trafficPlace shape a v .number / 8 ≡ a * shape .bins + v / 8 % shape .bins
+unfolding trafficPlace
+bin-of shape a v = omega arith
 
-  pub law : (n : ℕ) → NumberLaw n (dataNumber cell) (addressOf cell)
-  unfolding addressOf
-  law n =
+pub place-of : (shape : Shape) (a v : ℕ) → trafficPlace shape a v .number % 8 ≡ v % 8
+unfolding trafficPlace
+place-of shape a v = omega arith
+
+-- THE SLOT IS PARTITIONED, whatever its shape: the six bins of a subchannel are symbol and bin as two digits, and the bins of a symbol are subchannel and bin as two digits.
+module _ (shape : Shape) (six : IsShape shape) where
+  abbrev b : ℕ
+  b = shape .bins
+
+  abbrev t : ℕ
+  t = shape .symbols
+
+  pos : 0 < b
+  pos = bins-pos shape six
+
+  rest-lt : (w : ℕ) → w % b < b
+  rest-lt w = mod-lt w pos
+
+  -- the bins of a symbol
+  pub all-bins : (n : ℕ) → n * t * b ≡ 6 * n
+  all-bins n = mul-assoc n t b ∙ ap (λ (x : ℕ). n * x) (symbols-six shape six) ∙ mul-comm n 6
+
+  pub offset-below : (v : ℕ) → v < 48 → v / 8 / b < t
+  offset-below v h = div-lt-iff-lt-mul pos .1 (rw (symbols-six shape six) (omega arith))
+
+  -- a symbol and a bin of a subchannel as a traffic place
+  pub traffic-below : (o d : ℕ) → o < t → (o * b + d / 8 % b) * 8 + d % 8 < 48
+  traffic-below o d h = omega (arith, rw (symbols-six shape six) at (digits-lt h (rest-lt (d / 8))))
+
+  -- as the code puts it together
+  pub index-below : (o d : ℕ) → o < t → (o * b + (d / 8 - d / 8 * t / 6 * b)) * 8 + d % 8 < 48
+  index-below o d h = rw (rest-six shape six (d / 8) (d / 8 * t / 6) (by-six shape six (d / 8))) (traffic-below o d h)
+
+  module _ (a v : ℕ) where
+    abbrev its : DataPlace
+    its = trafficPlace shape a v
+
+    subchannel-of : its .number / 8 / b ≡ a
+    subchannel-of = ap (λ (w : ℕ). w / b) (bin-of shape a v) ∙ digits-div a (rest-lt (v / 8))
+
+    pub traffic-back : (its .offset * b + its .number / 8 % b) * 8 + its .number % 8 ≡ v
+    unfolding trafficPlace
+    traffic-back =
+        let bin : its .number / 8 % b ≡ v / 8 % b = ap (λ (w : ℕ). w % b) (bin-of shape a v) ∙ digits-mod a (rest-lt (v / 8)) in
+        omega (arith, bin, place-of shape a v, div-add-mod' (v / 8) b)
+
+    pub offset-lt : v < 48 → its .offset < t
+    unfolding trafficPlace
+    offset-lt = offset-below v
+
+    pub number-below : (n : ℕ) → a < n * t → its .number < 48 * n
+    unfolding trafficPlace
+    number-below n h = omega (arith, all-bins n, digits-lt h (rest-lt (v / 8)))
+
+  -- the digits put together again
+  module _ (o d : ℕ) where
+    abbrev its-v : ℕ
+    its-v = (o * b + d / 8 % b) * 8 + d % 8
+
+    pub place-back : trafficPlace shape (d / 8 / b) its-v ≡ record { offset = o; number = d }
+    unfolding trafficPlace
+    place-back =
+        let w : its-v / 8 ≡ o * b + d / 8 % b = omega arith in
+        let offset : its-v / 8 / b ≡ o = ap (λ (k : ℕ). k / b) w ∙ digits-div o (rest-lt (d / 8)) in
+        let bin : its-v / 8 % b ≡ d / 8 % b = ap (λ (k : ℕ). k % b) w ∙ digits-mod o (rest-lt (d / 8)) in
+        let number : (d / 8 / b * b + its-v / 8 % b) * 8 + its-v % 8 ≡ d = omega (arith, bin, div-add-mod' (d / 8) b) in
+        λ i. record { offset = offset i; number = number i }
+
+  pub law : (cell : ℕ) → cell < 2352 → (n : ℕ) → NumberLaw t (n * t) (48 * n) (dataPlace shape cell) (addressOf shape cell)
+  unfolding dataPlace addressOf
+  law cell range n =
       record {
-        number-lt = λ a j ha hj. omega (arith, number-is a j, traffic-lt j);
-        back = λ a j ha hj. λ i. record { subchannel = subchannel a j i; index = (ap (indexOf cell) (number-v a j) ∙ index-traffic j hj) i };
-        names = λ d h. record { subchannel-lt = omega arith; index-lt = traffic-perm .from-lt (d / 8 % 6 * 8 + d % 8) (omega arith) };
-        forth = λ d h. number-is (d / 8 / 6) (indexOf cell (d / 8 % 6 * 8 + d % 8)) ∙ ap (λ (v : ℕ). 48 * (d / 8 / 6) + v) (traffic-index (d / 8 % 6 * 8 + d % 8) (omega arith)) ∙ omega arith;
+        offset-lt = λ a j ha hj. offset-lt a (traffic cell j) (traffic-lt cell range j);
+        number-lt = λ a j ha hj. number-below a (traffic cell j) n ha;
+        back = λ a j ha hj. λ i. record { subchannel = subchannel-of a (traffic cell j) i; index = (ap (indexOf cell) (traffic-back a (traffic cell j)) ∙ index-traffic cell range j hj) i };
+        names = λ o d ho hd.
+            record {
+              subchannel-lt = div-lt-iff-lt-mul pos .1 (rw (all-bins n) (omega arith));
+              index-lt = traffic-perm cell range .from-lt _ (traffic-below o d ho);
+            };
+        forth = λ o d ho hd. ap (trafficPlace shape (d / 8 / b)) (traffic-index cell range _ (traffic-below o d ho)) ∙ place-back o d;
       }
-    where
-      subchannel : (a j : ℕ) → dataNumber cell a j / 8 / 6 ≡ a
-      subchannel a j = omega (arith, number-is a j, traffic-lt j)
-
-      number-v : (a j : ℕ) → dataNumber cell a j / 8 % 6 * 8 + dataNumber cell a j % 8 ≡ traffic cell j
-      number-v a j = omega (arith, number-is a j, traffic-lt j)

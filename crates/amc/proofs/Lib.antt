@@ -2,5 +2,6 @@
 pub mod Digit
 pub mod Tables
 pub mod ZeroRule
+pub mod Parts
 pub mod Law
 pub mod Row

@@ -1,9 +1,11 @@
--- The permutation of AMC. Document 01, "Adjacent mode".
+-- The permutation of AMC. Document 01, "Adjacent mode", over the slot's shape: bins of a subchannel by symbols (document 02, wish 2; document 01 has six by one).
 use Prim.Native.Nat.{ℕ, _+_, _-_, _*_, _/_, _%_}
 use lib.Dec.{eqb}
 use Rattle.base.specs.Choice.{pick}
 use Rattle.base.specs.Steps.{entry, unrotate}
 use Rattle.carriers.specs.declared.Address.{Address}
+use Rattle.carriers.specs.declared.DataPlace.{DataPlace}
+use Rattle.amc.specs.declared.Shape.{Shape}
 use Rattle.amc.specs.Table.{positions}
 use Rattle.amc.specs.Element.{Element, baseSeven, twoDigits, element, add, subtract, sequence}
 
@@ -31,10 +33,15 @@ sumOf o e = pick (eqb (baseSeven e) (baseSeven o)) (element 0 0) e
 unfoldable pub indexOf : (cell v : ℕ) → ℕ
 indexOf cell v = unrotate 48 (cell % 48) (entry positions (baseSeven (subtract (sumOf (off cell) (twoDigits (v + 1))) (off cell))))
 
--- Subchannel a is bins 6a to 6a+5; the point is on place v mod 8 of the subchannel's bin v div 8. (Data number d is place d mod 8 of bin d div 8.)
-unfoldable pub dataNumber : (cell a j : ℕ) → ℕ
-dataNumber cell a j = (6 * a + traffic cell j / 8) * 8 + traffic cell j % 8
+-- Document 02, wish 2: subchannel a takes its bins from bin bins·a on. Its 48 traffic places run along the eight data carriers of a bin, then its next bin, then the next symbol. (Data number d is place d mod 8 of bin d div 8.)
+unfoldable pub trafficPlace : (shape : Shape) (a v : ℕ) → DataPlace
+trafficPlace shape a v =
+    record { offset = v / 8 / shape .bins; number = (a * shape .bins + v / 8 % shape .bins) * 8 + v % 8 }
 
--- The reverse: the address of a data number, which is the subchannel of its bin and the index of its v.
-unfoldable pub addressOf : (cell d : ℕ) → Address
-addressOf cell d = record { subchannel = d / 8 / 6; index = indexOf cell (d / 8 % 6 * 8 + d % 8) }
+unfoldable pub dataPlace : (shape : Shape) (cell a j : ℕ) → DataPlace
+dataPlace shape cell a j = trafficPlace shape a (traffic cell j)
+
+-- The reverse: the address of a data number in a symbol of the slot, which is the subchannel of its bin and the index of its v.
+unfoldable pub addressOf : (shape : Shape) (cell offset d : ℕ) → Address
+addressOf shape cell offset d =
+    record { subchannel = d / 8 / shape .bins; index = indexOf cell ((offset * shape .bins + d / 8 % shape .bins) * 8 + d % 8) }

@@ -1,16 +1,29 @@
-// AMC, six bins by one symbol: pairs of base-seven twoDigits, the sequence P, the zero rule.
+// AMC: pairs of base-seven twoDigits, the sequence P, the zero rule; the slot's shape.
 use base::unrotate;
 use base::wide;
 use base::wide16;
 use carriers::Address;
+use carriers::DataPlace;
 ghost use mathlib.Core.Path.{_≡_};
-ghost use Prim.Native.Nat.{_+_, _/_, _%_, _<_};
-ghost use Rattle.base.specs.Tabulate.{tabulate};
+ghost use Prim.Native.Nat.{_+_, _*_, _/_, _%_, _<_, _≤_};
 ghost use Rattle.base.specs.Model.{Starts};
 ghost use Rattle.amc.specs.Table.{sequenceDigits};
 ghost use Rattle.amc.specs.Element.{element, baseSeven, twoDigits, subtract};
-ghost use Rattle.amc.specs.Map.{sumOf, traffic as Traffic, indexOf, dataNumber, addressOf};
-ghost use Rattle.amc.specs.Model.{sumPlace, sequencePlace, sequenceNumber};
+ghost use Rattle.amc.specs.Map.{sumOf, traffic as Traffic, indexOf, dataPlace, addressOf};
+ghost use Rattle.amc.specs.Model.{IsShape, EvenWidth, sumPlace, sequencePlace, trafficCarrier, tableEntry, sequenceCarrier};
+
+// A slot's shape: bins of a subchannel by symbols.
+pub struct Shape {
+    pub bins: usize,
+    pub symbols: usize,
+}
+
+// A traffic place in its subchannel: the symbol of the slot, the bin, the place in the bin.
+struct TrafficPlace {
+    offset: u16,
+    bin: u16,
+    place: u16,
+}
 
 // The sequence P as document 004 prints it: the digits of 22 are 2 and 2.
 const SEQUENCE: [u8; 48] = [
@@ -148,11 +161,11 @@ fn sequence_place(p: &[u8; 48], cell: usize, i: usize) -> u16
 }
 
 // The place v of index j among the 48 traffic places of a subchannel.
-fn traffic(cell: usize, j: usize) -> usize
+fn traffic(cell: usize, j: usize) -> u16
     requires { ⌜ (cell < 2352) × (j < 48) ⌝ }
     ensures { λ r. ⌜ r ≡ Traffic cell j ⌝ }
 {
-    wide16(sequence_place(&SEQUENCE, cell, (j + cell % 48) % 48))
+    sequence_place(&SEQUENCE, cell, (j + cell % 48) % 48)
 }
 
 // The difference of two elements, all three read in base seven.
@@ -184,23 +197,43 @@ fn index(cell: usize, v: usize) -> usize
     unrotate(48, cell % 48, wide(POSITIONS[x]))
 }
 
-// The data number of a point.
-pub fn data_number(cell: usize, subchannel: usize, index: usize) -> usize
-    requires { ⌜ (cell < 2352) × (subchannel < 65536) × (index < 48) ⌝ }
-    ensures { λ r. ⌜ r ≡ dataNumber cell subchannel index ⌝ }
+// Where traffic place v lies in its subchannel. A subchannel has six bins in all its symbols, so w div bins is
+// w·symbols div 6.
+fn traffic_place(shape: Shape, v: u16) -> TrafficPlace
+    requires { ⌜ IsShape shape × (v < 48) ⌝ }
+    ensures { λ r. ⌜ (r .offset ≡ v / 8 / shape .bins) × (r .bin ≡ v / 8 % shape .bins) × (r .place ≡ v % 8) ⌝ }
+    ensures { λ r. ⌜ (r .offset < 6) × (r .bin < 6) ⌝ }
 {
-    let v = traffic(cell, index);
-    (6 * subchannel + v / 8) * 8 + v % 8
+    let offset = v / 8 * shape.symbols as u16 / 6;
+    TrafficPlace {
+        offset: offset,
+        bin: v / 8 - offset * shape.bins as u16,
+        place: v % 8,
+    }
 }
 
-// The reverse: the point of a data number.
-pub fn address(cell: usize, d: usize) -> Address
-    requires { ⌜ cell < 2352 ⌝ }
-    ensures { λ r. ⌜ r ≡ addressOf cell d ⌝ }
+// The symbol and the data number of a point.
+pub fn data_place(shape: Shape, cell: usize, subchannel: usize, index: usize) -> DataPlace
+    requires { ⌜ IsShape shape × (cell < 2352) × (subchannel < 65536) × (index < 48) ⌝ }
+    ensures { λ r. ⌜ r ≡ dataPlace shape cell subchannel index ⌝ }
 {
+    let x = traffic_place(shape, traffic(cell, index));
+    DataPlace {
+        offset: wide16(x.offset),
+        number: (subchannel * shape.bins + wide16(x.bin)) * 8 + wide16(x.place),
+    }
+}
+
+// The reverse: the point of a data number in a symbol of the slot.
+pub fn address(shape: Shape, cell: usize, offset: usize, d: usize) -> Address
+    requires { ⌜ IsShape shape × (cell < 2352) × (offset < shape .symbols) × (d < 65536) ⌝ }
+    ensures { λ r. ⌜ r ≡ addressOf shape cell offset d ⌝ }
+{
+    let subchannel = d / 8 * shape.symbols / 6;
+    let bin = d / 8 - subchannel * shape.bins;
     Address {
-        subchannel: d / 8 / 6,
-        index: index(cell, d / 8 % 6 * 8 + d % 8),
+        subchannel: subchannel,
+        index: index(cell, (offset * shape.bins + bin) * 8 + d % 8),
     }
 }
 
@@ -219,17 +252,54 @@ pub fn table(cell: usize) -> [u16; 188]
     table
 }
 
-// The data numbers of a subchannel, by the places of P.
-pub fn numbers(cell: usize, subchannel: usize, table: &[u16; 188]) -> [u16; 48]
-    requires { ⌜ (cell < 2352) × (subchannel < 32) ⌝ }
-    requires { ⌜ Starts 48 (sequencePlace cell) (now table) ⌝ }
-    ensures { λ r. ⌜ r ≡ tabulate 48 (sequenceNumber cell subchannel) ⌝ }
+// The carrier of traffic place v of subchannel 0, in a slot whose first symbol has the number `first`.
+fn first_carrier(shape: Shape, n: u16, first: u16, v: u16) -> u16
+    requires { ⌜ IsShape shape × EvenWidth n × (first < 3) × (v < 48) ⌝ }
+    ensures { λ r. ⌜ r ≡ trafficCarrier shape n first 0 v ⌝ }
 {
-    let first = (48 * subchannel) as u16;
+    let x = traffic_place(shape, v);
+    let pilot = 3 * ((first + x.offset) % 3) + 1;
+    x.offset * (64 * n) + 5 * n + x.bin * 9 + x.place + (pilot <= x.place) as u16
+}
+
+// The carriers of P's entries in subchannel 0, once for all subchannels.
+pub fn carrier_table(shape: Shape, n: usize, cell: usize) -> [u16; 188]
+    requires { ⌜ IsShape shape × EvenWidth n × (cell < 2352) ⌝ }
+    ensures { λ r. ⌜ Starts 144 (tableEntry shape n cell) r ⌝ }
+{
+    let places = table(cell);
+    let mut table = [0; 188];
+    let mut i = 0;
+    while i < 48 {
+        let v = places[i];
+        table[i] = first_carrier(shape, n as u16, 0, v);
+        table[i + 48] = first_carrier(shape, n as u16, 1, v);
+        table[i + 96] = first_carrier(shape, n as u16, 2, v);
+        i += 1;
+    }
+    table
+}
+
+// The carriers of P's entries in a subchannel. DC lies between two subchannels, so one step goes for all of them.
+pub fn carrier_row(
+    shape: Shape,
+    n: usize,
+    slot: usize,
+    cell: usize,
+    subchannel: usize,
+    table: &[u16; 188],
+) -> [u16; 48]
+    requires { ⌜ IsShape shape × EvenWidth n × (cell < 2352) × (subchannel < n * shape .symbols) ⌝ }
+    requires { ⌜ Starts 144 (tableEntry shape n cell) (now table) ⌝ }
+    ensures { λ r. ⌜ Starts 48 (sequenceCarrier shape n (slot * shape .symbols) cell subchannel) r ⌝ }
+{
+    let start = slot % 3 * shape.symbols % 3 * 48;
+    let used = subchannel * shape.bins * 9;
+    let step = (used + (27 * n <= used) as usize) as u16;
     let mut row = [0; 48];
     let mut i = 0;
     while i < 48 {
-        row[i] = table[i] + first;
+        row[i] = table[start + i] + step;
         i += 1;
     }
     row

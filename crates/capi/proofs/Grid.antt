@@ -15,7 +15,7 @@ use Rattle.capi.specs.Grid.{lookOut}
 
 module _ (setup : Setup) (symbol : ℕ) (grid : List Float) (carrier : ℕ) (r : Seen) (e : seen r ≡ lookOf setup symbol grid carrier) where
   -- an address that is told is small
-  pub seen-small : (p : Point) (slot s m : ℕ) → r ≡ Data p slot s m → (slot < 512) × (s < 70) × (m < 48)
+  pub seen-small : (p : Point) (slot s m : ℕ) → r ≡ Data p slot s m → (slot < 512) × (s < 192) × (m < 48)
   seen-small p slot s m h = point-small setup symbol carrier slot s m (look-point setup symbol carrier grid p slot s m (sym (ap seen h) ∙ e))
 
   -- the outcome of a variant v is that of the call where the answer is v

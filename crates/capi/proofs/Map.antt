@@ -12,7 +12,7 @@ use Rattle.map.proofs.Law.{place-small, point-small}
 use Rattle.capi.specs.Map.{placeOut, locateOut}
 
 module _ (c : Setup) (slot s m : ℕ) (r : Placed) (e : placed r ≡ placeOf c slot s m) where
-  pub at-small : (y k : ℕ) → r ≡ At y k → (y < 1536) × (k < 2048)
+  pub at-small : (y k : ℕ) → r ≡ At y k → (y < 3072) × (k < 2048)
   at-small y k h = place-small c slot s m (sym e ∙ ap placed h)
 
   -- the outcome of a variant v is that of the call where the answer is v
@@ -20,7 +20,7 @@ module _ (c : Setup) (slot s m : ℕ) (r : Placed) (e : placed r ≡ placeOf c s
   placed-out symbol carrier v h = ap (λ (a : Answer Place). placeOut a symbol carrier) (sym (ap placed h) ∙ e)
 
 module _ (c : Setup) (y k : ℕ) (r : Located) (e : located r ≡ locateOf c y k) where
-  pub data-small : (slot s m : ℕ) → r ≡ Data slot s m → (slot < 512) × (s < 70) × (m < 48)
+  pub data-small : (slot s m : ℕ) → r ≡ Data slot s m → (slot < 512) × (s < 192) × (m < 48)
   data-small slot s m h = point-small c y k slot s m (sym e ∙ ap located h)
 
   pub located-out : (kind slot s m : ℕ) (v : Located) → r ≡ v → locateOut (located v) kind slot s m ≡ locateOut (locateOf c y k) kind slot s m

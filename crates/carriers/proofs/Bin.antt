@@ -1,13 +1,14 @@
--- The data places of bins: a mode that numbers the data carriers of a symbol meets the law of a slot.
+-- The data places of bins: a mode over bins meets the law of a slot.
 use mathlib.Core.Path.{_≡_, sym, ap, ap₂, _∙_}
 use mathlib.Core.Bool.{false}
 use Prim.Native.Nat.{ℕ, _+_, _*_, _/_, _%_, _<_, _≤_}
 use native.Mathlib.Omega.{arith}
-use lib.Dec.{lit<, leb}
+use lib.Dec.{leb}
 use mir.Val.{boolByte}
 use borrow.Author.Tests.{ne-eqb, eqb-false}
 use Rattle.base.specs.Steps.{skip, unskip}
 use Rattle.base.proofs.LeaveOut.{unskip-skip, skip-unskip, skip-ne, skip-lt, unskip-lt, skip-step}
+use Rattle.carriers.specs.declared.DataPlace.{DataPlace}
 use Rattle.carriers.specs.declared.Address.{Address}
 use Rattle.carriers.specs.Bin.{binPilotPlace, isBinPilot, usedOfData, dataOfUsed, binSpot}
 use Rattle.carriers.specs.Law.{SlotLaw, NumberLaw}
@@ -82,20 +83,21 @@ module _ (y : ℕ) where
     unfolding dataOfUsed
     data-lt n h = let l = data-place-lt in omega arith
 
-pub bin-law : (y n : ℕ) {number : ℕ → ℕ → ℕ} {address : ℕ → Address} → NumberLaw n number address
-    → SlotLaw 1 n (54 * n) (λ o u. isBinPilot y u) (λ s m. binSpot y (number s m)) (λ o u. address (dataOfUsed y u))
-bin-law y n {number} {address} law =
+-- the pilots counted in, those of each symbol by its number in the zone
+pub bin-law : (first n : ℕ) {symbols subchannels : ℕ} {place : ℕ → ℕ → DataPlace} {address : ℕ → ℕ → Address} → NumberLaw symbols subchannels (48 * n) place address
+    → SlotLaw symbols subchannels (54 * n) (λ o u. isBinPilot (first + o) u) (λ s m. binSpot first (place s m)) (λ o u. address o (dataOfUsed (first + o) u))
+bin-law first n {place = place} {address = address} law =
     record {
       lies = λ s m hs hm.
-          record { offset-lt = lit< tt; used-lt = used-lt y (number s m) n (law .number-lt s m hs hm); no-pilot = used-no-pilot y (number s m) };
-      back = λ s m hs hm. ap address (data-used y (number s m)) ∙ law .back s m hs hm;
-      names = λ o u ho hu np. law .names (dataOfUsed y u) (data-lt y u np n hu);
-      forth = λ o u ho hu np.
-          λ i. record {
-            offset = zero-is o ho i;
-            used = (ap (usedOfData y) (law .forth (dataOfUsed y u) (data-lt y u np n hu)) ∙ used-data y u np) i;
+          let x = place s m in
+          record {
+            offset-lt = law .offset-lt s m hs hm;
+            used-lt = used-lt (first + x .offset) (x .number) n (law .number-lt s m hs hm);
+            no-pilot = used-no-pilot (first + x .offset) (x .number);
           };
+      back = λ s m hs hm. ap (address (place s m .offset)) (data-used (first + place s m .offset) (place s m .number)) ∙ law .back s m hs hm;
+      names = λ o u ho hu np. law .names o (dataOfUsed (first + o) u) ho (data-lt (first + o) u np n hu);
+      forth = λ o u ho hu np.
+          ap (binSpot first) (law .forth o (dataOfUsed (first + o) u) ho (data-lt (first + o) u np n hu))
+          ∙ (λ i. record { offset = o; used = used-data (first + o) u np i });
     }
-  where
-    zero-is : (o : ℕ) → o < 1 → 0 ≡ o
-    zero-is o h = omega arith

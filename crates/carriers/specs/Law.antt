@@ -1,8 +1,9 @@
 -- The one law that every mode meets: the points of a slot, 48 for each subchannel, and the data carriers of the slot are the same, one for one.
 use mathlib.Core.Path.{_≡_}
 use mathlib.Core.Bool.{Bool, false}
-use Prim.Native.Nat.{ℕ, _*_, _<_}
+use Prim.Native.Nat.{ℕ, _<_}
 use Rattle.carriers.specs.declared.Spot.{Spot}
+use Rattle.carriers.specs.declared.DataPlace.{DataPlace}
 use Rattle.carriers.specs.declared.Address.{Address}
 
 -- a spot in a slot of so many symbols, with so many used numbers, that is no pilot
@@ -25,9 +26,10 @@ pub record SlotLaw (symbols subchannels used : ℕ) (isPilot : ℕ → ℕ → B
   pub forth : (o u : ℕ) → o < symbols → u < used → isPilot o u ≡ false
       → spot (address o u .subchannel) (address o u .index) ≡ record { offset = o; used = u }
 
--- The same for a mode that numbers the data carriers of a symbol, 48 for each subchannel.
-pub record NumberLaw (subchannels : ℕ) (number : ℕ → ℕ → ℕ) (address : ℕ → Address) : Type 0 where
-  pub number-lt : (s m : ℕ) → s < subchannels → m < 48 → number s m < 48 * subchannels
-  pub back : (s m : ℕ) → s < subchannels → m < 48 → address (number s m) ≡ record { subchannel = s; index = m }
-  pub names : (d : ℕ) → d < 48 * subchannels → PointOf subchannels (address d)
-  pub forth : (d : ℕ) → d < 48 * subchannels → number (address d .subchannel) (address d .index) ≡ d
+-- The same for a mode over bins, in words of data numbers, so many in each symbol of the slot.
+pub record NumberLaw (symbols subchannels numbers : ℕ) (place : ℕ → ℕ → DataPlace) (address : ℕ → ℕ → Address) : Type 0 where
+  pub offset-lt : (s m : ℕ) → s < subchannels → m < 48 → place s m .offset < symbols
+  pub number-lt : (s m : ℕ) → s < subchannels → m < 48 → place s m .number < numbers
+  pub back : (s m : ℕ) → s < subchannels → m < 48 → address (place s m .offset) (place s m .number) ≡ record { subchannel = s; index = m }
+  pub names : (o d : ℕ) → o < symbols → d < numbers → PointOf subchannels (address o d)
+  pub forth : (o d : ℕ) → o < symbols → d < numbers → place (address o d .subchannel) (address o d .index) ≡ record { offset = o; number = d }

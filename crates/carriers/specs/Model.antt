@@ -1,4 +1,4 @@
--- Rows of spots and of their carriers as numbers, 2048 for each symbol of the slot, since no size is larger. No reader needs this to know what the calls do.
+-- Rows of spots and of their carriers as numbers. No reader needs this to know what the calls do.
 use Prim.Native.Nat.{ℕ, _+_, _*_, _%_}
 use lib.Dec.{leb}
 use Rattle.base.specs.Choice.{pick}
@@ -6,12 +6,14 @@ use Rattle.carriers.specs.declared.Band.{Band}
 use Rattle.carriers.specs.declared.Spot.{Spot}
 use Rattle.carriers.specs.Band.{carrierOf}
 
+-- 2048 for each symbol of the slot, since no size is larger
 abbrev pub spotNumber : (x : Spot) → ℕ
 spotNumber x = x .offset * 2048 + x .used
 
-abbrev pub carrierNumber : (b : Band) (x : Spot) → ℕ
-carrierNumber b x = x .offset * 2048 + carrierOf b (x .used)
+-- the size for each symbol of the slot
+abbrev pub carrierNumber : (size : ℕ) (b : Band) (x : Spot) → ℕ
+carrierNumber size b x = x .offset * size + carrierOf b (x .used)
 
--- from the one to the other by sums of steps
+-- from the one to the other, at size 2048, by sums of steps
 unfoldable pub carrierStep : (b : Band) (x : ℕ) → ℕ
 carrierStep b x = x + b .left + pick (leb (b .half) (x % 2048)) 1 0

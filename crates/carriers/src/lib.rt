@@ -28,6 +28,12 @@ pub struct Spot {
     pub used: usize,
 }
 
+// The same in a mode over bins, before the pilots are counted in: the symbol, counted in the slot, and the data number.
+pub struct DataPlace {
+    pub offset: usize,
+    pub number: usize,
+}
+
 // Which point of a slot it is.
 pub struct Address {
     pub subchannel: usize,

@@ -17,7 +17,7 @@ use Rattle.ofusc.specs.Map.{groupOf, mask, dataNumber}
 use Rattle.ofusc.specs.Model.{cellNumber, groupNumber}
 use Rattle.ofusc.proofs.Sequence.{pos, sum-lt, mask-lt}
 use Rattle.ofusc.proofs.Row.{with-subchannel}
-use Rattle.map.specs.Mode.{width, band, spotOf, setupWith}
+use Rattle.map.specs.Mode.{width, symbols, band, spotOf, setupWith}
 use Rattle.map.specs.Place.{placeAt}
 use Rattle.map.proofs.Accept.{width-is}
 use Rattle.collision.specs.Collision.{indexIn, carrierIn, ofuscHit}
@@ -34,12 +34,16 @@ abbrev pub carrierAt : ℕ → ℕ → ℕ → ℕ
 carrierAt n y d = carrierOf (binBand n) (usedOfData y d)
 
 -- it has no other data number
-number-at : (n y d : ℕ) → 0 < n → d < 48 * n → dataOfUsed y (usedOf (binBand n) (carrierAt n y d)) ≡ d
+pub number-at : (n y d : ℕ) → 0 < n → d < 48 * n → dataOfUsed y (usedOf (binBand n) (carrierAt n y d)) ≡ d
 number-at n y d p h = ap (dataOfUsed y) (used-carrier (binBand n) (64 * n) (bin-band n p) (usedOfData y d) (used-lt y d n h)) ∙ data-used y d
 
 pub same-number : (n y d e : ℕ) → 0 < n → d < 48 * n → e < 48 * n → carrierAt n y d ≡ carrierAt n y e → d ≡ e
 same-number n y d e p hd he q =
     sym (number-at n y d p hd) ∙ ap (λ (x : ℕ). dataOfUsed y (usedOf (binBand n) x)) q ∙ number-at n y e p he
+
+-- the only symbol of a slot
+pub one-symbol : (slot : ℕ) → slot * 1 + 0 ≡ slot
+one-symbol slot = omega arith
 
 -- index (k-23s) mod 48 of subchannel s is in group k
 group-in : (s k : ℕ) → k < 48 → groupOf s (indexIn s k) ≡ k
@@ -59,8 +63,8 @@ module _ {n : ℕ} (w : Width n) (k : ℕ) (h : k < 48) where
   number-in cell s = ap (λ (g : ℕ). g * n + bitXor s (mask n cell g)) (group-in s k h)
 
   carrier-in : (cell slot s : ℕ) → carrierIn (setupWith 2 (64 * n) cell) slot s k ≡ carrierAt n slot (k * n + element cell s)
-  unfolding carrierIn placeAt spotOf width band
-  carrier-in cell slot s = rw (width-is n, number-in cell s)
+  unfolding carrierIn placeAt spotOf symbols width band
+  carrier-in cell slot s = rw (width-is n, number-in cell s, one-symbol slot)
 
   -- the carriers of a group are different
   pub same-element : (slot x y : ℕ) → x < n → y < n → carrierAt n slot (k * n + x) ≡ carrierAt n slot (k * n + y) → x ≡ y

@@ -1,40 +1,83 @@
--- The hits of AMC as places: in a slot of one symbol, two cells put index j of a subchannel on one carrier just where they give the same v.
-use mathlib.Core.Path.{_≡_, sym, ap, _∙_}
+-- The hits of AMC as places: whatever the slot's shape, two cells put index j of a subchannel on one carrier of one symbol just where they give the same v.
+use mathlib.Core.Path.{_≡_, sym, ap, ap₂, _∙_}
 use mathlib.Core.Bool.{true}
 use Prim.Native.Nat.{ℕ, _+_, _*_, _/_, _%_, _<_}
-use native.Mathlib.Omega.{arith}
+use lib.Arith.{digits-mod}
 use borrow.Author.Tests.{eqb-true, eq-eqb}
 use Rattle.base.specs.Answer.{accepted}
 use Rattle.base.proofs.Chain.{same-accepted}
+use Rattle.carriers.specs.declared.DataPlace.{DataPlace}
+use Rattle.carriers.specs.Band.{binBand, usedOf}
+use Rattle.carriers.specs.Bin.{dataOfUsed}
 use Rattle.ofusc.specs.Width.{Width}
 use Rattle.ofusc.proofs.Sequence.{pos}
-use Rattle.amc.specs.Map.{traffic, dataNumber}
-use Rattle.amc.proofs.Law.{law}
-use Rattle.map.specs.Place.{Place, placeOf}
-use Rattle.map.specs.Mode.{setupWith}
+use Rattle.amc.specs.declared.Shape.{Shape}
+use Rattle.amc.specs.Model.{IsShape}
+use Rattle.amc.specs.Map.{traffic, trafficPlace, dataPlace}
+use Rattle.amc.proofs.Law.{traffic-lt, traffic-back, offset-lt, number-below}
+use Rattle.map.specs.declared.Setup.{Setup}
+use Rattle.map.specs.Place.{Place, placeAt, placeOf}
+use Rattle.map.specs.Mode.{shapeOf, width, subchannels, symbols, band, spotOf, setupWith}
+use Rattle.map.specs.Model.{IsAmc, amc}
+use Rattle.map.proofs.Accept.{width-is}
+use Rattle.map.proofs.Choice.{amc-shape, amc-tests}
+use Rattle.map.proofs.Law.{place-accepts}
 use Rattle.collision.specs.Collision.{amcHit}
+use Rattle.collision.proofs.Group.{carrierAt, number-at}
 use Rattle.figures.specs.Word.{SamePlace}
-use Rattle.collision.proofs.Group.{same-number}
-use Rattle.figures.proofs.Placing.{at, amc-placed}
 
--- the shape of the slot: v decides the data number, and the data number v
-same-v : (s v u : ℕ) → (6 * s + v / 8) * 8 + v % 8 ≡ (6 * s + u / 8) * 8 + u % 8 → v ≡ u
-same-v s v u e = omega arith
+module _ {mode : ℕ} (q : IsAmc mode) {n : ℕ} (w : Width n) (slot s : ℕ) where
+  abbrev shape : Shape
+  shape = shapeOf mode
 
-module _ {n : ℕ} (w : Width n) (a b : ℕ) (ha : a < 2352) (hb : b < 2352) (slot s j : ℕ) (hy : slot < 512) (hs : s < n) (hj : j < 48) where
-  pub amc-met : amcHit a b j ≡ true → SamePlace (placeOf (setupWith 3 (64 * n) a) slot s j) (placeOf (setupWith 3 (64 * n) b) slot s j)
-  unfolding amcHit dataNumber
-  amc-met e =
-      record {
-        at = at n slot (dataNumber a s j);
-        first = amc-placed w a slot s j hy hs hj ha;
-        second = amc-placed w b slot s j hy hs hj hb ∙ ap (λ (v : ℕ). accepted (at n slot ((6 * s + v / 8) * 8 + v % 8))) (sym (eqb-true (traffic a j) (traffic b j) e));
-      }
+  six : IsShape shape
+  six = amc-shape mode q
 
-  pub amc-meets : SamePlace (placeOf (setupWith 3 (64 * n) a) slot s j) (placeOf (setupWith 3 (64 * n) b) slot s j) → amcHit a b j ≡ true
-  unfolding amcHit dataNumber
-  amc-meets c =
-      let q : at n slot (dataNumber a s j) ≡ at n slot (dataNumber b s j) = same-accepted (sym (amc-placed w a slot s j hy hs hj ha) ∙ c .first ∙ sym (c .second) ∙ amc-placed w b slot s j hy hs hj hb) in
-      eq-eqb (traffic a j) (traffic b j)
-      (same-v s (traffic a j) (traffic b j)
-      (same-number n slot (dataNumber a s j) (dataNumber b s j) (pos w) (law a ha n .number-lt s j hs hj) (law b hb n .number-lt s j hs hj) (ap (λ (p : Place). p .carrier) q)))
+  -- where traffic place v of the subchannel is
+  abbrev at : ℕ → Place
+  at v =
+      let x = trafficPlace shape s v in
+      let y = slot * shape .symbols + x .offset in
+      record { symbol = y; carrier = carrierAt n y (x .number) }
+
+  placed : (cell j : ℕ) → cell < 2352 → slot < 512 → s < subchannels (setupWith mode (64 * n) cell) → j < 48
+      → placeOf (setupWith mode (64 * n) cell) slot s j ≡ accepted (at (traffic cell j))
+  unfolding placeAt spotOf symbols band width dataPlace
+  placed cell j h hy hs hj =
+      let t = amc-tests q in
+      place-accepts (setupWith mode (64 * n) cell) slot s j (amc q w h) hy hs hj
+      ∙ rw (t .not-0, t .not-1, t .not-2, t .listed, width-is n)
+
+  -- and what v a place has
+  v-of : Place → ℕ
+  v-of p =
+      let o = p .symbol % shape .symbols in
+      let d = dataOfUsed (p .symbol) (usedOf (binBand n) (p .carrier)) in
+      (o * shape .bins + d / 8 % shape .bins) * 8 + d % 8
+
+  v-back : (v : ℕ) → v < 48 → s < n * shape .symbols → v-of (at v) ≡ v
+  unfolding v-of six
+  v-back v h hs =
+      let x = trafficPlace shape s v in
+      let offset : (slot * shape .symbols + x .offset) % shape .symbols ≡ x .offset = digits-mod slot (offset-lt shape six s v h) in
+      let number = number-at n (slot * shape .symbols + x .offset) (x .number) (pos w) (number-below shape six s v n hs) in
+      ap₂ (λ (o d : ℕ). (o * shape .bins + d / 8 % shape .bins) * 8 + d % 8) offset number ∙ traffic-back shape six s v
+
+  module _ (a b j : ℕ) (ha : a < 2352) (hb : b < 2352) (hy : slot < 512) (hs : s < subchannels (setupWith mode (64 * n) a)) (hj : j < 48) where
+    pub amc-met : amcHit a b j ≡ true → SamePlace (placeOf (setupWith mode (64 * n) a) slot s j) (placeOf (setupWith mode (64 * n) b) slot s j)
+    unfolding amcHit subchannels width
+    amc-met e =
+        record {
+          at = at (traffic a j);
+          first = placed a j ha hy hs hj;
+          second = placed b j hb hy hs hj ∙ ap (λ (v : ℕ). accepted (at v)) (sym (eqb-true (traffic a j) (traffic b j) e));
+        }
+
+    pub amc-meets : SamePlace (placeOf (setupWith mode (64 * n) a) slot s j) (placeOf (setupWith mode (64 * n) b) slot s j) → amcHit a b j ≡ true
+    unfolding amcHit subchannels width
+    amc-meets c =
+        let t = amc-tests q in
+        let hs′ : s < n * shape .symbols = rw (t .not-0, t .not-1, t .not-2, t .listed, width-is n) at hs in
+        let same : at (traffic a j) ≡ at (traffic b j) = same-accepted (sym (placed a j ha hy hs hj) ∙ c .first ∙ sym (c .second) ∙ placed b j hb hy hs hj) in
+        eq-eqb (traffic a j) (traffic b j)
+        (sym (v-back (traffic a j) (traffic-lt a ha j) hs′) ∙ ap v-of same ∙ v-back (traffic b j) (traffic-lt b hb j) hs′)

@@ -17,7 +17,7 @@ use Rattle.ofusc.specs.Field.{modulus, coefficient, product, remainder, times, 
 use Rattle.ofusc.specs.Map.{groupOf, term, mask, dataNumber}
 use Rattle.amc.specs.Element.{add, sequence, times as product′}
 use Rattle.amc.specs.Map.{off, zeroRule, elementOf, traffic}
-use Rattle.map.specs.Mode.{width, cells, subchannels, band, spotOf, setupWith}
+use Rattle.map.specs.Mode.{width, cells, subchannels, symbols, band, spotOf, setupWith}
 use Rattle.map.specs.Question.{isFourSizes, isCell, isSubchannel}
 use Rattle.map.specs.Place.{Place, placeAt, placeOf}
 use Rattle.map.proofs.Accept.{width-is}
@@ -66,7 +66,7 @@ rows-count {n} {a} {s} {b} {t} p other =
     )
 
 d-reached : {n : ℕ} → Width n → Reached n
-unfolding ofuscOf answerOf isFourSizes isCell isSubchannel cells subchannels width ofuscHit carrierIn indexIn placeAt spotOf band carrierOf skip usedOfData binPilotPlace dataNumber groupOf mask term p1 p2 power times remainder product coefficient modulus tabulate countOf most
+unfolding ofuscOf answerOf isFourSizes isCell isSubchannel cells subchannels symbols width ofuscHit carrierIn indexIn placeAt spotOf band carrierOf skip usedOfData binPilotPlace dataNumber groupOf mask term p1 p2 power times remainder product coefficient modulus tabulate countOf most
 d-reached n4 = record { a = 10; s = 0; b = 4; t = 2; row = 0; allowed = record { width = n4; first = omega arith; second = omega arith }; within = omega arith; different = λ e. omega arith; in-row = refl; in-all = refl }
 d-reached n8 = record { a = 32; s = 0; b = 45; t = 7; row = 0; allowed = record { width = n8; first = omega arith; second = omega arith }; within = omega arith; different = λ e. omega arith; in-row = refl; in-all = refl }
 d-reached n16 = record { a = 0; s = 2; b = 244; t = 0; row = 0; allowed = record { width = n16; first = omega arith; second = omega arith }; within = omega arith; different = λ e. omega arith; in-row = refl; in-all = refl }
@@ -91,8 +91,8 @@ figures =
       d-reached = d-reached;
       e-sum = λ w a s b one hb. sum-same _ _ _ (λ t ht. ofusc-count (record { width = w; first = one; second = record { cell-lt = hb; subchannel-lt = ht } })) ∙ all-counts w a b s (one .subchannel-lt);
       f-one-cell = λ p. (λ e. ofusc-count p ∙ same-subchannel p e, λ ne. ofusc-count p ∙ other-subchannel p ne);
-      g-mark = λ a b ha hb w slot s j hy hs hj. let mark = amc-mark a b ha hb j hj in
-          (λ e. amc-met w a b ha hb slot s j hy hs hj (sym mark ∙ e), λ c. mark ∙ amc-meets w a b ha hb slot s j hy hs hj c);
+      g-mark = λ a b ha hb mode from below w slot s j hy hs hj. let mark = amc-mark a b ha hb j hj in
+          (λ e. amc-met (from, below) w slot s a b j ha hb hy hs hj (sym mark ∙ e), λ c. mark ∙ amc-meets (from, below) w slot s a b j ha hb hy hs hj c);
       g-v = λ a b ha hb j hj. let mark = amc-mark a b ha hb j hj in (λ e. same-v a b j .0 (sym mark ∙ e), λ e. mark ∙ same-v a b j .1 e);
       g-count = amc-counted;
       g-most = λ a b ha hb other. rw (amc-count a b ha hb) (at-most-three a b ha hb other);

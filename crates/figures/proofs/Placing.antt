@@ -1,4 +1,4 @@
--- What `place` answers in optional FUSC and AMC, by data numbers, and who is in group k.
+-- What `place` answers in optional FUSC, by data numbers, and who is in group k.
 use mathlib.Core.Path.{_≡_, refl, sym, ap, _∙_}
 use Prim.Native.Nat.{ℕ, _+_, _-_, _*_, _/_, _<_}
 use native.Mathlib.Omega.{arith}
@@ -12,32 +12,22 @@ use Rattle.ofusc.proofs.Sequence.{pos}
 use Rattle.ofusc.proofs.Law.{group-digit, law}
 use Rattle.map.specs.Mode.{width, symbols, subchannels, band, spotOf, setupWith}
 use Rattle.map.specs.Place.{Place, placeAt, placeOf}
-use Rattle.map.specs.Model.{ofusc, amc}
+use Rattle.map.specs.Model.{ofusc}
 use Rattle.map.proofs.Accept.{width-is}
 use Rattle.map.proofs.Law.{place-accepts}
 use Rattle.collision.specs.Collision.{indexIn}
 use Rattle.figures.specs.Word.{InGroup}
-use Rattle.collision.proofs.Group.{carrierAt, same-number, element, element-lt, number-in}
-use Rattle.amc.specs.Map as adjacent
+use Rattle.collision.proofs.Group.{carrierAt, one-symbol, same-number, element, element-lt, number-in}
 
 -- data number d of symbol y
 abbrev pub at : ℕ → ℕ → ℕ → Place
 at n y d = record { symbol = y; carrier = carrierAt n y d }
-
-one-symbol : (slot : ℕ) → slot * 1 + 0 ≡ slot
-one-symbol slot = omega arith
 
 module _ {n : ℕ} (w : Width n) (cell slot s m : ℕ) (hy : slot < 512) (hs : s < n) (hm : m < 48) where
   pub ofusc-placed : cell < n * n → placeOf (setupWith 2 (64 * n) cell) slot s m ≡ accepted (at n slot (dataNumber n cell s m))
   unfolding placeAt spotOf symbols subchannels band width
   ofusc-placed h =
       place-accepts (setupWith 2 (64 * n) cell) slot s m (ofusc w h) hy (rw (width-is n) hs) hm
-      ∙ rw (width-is n, one-symbol slot)
-
-  pub amc-placed : cell < 2352 → placeOf (setupWith 3 (64 * n) cell) slot s m ≡ accepted (at n slot (adjacent.dataNumber cell s m))
-  unfolding placeAt spotOf symbols subchannels band width
-  amc-placed h =
-      place-accepts (setupWith 3 (64 * n) cell) slot s m (amc w h) hy (rw (width-is n) hs) hm
       ∙ rw (width-is n, one-symbol slot)
 
 pub index-lt : (s k : ℕ) → indexIn s k < 48

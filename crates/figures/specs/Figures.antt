@@ -6,7 +6,7 @@ use Rattle.base.specs.Answer.{accepted}
 use Rattle.ofusc.specs.Width.{Width}
 use Rattle.amc.specs.Map.{traffic}
 use Rattle.map.specs.Place.{Place, placeOf}
-use Rattle.map.specs.Mode.{setupWith}
+use Rattle.map.specs.Mode.{subchannels, setupWith}
 use Rattle.collision.specs.Collision.{countOf, indexIn, ofuscOf, amcOf}
 use Rattle.figures.specs.Word.{Allowed, Pair, InGroup, Marked, inRow, SamePlace, SameInGroup, Reached, sum, most}
 
@@ -30,9 +30,10 @@ pub record Figures : Type 0 where
   -- Document 01: "One cell may be given twice: spread then has 48 for the same subchannel, otherwise 0".
   pub f-one-cell : {n a s t : ℕ} → Pair n a s a t
       → (s ≡ t → ofuscOf (64 * n) a s a t .count ≡ 48) × ((s ≡ t → ⊥) → ofuscOf (64 * n) a s a t .count ≡ 0)
-  -- Adjacent mode, AMC: "whatever the size, slot and subchannel, mark j of their meeting is set exactly when both place index j on the same carrier of the same symbol.
-  pub g-mark : (a b : ℕ) → a < 2352 → b < 2352 → {n : ℕ} → Width n → (slot s j : ℕ) → slot < 512 → s < n → j < 48
-      → Marked (amcOf a b .hits) j ↔ SamePlace (placeOf (setupWith 3 (64 * n) a) slot s j) (placeOf (setupWith 3 (64 * n) b) slot s j)
+  -- Adjacent mode, AMC, in every shape (document 02, wish 2): "whatever the size, slot and subchannel, mark j of their meeting is set exactly when both place index j on the same carrier of the same symbol.
+  pub g-mark : (a b : ℕ) → a < 2352 → b < 2352 → (mode : ℕ) → 3 ≤ mode → mode < 7 → {n : ℕ} → Width n
+      → (slot s j : ℕ) → slot < 512 → s < subchannels (setupWith mode (64 * n) a) → j < 48
+      → Marked (amcOf a b .hits) j ↔ SamePlace (placeOf (setupWith mode (64 * n) a) slot s j) (placeOf (setupWith mode (64 * n) b) slot s j)
   -- (Document 01: "set exactly when both cells give the same v".)
   pub g-v : (a b : ℕ) → a < 2352 → b < 2352 → (j : ℕ) → j < 48 → Marked (amcOf a b .hits) j ↔ (traffic a j ≡ traffic b j)
   -- The count is the number of marks set.

@@ -89,7 +89,7 @@ accepted-anew a new defined old e = rw (slot-passes a, e)
 pub record SlotTurn (setup : Setup) (slot points grid : ℕ) (place : ℕ → ℕ) (source : ℕ → Point) (n : ℕ) (dest₀ dest : List Float) (s : ℕ) : Type 0 where
   pub fits : SlotAccepted setup slot points grid
   pub n-is : n ≡ subchannels setup
-  pub few : n ≤ 70
+  pub few : n ≤ 192
   pub put : Putting place source (n * 48) dest₀ dest (s * 48)
 
 pub slot-start : {setup : Setup} {slot points grid : ℕ} {place : ℕ → ℕ} {source : ℕ → Point} {dest₀ : List Float} → SlotAccepted setup slot points grid

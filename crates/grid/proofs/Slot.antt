@@ -29,7 +29,7 @@ use Rattle.points.specs.Points.{pointAt}
 use Rattle.points.specs.Model.{puts, turned, Within}
 use Rattle.points.proofs.Points.{puts-as}
 use Rattle.rows.specs.Model.{shiftOf}
-use Rattle.rows.proofs.Row.{shift-lt, row-start}
+use Rattle.rows.proofs.Row.{shift-lt}
 
 -- the row and the column of a position
 module _ (setup : Setup) (row k : ℕ) (h : k < setup .size) where
@@ -146,23 +146,22 @@ module _ (setup : Setup) (v : Valid setup) (slot : ℕ) (hs : slot < 512) (n : �
       }
 
 -- the carrier of a point, as a number, is where the point stands
-carrier-stands : {setup : Setup} (v : Valid setup) (slot s : ℕ) → s < subchannels setup → (m : ℕ) → m < 48
-    → carrierNumber (band setup) (spotOf setup slot s m) ≡ standsAt setup slot (pointNumber s m)
+carrier-stands : (setup : Setup) (slot s m : ℕ) → m < 48 → carrierNumber (setup .size) (band setup) (spotOf setup slot s m) ≡ standsAt setup slot (pointNumber s m)
 unfolding standsAt usedPosition position
-carrier-stands {setup} v slot s hs m hm =
+carrier-stands setup slot s m h =
     let s-is : pointNumber s m / 48 ≡ s = omega arith in
     let m-is : pointNumber s m % 48 ≡ m = omega arith in
-    rw (s-is, m-is) (omega (arith, row-start v (spotOf setup slot s m .offset) (slot-law v slot .lies s m hs hm .offset-lt)))
+    rw (s-is, m-is)
 
 -- a subchannel's row, started at the place of its first point: what the copies ask of it, and what they come to
 module _ {setup : Setup} (v : Valid setup) (slot s : ℕ) (hs : s < subchannels setup) (row : List ℕ)
-    (t : Turned (shiftOf setup s) (λ m. carrierNumber (band setup) (spotOf setup slot s m)) row) (by : ℕ) (e : by ≡ shiftOf setup s) where
+    (t : Turned (shiftOf setup s) (λ m. carrierNumber (setup .size) (band setup) (spotOf setup slot s m)) row) (by : ℕ) (e : by ≡ shiftOf setup s) where
   row-at : (m : ℕ) → m < 48 → turned row by m ≡ standsAt setup slot (pointNumber s m)
-  row-at m h = rw e (t m h ∙ carrier-stands v slot s hs m h)
+  row-at m h = rw e (t m h ∙ carrier-stands setup slot s m h)
 
   row-within : (floats : ℕ) → floats ≡ 2 * gridPoints setup → Within row floats
   row-within floats long k h =
-      omega (arith, turned-below (shiftOf setup s) (gridPoints setup) _ row (shift-lt setup s) t (λ m l. rw (carrier-stands v slot s hs m l) (stands-lt setup v slot (pointNumber s m) (omega arith))) k h)
+      omega (arith, turned-below (shiftOf setup s) (gridPoints setup) _ row (shift-lt setup s) t (λ m l. rw (carrier-stands setup slot s m l) (stands-lt setup v slot (pointNumber s m) (omega arith))) k h)
 
   pub row-asks : by < 48 → (points grid : ℕ) → points ≡ 96 * subchannels setup → grid ≡ 2 * gridPoints setup
       → (by < 48) × ((s * 48 + 48) * 2 ≤ points) × Within row grid

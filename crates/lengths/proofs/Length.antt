@@ -5,7 +5,7 @@ use Prim.Native.Nat.{ℕ, _*_, _/_, _<_}
 use native.Mathlib.Nat.{mul-pos}
 use native.Mathlib.Omega.{arith}
 use lib.Dec.{eqb}
-use borrow.Author.Tests.{eqb-true, eqb-false, lt-ltb, ltb-true}
+use borrow.Author.Tests.{eqb-true, lt-ltb}
 use Rattle.base.specs.Answer.{accepted}
 use Rattle.base.proofs.Test.{cases}
 use Rattle.base.proofs.Chain.{ask-yes, number-yes}
@@ -14,7 +14,6 @@ use Rattle.map.specs.Mode.{width, cells, subchannels, symbols, setupWith}
 use Rattle.map.specs.Question.{isMode, isFourSizes, isSize, isCell}
 use Rattle.map.specs.Model.{setupRefusal, Valid}
 use Rattle.map.proofs.Accept.{passes}
-use Rattle.map.proofs.ByMode.{last-mode}
 use Rattle.lengths.specs.Length.{gridPoints, whereListed, pointsLength, gridLength}
 
 -- the four sizes are no small ones
@@ -38,7 +37,7 @@ some-cell mode size g h =
     (λ e′. rw (e, e′) (omega arith))
     (λ e′. cases (eqb mode 2)
     (λ e″. let n = wide size (rw (eqb-true mode 2 e″) at h) in rw (e, e′, e″) (mul-pos n n))
-    (λ e″. let m = last-mode mode (ltb-true mode 4 g) (eqb-false mode 0 e) (eqb-false mode 1 e′) (eqb-false mode 2 e″) in rw m (omega arith))))
+    (λ e″. rw (e, e′, e″, g) (omega arith))))
 
 -- so a length is told by the refusal's number
 module _ (mode size k : ℕ) (e : k ≡ setupRefusal (setupWith mode size 0)) (length : ℕ) where

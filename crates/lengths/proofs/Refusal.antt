@@ -17,9 +17,9 @@ use Rattle.lengths.specs.Question.{arePoints, isGrid, askSlot}
 use Rattle.lengths.specs.Model.{slotRefusal}
 
 -- a slot's grid is small
-pub grid-few : {setup : Setup} → Valid setup → gridPoints setup ≤ 6144
+pub grid-few : {setup : Setup} → Valid setup → gridPoints setup ≤ 12288
 unfolding gridPoints
-grid-few {setup} v = mul-le-mul {n₁ = symbols setup} {m₁ = setup .size} {n₂ = 3} {m₂ = 2048} (few v .symbols-few) (few v .size-few)
+grid-few {setup} v = mul-le-mul {n₁ = symbols setup} {m₁ = setup .size} {n₂ = 6} {m₂ = 2048} (few v .symbols-few) (few v .size-few)
 
 pub grid-is : {setup : Setup} → Valid setup → (n : ℕ) → n ≡ symbols setup → (n * setup .size ≡ gridPoints setup) × (n * setup .size < 65536)
 unfolding gridPoints

@@ -1,5 +1,5 @@
 -- Questions 1, 2 and 3 let pass just the valid setups.
-use mathlib.Core.Path.{_≡_, refl, subst⁻¹, _∙_}
+use mathlib.Core.Path.{_≡_, refl, ap, subst⁻¹, _∙_}
 use mathlib.Core.Bool.{Bool, true, false}
 use Prim.Native.Nat.{ℕ, zero, suc, _*_, _/_, _<_, _≤_}
 use native.Mathlib.Omega.{arith}
@@ -13,7 +13,8 @@ use Rattle.ofusc.proofs.Sequence.{size}
 use Rattle.map.specs.declared.Setup.{Setup}
 use Rattle.map.specs.Mode.{width, cells, setupWith}
 use Rattle.map.specs.Question.{isMode, isFourSizes, isSize, isCell, askSetup}
-use Rattle.map.specs.Model.{setupRefusal, Valid, pusc-dl, pusc-ul, ofusc, amc}
+use Rattle.map.specs.Model.{setupRefusal, IsAmc, Valid, pusc-dl, pusc-ul, ofusc, amc}
+use Rattle.map.proofs.Choice.{amc-tests, mode-amc}
 
 -- N of a size
 pub width-is : (n : ℕ) → 64 * n / 64 ≡ n
@@ -23,14 +24,13 @@ data Listed : ℕ → Type 0 where
   m0 : Listed 0
   m1 : Listed 1
   m2 : Listed 2
-  m3 : Listed 3
+  m-amc : {m : ℕ} → IsAmc m → Listed m
 
-listed : (m : ℕ) → m < 4 → Listed m
+listed : (m : ℕ) → m < 7 → Listed m
 listed zero h = m0
 listed (suc zero) h = m1
 listed (suc (suc zero)) h = m2
-listed (suc (suc (suc zero))) h = m3
-listed (suc (suc (suc (suc m)))) h = absurd (omega arith)
+listed (suc (suc (suc m))) h = m-amc {m = suc (suc (suc m))} (omega arith)
 
 pub data Sized : ℕ → Type 0 where
   sized : {n : ℕ} → Width n → Sized (64 * n)
@@ -54,16 +54,18 @@ valid-at z k m2 s e = spread (four-sizes z s) (ltb-true k (z / 64 * (z / 64)) e)
   where
     spread : {z : ℕ} → Sized z → k < z / 64 * (z / 64) → Valid (setupWith 2 z k)
     spread (sized {n = n} w) h = ofusc w (rw (width-is n) at h)
-valid-at z k m3 s e = adjacent (four-sizes z s)
+valid-at {m = m} z k (m-amc q) s e =
+    adjacent (four-sizes z (rw (le-ltb m 2 (omega arith), lt-ltb m 7 (omega arith)) at s))
+    (ltb-true k 2352 (ap (ltb k) (mode-amc m 32 70 (z / 64 * (z / 64)) 2352 0 q) ∙ e))
   where
-    adjacent : {z : ℕ} → Sized z → Valid (setupWith 3 z k)
-    adjacent (sized w) = amc w (ltb-true k 2352 e)
+    adjacent : {z : ℕ} → Sized z → k < 2352 → Valid (setupWith m z k)
+    adjacent (sized w) h = amc q w h
 
 pub valid : (c : Setup) → isMode c ≡ true → isSize c ≡ true → isCell c ≡ true → Valid c
 unfolding isMode
-valid c e₁ e₂ e₃ = valid-at (c .size) (c .cell) (listed (c .mode) (ltb-true (c .mode) 4 e₁)) e₂ e₃
+valid c e₁ e₂ e₃ = valid-at (c .size) (c .cell) (listed (c .mode) (ltb-true (c .mode) 7 e₁)) e₂ e₃
 
--- and a valid setupWith passes
+-- and a valid setup passes
 pub size-passes : {n : ℕ} → Width n → isFourSizes (64 * n) ≡ true
 unfolding isFourSizes
 size-passes n4 = refl
@@ -76,7 +78,9 @@ unfolding isMode isSize isCell cells width
 passes (pusc-dl h) = rw (lt-ltb _ _ h)
 passes (pusc-ul h) = rw (lt-ltb _ _ h)
 passes (ofusc {n = n} w h) = rw (size-passes w, width-is n, lt-ltb _ _ h)
-passes (amc w h) = rw (size-passes w, lt-ltb _ _ h)
+passes (amc {mode = m} q w h) =
+    let t = amc-tests q in
+    rw (t .not-0, t .not-1, t .not-2, t .listed, le-ltb m 2 (omega arith), size-passes w, lt-ltb _ _ h)
 
 -- what the first three questions come to: a number, or a valid setup
 pub setup-numbered : {A : Type 0} (c : Setup) (rest : Answer A) → askSetup c rest ≡ numbered (setupRefusal c) rest
@@ -99,28 +103,28 @@ four-rest size a b d = rw (ne-eqb size 256 a, ne-eqb size 512 b, ne-eqb size 102
 
 -- the number, question by question
 module _ (c : Setup) where
-  pub number-1 : 4 ≤ c .mode → 1 ≡ setupRefusal c
+  pub number-1 : 7 ≤ c .mode → 1 ≡ setupRefusal c
   unfolding setupRefusal isMode
-  number-1 h = rw (le-ltb (c .mode) 4 h)
+  number-1 h = rw (le-ltb (c .mode) 7 h)
 
-  pub number-2 : c .mode < 4 → isSize c ≡ false → 2 ≡ setupRefusal c
+  pub number-2 : c .mode < 7 → isSize c ≡ false → 2 ≡ setupRefusal c
   unfolding setupRefusal isMode
-  number-2 h e = rw (lt-ltb (c .mode) 4 h, e)
+  number-2 h e = rw (lt-ltb (c .mode) 7 h, e)
 
-  pub number-3 : c .mode < 4 → isSize c ≡ true → cells c ≤ c .cell → 3 ≡ setupRefusal c
+  pub number-3 : c .mode < 7 → isSize c ≡ true → cells c ≤ c .cell → 3 ≡ setupRefusal c
   unfolding setupRefusal isMode isCell
-  number-3 h e l = rw (lt-ltb (c .mode) 4 h, e, le-ltb (c .cell) (cells c) l)
+  number-3 h e l = rw (lt-ltb (c .mode) 7 h, e, le-ltb (c .cell) (cells c) l)
 
-  pub number-0 : c .mode < 4 → isSize c ≡ true → c .cell < cells c → 0 ≡ setupRefusal c
+  pub number-0 : c .mode < 7 → isSize c ≡ true → c .cell < cells c → 0 ≡ setupRefusal c
   unfolding setupRefusal isMode isCell
-  number-0 h e l = rw (lt-ltb (c .mode) 4 h, e, lt-ltb (c .cell) (cells c) l)
+  number-0 h e l = rw (lt-ltb (c .mode) 7 h, e, lt-ltb (c .cell) (cells c) l)
 
   pub size-most : isSize c ≡ true → c .size ≤ 2048
   unfolding isSize
   size-most h =
       cases (ltb (c .mode) 2)
       (λ e. omega (arith, eqb-true (c .size) 2048 (rw e at h)))
-      (λ e. cases (ltb (c .mode) 4)
+      (λ e. cases (ltb (c .mode) 7)
       (λ f. most (four-sizes (c .size) (rw (e, f) at h)))
       (λ f. absurd (let z : false ≡ true = rw (e, f) at h in let w : _≡_ {A = ℕ} 0 1 = cc in omega arith)))
     where

@@ -1,76 +1,72 @@
--- A choice by the mode, and what a valid setup says of its mode.
-use mathlib.Core.Path.{_≡_, refl, sym, ap, _∙_}
+-- What a valid setup says of its mode.
+use mathlib.Core.Path.{_≡_, refl, sym, ap, ap₂, _∙_}
 use mathlib.Core.Bool.{false}
 use Prim.Native.Nat.{ℕ, _*_, _/_, _%_, _<_, _≤_}
-use native.Mathlib.Nat.{div-add-mod', mul-le-mul}
+use native.Mathlib.Nat.{mod-lt, div-add-mod', mul-le-mul}
 use native.Mathlib.Omega.{arith}
-use lib.Dec.{eqb}
-use borrow.Author.Tests.{ne-eqb, eqb-true, eqb-false}
-use Rattle.base.proofs.Test.{cases}
 use Rattle.ofusc.specs.Width.{Width}
 use Rattle.ofusc.proofs.Sequence.{size}
-use Rattle.carriers.specs.Bin.{dataOfUsed}
+use Rattle.carriers.specs.declared.Band.{Band}
+use Rattle.carriers.specs.Band.{binBand, puscBand, noBand}
+use Rattle.base.proofs.LeaveOut.{unskip-le}
+use Rattle.carriers.specs.declared.Spot.{Spot}
+use Rattle.carriers.specs.declared.DataPlace.{DataPlace}
+use Rattle.carriers.specs.declared.Address.{Address}
+use Rattle.carriers.specs.Bin.{binPilotPlace, dataOfUsed, binSpot, inOnlySymbol}
+use Rattle.carriers.specs.Law.{NumberLaw}
 use Rattle.carriers.proofs.Bin.{data-lt}
 use Rattle.pusc_dl.specs.Cluster.{isClusterPilot}
 use Rattle.pusc_dl.proofs.Tables.{pilot-parity}
 use Rattle.pusc_ul.specs.Tile.{isTilePilot}
+use Rattle.amc.specs.declared.Shape.{Shape}
+use Rattle.amc.specs.Model.{IsShape}
+use Rattle.amc.proofs.Parts.{symbols-pos, symbols-few}
 use Rattle.map.specs.declared.Setup.{Setup}
-use Rattle.map.specs.Mode.{byMode, width, cells, subchannels, symbols, band, isPilot}
-use Rattle.map.specs.Model.{Valid, pusc-dl, pusc-ul, ofusc, amc}
+use Rattle.map.specs.Mode.{shapeOf, width, cells, subchannels, symbols, band, isPilot, spotOf, addressOf}
+use Rattle.map.specs.Model.{IsAmc, Valid, pusc-dl, pusc-ul, ofusc, amc}
+use Rattle.map.proofs.Choice.{amc-shape, amc-symbols, amc-tests, mode-0, mode-1, mode-2, mode-amc, last-mode}
 use Rattle.map.proofs.Accept.{width-is}
 use Rattle.ofusc.specs.Map as spread
 use Rattle.ofusc.proofs.Law as spread-law
 use Rattle.amc.specs.Map as adjacent
 use Rattle.amc.proofs.Law as adjacent-law
 
-module _ {A : Type 0} (mode : ℕ) (a₀ a₁ a₂ a₃ other : A) where
-  pub mode-0 : mode ≡ 0 → a₀ ≡ byMode mode a₀ a₁ a₂ a₃ other
-  mode-0 e = rw e
-
-  pub mode-1 : mode ≡ 1 → a₁ ≡ byMode mode a₀ a₁ a₂ a₃ other
-  mode-1 e = rw e
-
-  pub mode-2 : mode ≡ 2 → a₂ ≡ byMode mode a₀ a₁ a₂ a₃ other
-  mode-2 e = rw e
-
-  pub mode-3 : mode ≡ 3 → a₃ ≡ byMode mode a₀ a₁ a₂ a₃ other
-  mode-3 e = rw e
-
-  pub mode-other : 4 ≤ mode → other ≡ byMode mode a₀ a₁ a₂ a₃ other
-  mode-other h = rw (ne-eqb mode 0 (λ e. omega arith), ne-eqb mode 1 (λ e. omega arith), ne-eqb mode 2 (λ e. omega arith), ne-eqb mode 3 (λ e. omega arith))
-
--- modes 2 and 3 alike
-pub mode-bins : {A : Type 0} (mode : ℕ) (a₀ a₁ a other : A) → mode < 4 → (mode ≡ 0 → ⊥) → (mode ≡ 1 → ⊥) → a ≡ byMode mode a₀ a₁ a a other
-mode-bins mode a₀ a₁ a other h n₀ n₁ =
-    cases (eqb mode 2)
-    (λ e. mode-2 mode a₀ a₁ a a other (eqb-true mode 2 e))
-    (λ e. mode-3 mode a₀ a₁ a a other (omega (arith, eqb-false mode 2 e)))
-
-pub listed-mode : {c : Setup} → Valid c → c .mode < 4
+pub listed-mode : {c : Setup} → Valid c → c .mode < 7
 listed-mode (pusc-dl h) = omega arith
 listed-mode (pusc-ul h) = omega arith
 listed-mode (ofusc w h) = omega arith
-listed-mode (amc w h) = omega arith
+listed-mode (amc q w h) = omega arith
 
-pub last-mode : (mode : ℕ) → mode < 4 → (mode ≡ 0 → ⊥) → (mode ≡ 1 → ⊥) → (mode ≡ 2 → ⊥) → mode ≡ 3
-last-mode mode h n₀ n₁ n₂ = omega arith
-
-pub amc-mode : {c : Setup} → Valid c → (c .mode ≡ 0 → ⊥) → (c .mode ≡ 1 → ⊥) → (c .mode ≡ 2 → ⊥) → c .mode ≡ 3
+pub amc-mode : {c : Setup} → Valid c → (c .mode ≡ 0 → ⊥) → (c .mode ≡ 1 → ⊥) → (c .mode ≡ 2 → ⊥) → IsAmc (c .mode)
 amc-mode v n₀ n₁ n₂ = last-mode _ (listed-mode v) n₀ n₁ n₂
 
--- the symbols of a slot by the mode
-module _ (c : Setup) where
-  pub two-symbols : c .mode ≡ 0 → 2 ≡ symbols c
+-- what AMC's shape gives
+module _ (c : Setup) (q : IsAmc (c .mode)) where
+  pub shape-symbols : shapeOf (c .mode) .symbols ≡ symbols c
   unfolding symbols
-  two-symbols e = mode-0 _ _ _ _ _ _ e
+  shape-symbols = mode-amc (c .mode) 2 3 1 (shapeOf (c .mode) .symbols) 0 q
 
-  pub three-symbols : c .mode ≡ 1 → 3 ≡ symbols c
-  unfolding symbols
-  three-symbols e = mode-1 _ _ _ _ _ _ e
+  pub shape-subchannels : width c * shapeOf (c .mode) .symbols ≡ subchannels c
+  unfolding subchannels
+  shape-subchannels = mode-amc (c .mode) 60 70 (width c) (width c * shapeOf (c .mode) .symbols) 0 q
 
-  pub one-symbol : Valid c → (c .mode ≡ 0 → ⊥) → (c .mode ≡ 1 → ⊥) → 1 ≡ symbols c
-  unfolding symbols
-  one-symbol v n₀ n₁ = mode-bins _ _ _ _ _ (listed-mode v) n₀ n₁
+  bin-used : band c .used ≡ 54 * width c
+  unfolding band
+  bin-used = ap (λ (b : Band). b .used) (sym (mode-amc (c .mode) puscBand puscBand (binBand (width c)) (binBand (width c)) noBand q))
+
+-- a slot has 1, 2, 3 or 6 symbols
+pub six-symbols : {c : Setup} → Valid c → (symbols c ≡ 1 → ⊥) → (symbols c ≡ 2 → ⊥) → (symbols c ≡ 3 → ⊥) → symbols c ≡ 6
+unfolding symbols
+six-symbols (pusc-dl h) n₁ n₂ n₃ = absurd (n₂ refl)
+six-symbols (pusc-ul h) n₁ n₂ n₃ = absurd (n₃ refl)
+six-symbols (ofusc w h) n₁ n₂ n₃ = absurd (n₁ refl)
+six-symbols {c} (amc {mode = m} q w h) n₁ n₂ n₃ =
+    let e = shape-symbols c q in
+    sym e ∙ amc-symbols m q (λ z. n₁ (sym e ∙ z)) (λ z. n₂ (sym e ∙ z)) (λ z. n₃ (sym e ∙ z))
+
+-- a quotient by a slot's symbols, their number being known
+pub by-symbols : (y n k m : ℕ) → n ≡ k → n ≡ m → y / m ≡ y / k
+by-symbols y n k m e f = ap (λ (t : ℕ). y / t) (sym f ∙ e)
 
 -- the ranges of a valid setup, once its mode is known
 pub record Ranges (c : Setup) (cells subchannels′ used : ℕ) : Type 0 where
@@ -83,7 +79,7 @@ unfolding cells width
 cell-in (pusc-dl h) = h
 cell-in (pusc-ul h) = h
 cell-in (ofusc {n = n} w h) = rw (width-is n) h
-cell-in (amc w h) = h
+cell-in (amc {mode = m} q w h) = rw (← mode-amc {A = ℕ} m 32 70 _ 2352 0 q) h
 
 module _ {c : Setup} (v : Valid c) where
   pub in-pusc-dl : c .mode ≡ 0 → Ranges c 32 60 1680
@@ -98,19 +94,24 @@ module _ {c : Setup} (v : Valid c) where
   unfolding cells subchannels band width
   in-ofusc e = record { cell-lt = rw e at (cell-in v); subchannels-are = rw e; used-are = rw e }
 
-  pub in-amc : c .mode ≡ 3 → Ranges c 2352 (width c) (54 * width c)
-  unfolding cells subchannels band width
-  in-amc e = record { cell-lt = rw e at (cell-in v); subchannels-are = rw e; used-are = rw e }
+  pub in-amc : IsAmc (c .mode) → Ranges c 2352 (width c * shapeOf (c .mode) .symbols) (54 * width c)
+  unfolding cells
+  in-amc q =
+      record {
+        cell-lt = rw (← mode-amc {A = ℕ} (c .mode) 32 70 (width c * width c) 2352 0 q) at (cell-in v);
+        subchannels-are = sym (shape-subchannels c q);
+        used-are = bin-used c q;
+      }
 
--- modes 2 and 3 have a width N
+-- the modes over bins have a width N
 pub bin-width : {c : Setup} → Valid c → (c .mode ≡ 0 → ⊥) → (c .mode ≡ 1 → ⊥) → Width (width c)
 unfolding width
 bin-width (pusc-dl h) n₀ n₁ = absurd (n₀ refl)
 bin-width (pusc-ul h) n₀ n₁ = absurd (n₁ refl)
 bin-width (ofusc {n = n} w h) n₀ n₁ = rw (width-is n) w
-bin-width (amc {n = n} w h) n₀ n₁ = rw (width-is n) w
+bin-width (amc {n = n} q w h) n₀ n₁ = rw (width-is n) w
 
--- what the numberings of modes 2 and 3 ask of a valid setup with N = n, and that their numbers are few
+-- what the numberings of the modes over bins ask of a valid setup, and that their numbers are few
 module _ {c : Setup} (v : Valid c) (n : ℕ) (e : n ≡ width c) (s m : ℕ) (hs : s < subchannels c) (hm : m < 48) where
   pub ofusc-asks : c .mode ≡ 2 → Width n × ((c .cell < n * n) × (s < n) × (m < 48))
   ofusc-asks q =
@@ -122,24 +123,36 @@ module _ {c : Setup} (v : Valid c) (n : ℕ) (e : n ≡ width c) (s m : ℕ) (hs
       let a = ofusc-asks q in
       omega (arith, size (a .0), spread-law.law (a .0) (c .cell) .number-lt s m (a .1 .1) hm)
 
-module _ {c : Setup} (v : Valid c) (e : c .mode ≡ 3) (s m : ℕ) (hs : s < subchannels c) (hm : m < 48) where
-  bins : Width (width c)
-  bins = bin-width v (λ z. omega arith) (λ z. omega arith)
+-- what AMC asks
+module _ {c : Setup} (v : Valid c) (q : IsAmc (c .mode)) where
+  pub amc-width : Width (width c)
+  amc-width = bin-width v (λ z. omega arith) (λ z. omega arith)
 
-  pub amc-asks : (c .cell < 2352) × (s < 65536) × (m < 48)
-  amc-asks = omega (arith, in-amc v e, size bins)
+  few-symbols : shapeOf (c .mode) .symbols ≤ 6
+  few-symbols = symbols-few (shapeOf (c .mode)) (amc-shape (c .mode) q)
 
-  pub amc-few : adjacent.dataNumber (c .cell) s m < 65536
-  amc-few =
-      let r = in-amc v e in
-      omega (arith, size bins, adjacent-law.law (c .cell) (r .cell-lt) (width c) .number-lt s m (rw (r .subchannels-are) at hs) hm)
+  pub few-subchannels : subchannels c ≤ 192
+  few-subchannels =
+      omega (arith, shape-subchannels c q, mul-le-mul {n₁ = width c} {m₁ = shapeOf (c .mode) .symbols} {n₂ = 32} {m₂ = 6} (size amc-width .most) few-symbols)
+
+  module _ (s m : ℕ) (hs : s < subchannels c) (hm : m < 48) (shape : Shape) (e : shape ≡ shapeOf (c .mode)) where
+    pub amc-asks : IsShape shape × (c .cell < 2352) × (s < 65536) × (m < 48)
+    amc-asks = (rw e (amc-shape (c .mode) q), in-amc v q .cell-lt, omega (arith, few-subchannels), hm)
+
+    place-law : NumberLaw (shapeOf (c .mode) .symbols) (width c * shapeOf (c .mode) .symbols) (48 * width c) (adjacent.dataPlace (shapeOf (c .mode)) (c .cell)) (adjacent.addressOf (shapeOf (c .mode)) (c .cell))
+    place-law = adjacent-law.law (shapeOf (c .mode)) (amc-shape (c .mode) q) (c .cell) (in-amc v q .cell-lt) (width c)
+
+    pub amc-few : (adjacent.dataPlace shape (c .cell) s m .offset < 65536) × (adjacent.dataPlace shape (c .cell) s m .number < 65536)
+    amc-few =
+        let hs′ = rw (← shape-subchannels c q) at hs in
+        rw e (omega (arith, few-symbols, place-law .offset-lt s m hs′ hm), omega (arith, size amc-width, place-law .number-lt s m hs′ hm))
 
 -- what a valid setup has is few
 pub record Few (c : Setup) : Type 0 where
   pub symbols-pos : 0 < symbols c
-  pub symbols-few : symbols c ≤ 3
+  pub symbols-few : symbols c ≤ 6
   pub size-few : c .size ≤ 2048
-  pub subchannels-few : subchannels c ≤ 70
+  pub subchannels-few : subchannels c ≤ 192
   pub left-few : band c .left ≤ 184
   pub half-few : band c .half ≤ 864
   pub used-few : band c .used ≤ 1728
@@ -176,27 +189,30 @@ few (ofusc w h) = let b = size w .most in
       half-few = omega arith;
       used-few = omega arith;
     }
-few (amc w h) = let b = size w .most in
+few {c} (amc {mode = m} q w h) =
+    let t = amc-tests q in
+    let shape = amc-shape m q in
+    let n = size w .most in
     record {
-      symbols-pos = omega arith;
-      symbols-few = omega arith;
+      symbols-pos = rw (t .not-0, t .not-1, t .not-2, t .listed) (symbols-pos (shapeOf m) shape);
+      symbols-few = rw (t .not-0, t .not-1, t .not-2, t .listed) (symbols-few (shapeOf m) shape);
       size-few = omega arith;
-      subchannels-few = omega arith;
-      left-few = omega arith;
-      half-few = omega arith;
-      used-few = omega arith;
+      subchannels-few = few-subchannels (amc q w h) q;
+      left-few = rw (t .not-0, t .not-1, t .not-2, t .listed) (omega arith);
+      half-few = rw (t .not-0, t .not-1, t .not-2, t .listed) (omega arith);
+      used-few = rw (t .not-0, t .not-1, t .not-2, t .listed) (omega arith);
     }
 
 -- a zone's symbols and a grid's rows are few
-pub slot-few : {c : Setup} → Valid c → (slot n : ℕ) → slot < 512 → n ≡ symbols c → slot * n ≤ 1536
+pub slot-few : {c : Setup} → Valid c → (slot n : ℕ) → slot < 512 → n ≡ symbols c → slot * n ≤ 3072
 slot-few v slot n h e =
     let r = few v in
-    mul-le-mul {n₁ = slot} {m₁ = n} {n₂ = 512} {m₂ = 3} (omega arith) (omega arith)
+    mul-le-mul {n₁ = slot} {m₁ = n} {n₂ = 512} {m₂ = 6} (omega arith) (omega arith)
 
-pub row-few : {c : Setup} → Valid c → (row : ℕ) → row < symbols c → row * c .size ≤ 6144
+pub row-few : {c : Setup} → Valid c → (row : ℕ) → row < symbols c → row * c .size ≤ 12288
 row-few {c} v row h =
     let r = few v in
-    mul-le-mul {n₁ = row} {m₁ = c .size} {n₂ = 3} {m₂ = 2048} (omega arith) (r .size-few)
+    mul-le-mul {n₁ = row} {m₁ = c .size} {n₂ = 6} {m₂ = 2048} (omega arith) (r .size-few)
 
 -- what the modes ask of a used number that is no pilot
 module _ {c : Setup} (v : Valid c) (y u : ℕ) (hu : u < band c .used) (np : isPilot c y u ≡ false) where
@@ -223,3 +239,32 @@ module _ {c : Setup} (v : Valid c) (y u : ℕ) (hu : u < band c .used) (np : isP
         rw e (bin-width v (λ z. omega arith) (λ z. omega arith)),
         (rw e (r .cell-lt), rw (e, h) (data-lt y u (mode-2 _ _ _ _ _ _ q ∙ np) (width c) (rw (r .used-are) at hu))),
       )
+
+  pub amc-back-asks : (shape : Shape) → shape ≡ shapeOf (c .mode) → (o : ℕ) → o ≡ y % symbols c → (d : ℕ) → d ≡ dataOfUsed y u → IsAmc (c .mode)
+      → IsShape shape × (c .cell < 2352) × (o < shape .symbols) × (d < 65536)
+  unfolding dataOfUsed
+  amc-back-asks shape e o f d h q =
+      let t = mod-lt y (few v .symbols-pos) in (
+        rw e (amc-shape (c .mode) q),
+        in-amc v q .cell-lt,
+        rw (e, f, shape-symbols c q) t,
+        omega (arith, h, unskip-le (binPilotPlace y) (u % 9), few v .used-few),
+      )
+
+-- what the modes over bins put together
+module _ (c : Setup) (slot s m n : ℕ) (e : n ≡ symbols c) (x : DataPlace) (r : Spot) (f : r ≡ binSpot (slot * n) x) where
+  pub ofusc-spot : c .mode ≡ 2 → x ≡ inOnlySymbol (spread.dataNumber (width c) (c .cell) s m) → r ≡ spotOf c slot s m
+  unfolding spotOf
+  ofusc-spot q g = f ∙ ap₂ (λ (k : ℕ) (t : DataPlace). binSpot (slot * k) t) e g ∙ mode-2 _ _ _ _ _ _ q
+
+  pub amc-spot : IsAmc (c .mode) → (shape : Shape) → shape ≡ shapeOf (c .mode) → x ≡ adjacent.dataPlace shape (c .cell) s m → r ≡ spotOf c slot s m
+  unfolding spotOf
+  amc-spot q shape h g =
+      f ∙ ap₂ (λ (k : ℕ) (t : DataPlace). binSpot (slot * k) t) e (g ∙ ap (λ (t : Shape). adjacent.dataPlace t (c .cell) s m) h) ∙ mode-amc _ _ _ _ _ _ q
+
+pub amc-address : (c : Setup) (y u : ℕ) (shape : Shape) → shape ≡ shapeOf (c .mode) → (o : ℕ) → o ≡ y % symbols c → (d : ℕ) → d ≡ dataOfUsed y u
+    → (r : Address) → r ≡ adjacent.addressOf shape (c .cell) o d → IsAmc (c .mode) → r ≡ addressOf c y u
+unfolding addressOf
+amc-address c y u shape e o f d h r g q =
+    let o-is : o ≡ y % shapeOf (c .mode) .symbols = f ∙ ap (λ (t : ℕ). y % t) (sym (shape-symbols c q)) in
+    g ∙ rw (e, o-is, h) (mode-amc _ _ _ _ _ _ q)

@@ -190,12 +190,12 @@ in-own-slot c slot s m e =
     ∙ digits-div slot (slot-law (q .is-valid) slot .lies s m (q .subchannel-lt) (q .index-lt) .offset-lt)
 
 -- the numbers of an accepted answer are small
-pub place-small : (c : Setup) (slot s m : ℕ) {p : Place} → placeOf c slot s m ≡ accepted p → (p .symbol < 1536) × (p .carrier < 2048)
+pub place-small : (c : Setup) (slot s m : ℕ) {p : Place} → placeOf c slot s m ≡ accepted p → (p .symbol < 3072) × (p .carrier < 2048)
 place-small c slot s m e =
     let q = locating c _ _ (located-where-placed c slot s m e) in
     omega (arith, q .symbol-lt, q .carrier-below, few (q .is-valid))
 
-pub point-small : (c : Setup) (y k slot s m : ℕ) → locateOf c y k ≡ accepted (point slot s m) → (slot < 512) × (s < 70) × (m < 48)
+pub point-small : (c : Setup) (y k slot s m : ℕ) → locateOf c y k ≡ accepted (point slot s m) → (slot < 512) × (s < 192) × (m < 48)
 point-small c y k slot s m e =
     let q = placing c slot s m (placed-where-located c y k slot s m e) in
     omega (arith, q .slot-lt, q .subchannel-lt, q .index-lt, few (q .is-valid))

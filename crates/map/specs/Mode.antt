@@ -1,15 +1,16 @@
--- Document 01, "Modes and their ranges": one column of the table a definition, modes 0 to 3 in order, then what an unlisted mode has.
+-- Document 01, "Modes and their ranges", and document 02, wish 2: one column of the table a definition, the modes in order, then what an unlisted mode has.
 use mathlib.Core.Bool.{Bool, false}
 use Prim.Native.Nat.{ℕ, _*_, _/_, _%_}
-use lib.Dec.{eqb}
+use lib.Dec.{eqb, ltb}
 use Rattle.base.specs.Choice.{pick}
 use Rattle.carriers.specs.declared.Band.{Band}
 use Rattle.carriers.specs.declared.Spot.{Spot}
 use Rattle.carriers.specs.declared.Address.{Address}
 use Rattle.carriers.specs.Band.{binBand, puscBand, noBand}
-use Rattle.carriers.specs.Bin.{isBinPilot, dataOfUsed, binSpot}
+use Rattle.carriers.specs.Bin.{isBinPilot, dataOfUsed, binSpot, inOnlySymbol}
 use Rattle.pusc_dl.specs.Cluster.{isClusterPilot}
 use Rattle.pusc_ul.specs.Tile.{isTilePilot}
+use Rattle.amc.specs.declared.Shape.{Shape}
 use Rattle.map.specs.declared.Setup.{Setup}
 use Rattle.pusc_dl.specs.Map as pusc-dl
 use Rattle.pusc_ul.specs.Map as pusc-ul
@@ -19,24 +20,37 @@ use Rattle.amc.specs.Map as amc
 abbrev pub setupWith : (mode size cell : ℕ) → Setup
 setupWith mode size cell = record { mode = mode; size = size; cell = cell }
 
--- PUSC downlink (mode 0, partial down), PUSC uplink (1, partial up), optional FUSC (2, spread), AMC (3, adjacent); any other mode
+abbrev pub shape : (bins symbols : ℕ) → Shape
+shape bins symbols = record { bins = bins; symbols = symbols }
+
+-- AMC's slots, bins of a subchannel by symbols: document 01 has mode 3, document 02, wish 2, the three others. No other mode has one.
+unfoldable pub shapeOf : (mode : ℕ) → Shape
+shapeOf mode =
+    pick (eqb mode 3) (shape 6 1) (pick (eqb mode 4) (shape 2 3) (pick (eqb mode 5) (shape 3 2) (pick (eqb mode 6) (shape 1 6) (shape 0 0))))
+
+-- PUSC downlink (mode 0, partial down), PUSC uplink (1, partial up), optional FUSC (2, spread), AMC (3 to 6, adjacent); any other mode
 abbrev pub byMode : {A : Type 0} (mode : ℕ) (dl ul spread adjacent other : A) → A
 byMode mode dl ul spread adjacent other =
-    pick (eqb mode 0) dl (pick (eqb mode 1) ul (pick (eqb mode 2) spread (pick (eqb mode 3) adjacent other)))
+    pick (eqb mode 0) dl
+    (pick (eqb mode 1) ul
+    (pick (eqb mode 2) spread
+    (pick (ltb mode 7) adjacent
+    other)))
 
--- N, the number of subchannels of modes 2 and 3: the size is 64N
+-- N, the number of subchannels of mode 2: the size is 64N
 unfoldable pub width : (setup : Setup) → ℕ
 width setup = setup .size / 64
 
 unfoldable pub cells : (setup : Setup) → ℕ
 cells setup = byMode (setup .mode) 32 70 (width setup * width setup) 2352 0
 
+-- N for each symbol of AMC's slot
 unfoldable pub subchannels : (setup : Setup) → ℕ
-subchannels setup = byMode (setup .mode) 60 70 (width setup) (width setup) 0
+subchannels setup = byMode (setup .mode) 60 70 (width setup) (width setup * shapeOf (setup .mode) .symbols) 0
 
 -- symbols a slot
 unfoldable pub symbols : (setup : Setup) → ℕ
-symbols setup = byMode (setup .mode) 2 3 1 1 0
+symbols setup = byMode (setup .mode) 2 3 1 (shapeOf (setup .mode) .symbols) 0
 
 unfoldable pub band : (setup : Setup) → Band
 band setup = byMode (setup .mode) puscBand puscBand (binBand (width setup)) (binBand (width setup)) noBand
@@ -51,22 +65,24 @@ isPilot setup symbol used =
     (isBinPilot symbol used)
     false
 
--- Where an index of a subchannel lies in a slot (in modes 2 and 3 the slot is the zone's symbol).
+-- Where an index of a subchannel lies in a slot. Pilots of bins go by the symbol's number in the zone; `first` is that of the slot's first symbol.
 unfoldable pub spotOf : (setup : Setup) (slot subchannel index : ℕ) → Spot
 spotOf setup slot subchannel index =
+    let first = slot * symbols setup in
     byMode (setup .mode)
     (pusc-dl.spotOf (setup .cell) subchannel index)
     (pusc-ul.spotOf (setup .cell) subchannel index)
-    (binSpot slot (ofusc.dataNumber (width setup) (setup .cell) subchannel index))
-    (binSpot slot (amc.dataNumber (setup .cell) subchannel index))
+    (binSpot first (inOnlySymbol (ofusc.dataNumber (width setup) (setup .cell) subchannel index)))
+    (binSpot first (amc.dataPlace (shapeOf (setup .mode)) (setup .cell) subchannel index))
     (record { offset = 0; used = 0 })
 
 -- The reverse: whose point a used number that is no pilot holds in a symbol of the zone.
 unfoldable pub addressOf : (setup : Setup) (symbol used : ℕ) → Address
 addressOf setup symbol used =
+    let shape = shapeOf (setup .mode) in
     byMode (setup .mode)
     (pusc-dl.addressOf (setup .cell) (symbol % 2) used)
     (pusc-ul.addressOf (setup .cell) (symbol % 3) used)
     (ofusc.addressOf (width setup) (setup .cell) (dataOfUsed symbol used))
-    (amc.addressOf (setup .cell) (dataOfUsed symbol used))
+    (amc.addressOf shape (setup .cell) (symbol % shape .symbols) (dataOfUsed symbol used))
     (record { subchannel = 0; index = 0 })

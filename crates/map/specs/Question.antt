@@ -9,14 +9,14 @@ use Rattle.map.specs.Mode.{cells, subchannels, symbols}
 
 -- 1 Is the mode listed?
 unfoldable pub isMode : (setup : Setup) → Bool
-isMode setup = ltb (setup .mode) 4
+isMode setup = ltb (setup .mode) 7
 
--- 2 Is the size that mode's? Modes 0 and 1 have 2048, modes 2 and 3 the four sizes.
+-- 2 Is the size that mode's? Modes 0 and 1 have 2048, the others the four sizes.
 unfoldable pub isFourSizes : (size : ℕ) → Bool
 isFourSizes size = pick (eqb size 256) true (pick (eqb size 512) true (pick (eqb size 1024) true (eqb size 2048)))
 
 unfoldable pub isSize : (setup : Setup) → Bool
-isSize setup = pick (ltb (setup .mode) 2) (eqb (setup .size) 2048) (pick (ltb (setup .mode) 4) (isFourSizes (setup .size)) false)
+isSize setup = pick (ltb (setup .mode) 2) (eqb (setup .size) 2048) (pick (ltb (setup .mode) 7) (isFourSizes (setup .size)) false)
 
 -- 3 Is the cell in range?
 unfoldable pub isCell : (setup : Setup) → Bool

@@ -1,13 +1,16 @@
 // The map: ranges, refusals, placing a point and locating a carrier, in all modes.
+use amc::Shape;
 use carriers::Address;
 use carriers::Band;
+use carriers::DataPlace;
 use carriers::Spot;
 ghost use mathlib.Core.Path.{_≡_};
 ghost use mathlib.Core.Bool.{false};
 ghost use Prim.Native.Nat.{_*_, _/_, _%_, _<_, _≤_};
 ghost use Rattle.base.specs.Answer.{accepted};
-ghost use Rattle.carriers.specs.Bin.{binSpot};
-ghost use Rattle.map.specs.Mode.{width as WidthOf, cells as Cells, subchannels as Subchannels, symbols as Symbols, band as BandOf, isPilot, spotOf, addressOf};
+ghost use Rattle.carriers.specs.Bin.{binSpot, inOnlySymbol};
+ghost use Rattle.ofusc.specs.Map.{dataNumber as ofuscNumber};
+ghost use Rattle.map.specs.Mode.{shapeOf, width as WidthOf, cells as Cells, subchannels as Subchannels, symbols as Symbols, band as BandOf, isPilot, spotOf, addressOf};
 ghost use Rattle.map.specs.Question.{isFourSizes, isSize};
 ghost use Rattle.map.specs.Model.{setupRefusal, Valid};
 ghost use Rattle.map.specs.Place.{placed, placeAt, placeOf, located, contentOf, locateOf};
@@ -38,7 +41,41 @@ pub enum Located {
     Refused(u8),
 }
 
-// N of modes 2 and 3.
+// The shape of AMC's slots; no other mode has one.
+pub fn shape(mode: usize) -> Shape
+    ensures { λ r. ⌜ r ≡ shapeOf mode ⌝ }
+{
+    if mode == 3 {
+        return Shape {
+            bins: 6,
+            symbols: 1,
+        };
+    }
+    if mode == 4 {
+        return Shape {
+            bins: 2,
+            symbols: 3,
+        };
+    }
+    if mode == 5 {
+        return Shape {
+            bins: 3,
+            symbols: 2,
+        };
+    }
+    if mode == 6 {
+        return Shape {
+            bins: 1,
+            symbols: 6,
+        };
+    }
+    Shape {
+        bins: 0,
+        symbols: 0,
+    }
+}
+
+// N of the modes over bins.
 pub fn width(setup: Setup) -> usize
     ensures { λ r. ⌜ r ≡ WidthOf setup ⌝ }
 {
@@ -46,7 +83,7 @@ pub fn width(setup: Setup) -> usize
 }
 
 fn cells(setup: Setup) -> usize
-    requires { ⌜ (setup .mode < 4) × (setup .size ≤ 2048) ⌝ }
+    requires { ⌜ (setup .mode < 7) × (setup .size ≤ 2048) ⌝ }
     ensures { λ r. ⌜ r ≡ Cells setup ⌝ }
 {
     if setup.mode == 0 {
@@ -70,10 +107,10 @@ pub fn subchannels(setup: Setup) -> usize
     if setup.mode == 1 {
         return 70;
     }
-    if setup.mode < 4 {
+    if setup.mode == 2 {
         return width(setup);
     }
-    0
+    width(setup) * shape(setup.mode).symbols
 }
 
 // Symbols a slot.
@@ -86,24 +123,28 @@ pub fn symbols(setup: Setup) -> usize
     if setup.mode == 1 {
         return 3;
     }
-    if setup.mode < 4 {
+    if setup.mode == 2 {
         return 1;
     }
-    0
+    shape(setup.mode).symbols
 }
 
-// The slot of a zone's symbol, by a constant in each mode.
+// The slot of a zone's symbol, by a constant for each number of symbols.
 fn slot_of(setup: Setup, symbol: usize) -> usize
     requires { ⌜ Valid setup ⌝ }
     ensures { λ r. ⌜ r ≡ symbol / Symbols setup ⌝ }
 {
-    if setup.mode == 0 {
+    let n = symbols(setup);
+    if n == 1 {
+        return symbol;
+    }
+    if n == 2 {
         return symbol / 2;
     }
-    if setup.mode == 1 {
+    if n == 3 {
         return symbol / 3;
     }
-    symbol
+    symbol / 6
 }
 
 // Its offset in that slot.
@@ -111,13 +152,7 @@ pub fn offset_of(setup: Setup, symbol: usize) -> usize
     requires { ⌜ Valid setup ⌝ }
     ensures { λ r. ⌜ r ≡ symbol % Symbols setup ⌝ }
 {
-    if setup.mode == 0 {
-        return symbol % 2;
-    }
-    if setup.mode == 1 {
-        return symbol % 3;
-    }
-    0
+    symbol - slot_of(setup, symbol) * symbols(setup)
 }
 
 pub fn band(setup: Setup) -> Band
@@ -133,7 +168,7 @@ pub fn band(setup: Setup) -> Band
     carriers::bin_band(width(setup))
 }
 
-// Is it one of the four sizes of modes 2 and 3?
+// Is it one of the four sizes of the modes over bins?
 pub fn is_four_sizes(size: usize) -> bool
     ensures { λ r. ⌜ r ≡ isFourSizes size ⌝ }
 {
@@ -155,7 +190,7 @@ fn is_size(setup: Setup) -> bool
     if setup.mode < 2 {
         return setup.size == 2048;
     }
-    if setup.mode < 4 {
+    if setup.mode < 7 {
         return is_four_sizes(setup.size);
     }
     false
@@ -165,7 +200,7 @@ fn is_size(setup: Setup) -> bool
 pub fn refusal(setup: Setup) -> u8
     ensures { λ r. ⌜ r ≡ setupRefusal setup ⌝ }
 {
-    if 4 <= setup.mode {
+    if 7 <= setup.mode {
         return 1;
     }
     if !is_size(setup) {
@@ -177,21 +212,33 @@ pub fn refusal(setup: Setup) -> u8
     0
 }
 
-// Where data number d lies in a slot of one symbol.
-fn bin_spot(slot: usize, d: usize) -> Spot
-    requires { ⌜ d < 65536 ⌝ }
-    ensures { λ r. ⌜ r ≡ binSpot slot d ⌝ }
+// Where a data place lies in its slot, whose first symbol has the number `first` in the zone.
+fn bin_spot(first: usize, x: DataPlace) -> Spot
+    requires { ⌜ (first < 65536) × (x .offset < 65536) × (x .number < 65536) ⌝ }
+    ensures { λ r. ⌜ r ≡ binSpot first x ⌝ }
 {
     Spot {
+        offset: x.offset,
+        used: carriers::used_of_data(first + x.offset, x.number),
+    }
+}
+
+// Where a point of optional FUSC lies in its slot of one symbol.
+fn ofusc_place(setup: Setup, subchannel: usize, index: usize) -> DataPlace
+    requires { ⌜ Valid setup ⌝ }
+    requires { ⌜ (setup .mode ≡ 2) × (subchannel < Subchannels setup) × (index < 48) ⌝ }
+    ensures { λ r. ⌜ r ≡ inOnlySymbol (ofuscNumber (WidthOf setup) (setup .cell) subchannel index) ⌝ }
+{
+    DataPlace {
         offset: 0,
-        used: carriers::used_of_data(slot, d),
+        number: ofusc::data_number(width(setup), setup.cell, subchannel, index),
     }
 }
 
 // Where a point lies in its slot.
 fn spot(setup: Setup, slot: usize, subchannel: usize, index: usize) -> Spot
     requires { ⌜ Valid setup ⌝ }
-    requires { ⌜ (subchannel < Subchannels setup) × (index < 48) ⌝ }
+    requires { ⌜ (slot < 512) × (subchannel < Subchannels setup) × (index < 48) ⌝ }
     ensures { λ r. ⌜ r ≡ spotOf setup slot subchannel index ⌝ }
 {
     if setup.mode == 0 {
@@ -200,13 +247,14 @@ fn spot(setup: Setup, slot: usize, subchannel: usize, index: usize) -> Spot
     if setup.mode == 1 {
         return pusc_ul::spot(setup.cell, subchannel, index);
     }
+    let first = slot * symbols(setup);
     if setup.mode == 2 {
-        return bin_spot(
-            slot,
-            ofusc::data_number(width(setup), setup.cell, subchannel, index),
-        );
+        return bin_spot(first, ofusc_place(setup, subchannel, index));
     }
-    bin_spot(slot, amc::data_number(setup.cell, subchannel, index))
+    bin_spot(
+        first,
+        amc::data_place(shape(setup.mode), setup.cell, subchannel, index),
+    )
 }
 
 fn is_pilot(setup: Setup, symbol: usize, used: usize) -> bool
@@ -239,7 +287,7 @@ fn address(setup: Setup, symbol: usize, used: usize) -> Address
     if setup.mode == 2 {
         return ofusc::address(width(setup), setup.cell, d);
     }
-    amc::address(setup.cell, d)
+    amc::address(shape(setup.mode), setup.cell, offset_of(setup, symbol), d)
 }
 
 // The place of a spot of a slot.

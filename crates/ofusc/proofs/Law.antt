@@ -1,15 +1,16 @@
 -- Optional FUSC numbers the data carriers of a symbol one for one: the group is a rotation of the index, the place in the group an exclusive or, and both are digits of the data number.
-use mathlib.Core.Path.{_≡_, ap, ap₂, _∙_}
+use mathlib.Core.Path.{_≡_, sym, ap, ap₂, _∙_}
 use Prim.Native.Nat.{ℕ, _+_, _*_, _/_, _%_, _<_}
 use native.Mathlib.Nat.{mod-lt, div-add-mod', div-lt-iff-lt-mul}
 use native.Mathlib.Omega.{arith}
-use lib.Arith.{digits-div, digits-mod, digits-lt}
+use lib.Arith.{digits-div, digits-mod, digits-lt, lt-one}
 use lib.Dec.{lit<}
 use lib.Bits.{bitXor}
 use Rattle.base.specs.Steps.{unrotate}
 use Rattle.base.proofs.Perm.{rotation}
 use Rattle.base.proofs.Xor.{xor-twice}
 use Rattle.carriers.specs.declared.Address.{Address}
+use Rattle.carriers.specs.Bin.{inOnlySymbol}
 use Rattle.carriers.specs.Law.{NumberLaw}
 use Rattle.ofusc.specs.Width.{Width}
 use Rattle.ofusc.specs.Map.{groupOf, mask, dataNumber, addressOf}
@@ -61,12 +62,13 @@ module _ {n : ℕ} (w : Width n) (cell : ℕ) where
       ∙ ap (λ (e : ℕ). d / n * n + e) (xor-twice (d % n) (mask n cell (d / n)))
       ∙ div-add-mod' d n
 
-  pub law : NumberLaw n (dataNumber n cell) (addressOf n cell)
+  pub law : NumberLaw 1 n (48 * n) (λ s m. inOnlySymbol (dataNumber n cell s m)) (λ o d. addressOf n cell d)
   unfolding dataNumber addressOf element
   law =
       record {
+        offset-lt = λ s m hs hm. lit< tt;
         number-lt = λ s m hs hm. digits-lt (group-lt s m) (element-lt s m hs);
         back = found;
-        names = λ d h. record { subchannel-lt = subchannel-lt d; index-lt = omega arith };
-        forth = placed;
+        names = λ o d ho hd. record { subchannel-lt = subchannel-lt d; index-lt = omega arith };
+        forth = λ o d ho hd. λ i. record { offset = sym (lt-one ho) i; number = placed d hd i };
       }

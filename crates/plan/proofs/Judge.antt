@@ -66,14 +66,12 @@ zones-pass rest none = refl
 zones-pass rest (then {before = before} {z = z} {zones = zones} p j) = zone-passes _ before z (askZones _ (After (z .mode)) zones rest) p ∙ zones-pass rest j
 
 -- the values of such a zone are small
-mode-small : (m : ℕ) → isZoneMode m ≡ true → m < 4
+mode-small : (m : ℕ) → isZoneMode m ≡ true → m < 7
 unfolding isZoneMode
 mode-small m e =
-    cases (eqb m 0)
-    (λ t. omega (arith, eqb-true m 0 t))
-    (λ f. cases (eqb m 2)
-    (λ t. omega (arith, eqb-true m 2 t))
-    (λ g. omega (arith, eqb-true m 3 (rw (f, g) at e))))
+    cases (eqb m 1)
+    (λ t. omega (arith, eqb-true m 1 t))
+    (λ f. ltb-true m 7 (rw f at e))
 
 cells-small : (setup : Setup) → setup .size ≤ 2048 → cells setup ≤ 2352
 unfolding cells width
@@ -84,7 +82,7 @@ cells-small setup h =
     (λ e₁. rw (n₀, e₁) (omega arith))
     (λ n₁. cases (eqb (setup .mode) 2)
     (λ e₂. rw (n₀, n₁, e₂) (omega (arith, square)))
-    (λ n₂. cases (eqb (setup .mode) 3)
+    (λ n₂. cases (ltb (setup .mode) 7)
     (λ e₃. rw (n₀, n₁, n₂, e₃) (omega arith))
     (λ n₃. rw (n₀, n₁, n₂, n₃) (omega arith)))))
   where

@@ -6,7 +6,7 @@ use Prim.Native.Nat.{ℕ, zero, suc, _+_, _<_, _≤_}
 use native.Mathlib.Omega.{arith}
 use lib.Dec.{ltb}
 use lib.ListN.{length, take, drop, getD}
-use borrow.Author.Tests.{eq-eqb, ne-eqb, le-ltb}
+use borrow.Author.Tests.{eq-eqb, ne-eqb}
 use Rattle.base.specs.Answer.{Answer, accepted, ask, refusalOf}
 use Rattle.base.proofs.Chain.{numbered, yes-all, no-first, Numbered, no-question, question}
 use Rattle.map.specs.Question.{isMode, isFourSizes, isSize, isCell}
@@ -22,15 +22,9 @@ use Rattle.plan.specs.Model.{zoneRefusal, zonesRefusal, planRefusal}
 use Rattle.plan.proofs.Places.{used-next, used-none}
 
 -- a mode other than 1 is a zone's where it is the map's
-listed : (m : ℕ) → (m ≡ 1 → ⊥) → isZoneMode m ≡ ltb m 4
+listed : (m : ℕ) → (m ≡ 1 → ⊥) → isZoneMode m ≡ ltb m 7
 unfolding isZoneMode
-listed zero h = refl
-listed (suc zero) h = absurd (h refl)
-listed (suc (suc zero)) h = refl
-listed (suc (suc (suc zero))) h = refl
-listed (suc (suc (suc (suc m)))) h =
-    let n = suc (suc (suc (suc m))) in
-    rw (ne-eqb n 0 (λ q. omega arith), ne-eqb n 2 (λ q. omega arith), ne-eqb n 3 (λ q. omega arith), le-ltb n 4 (omega arith))
+listed m h = rw (ne-eqb m 1 h)
 
 -- the questions put to a zone in its plan
 module _ (size : ℕ) (before : Before) (z : Zone) where

@@ -25,7 +25,7 @@ planRefusal plan = refusalOf (askPlan {A = Unit {0}} plan (accepted tt))
 
 -- a zone whose values are in range at some size
 pub record Small (zone : Zone) : Type 0 where
-  pub mode-most : zone .mode < 4
+  pub mode-most : zone .mode < 7
   pub cell-most : zone .cell < 2352
   pub slots-most : zone .slots ≤ 512
 

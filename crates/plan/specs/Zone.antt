@@ -11,9 +11,9 @@ use Rattle.plan.specs.declared.Zone.{Zone}
 use Rattle.plan.specs.declared.Before.{Before}
 use Rattle.plan.specs.declared.Before.the-variants.{First, After}
 
--- 1 Is the mode 0, 2 or 3?
+-- 1 Is the mode 0, 2 or one of AMC's, 3 to 6 (document 02, wish 2)? That is every listed mode but 1.
 unfoldable pub isZoneMode : (mode : ℕ) → Bool
-isZoneMode mode = pick (eqb mode 0) true (pick (eqb mode 2) true (eqb mode 3))
+isZoneMode mode = pick (eqb mode 1) false (ltb mode 7)
 
 -- 2 and 3 are the map's, of the zone's mode and cell and the plan's size.
 abbrev pub setupOf : (size : ℕ) (zone : Zone) → Setup
@@ -35,9 +35,13 @@ isSlots slots = isUpTo 512 slots
 unfoldable pub isOpening : (size : ℕ) (zone : Zone) → Bool
 isOpening size zone = pick (eqb size 2048) (eqb (zone .mode) 0) true
 
--- 14 And at every size, does nothing but mode 3 follow mode 3?
+-- AMC, modes 3 to 6
+unfoldable pub isAmc : (mode : ℕ) → Bool
+isAmc mode = pick (leb 3 mode) (ltb mode 7) false
+
+-- 14 And at every size, does nothing but AMC follow AMC (document 01: mode 3; document 02, wish 2: any of 3 to 6)?
 unfoldable pub isFollowing : (mode : ℕ) (zone : Zone) → Bool
-isFollowing mode zone = pick (eqb mode 3) (eqb (zone .mode) 3) true
+isFollowing mode zone = pick (isAmc mode) (isAmc (zone .mode)) true
 
 -- a zone is the plan's first, or stands after one of a mode
 abbrev pub isOrder : (before : Before) (size : ℕ) (zone : Zone) → Bool

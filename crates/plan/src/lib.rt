@@ -6,7 +6,7 @@ ghost use Prim.Native.Nat.{_+_, _≤_};
 ghost use lib.ListN.{length, drop};
 ghost use Rattle.text.specs.Text.{Put};
 ghost use Rattle.base.specs.Answer.{refused as no};
-ghost use Rattle.plan.specs.Zone.{isUpTo, isOrder};
+ghost use Rattle.plan.specs.Zone.{isAmc, isUpTo, isOrder};
 ghost use Rattle.plan.specs.Write.{isUnused, areUnused, usedZones, zoneBytes, planBytes, written, writeOf};
 ghost use Rattle.plan.specs.Read.{readZones, finish, planOf, answered};
 ghost use Rattle.plan.specs.Model.{zoneRefusal, zonesRefusal, planRefusal, Small, ZoneAt};
@@ -59,6 +59,16 @@ fn is_up_to(most: usize, number: usize) -> bool
     number <= most
 }
 
+// Is it one of AMC's modes?
+fn is_amc(mode: usize) -> bool
+    ensures { λ r. ⌜ r ≡ isAmc mode ⌝ }
+{
+    if mode < 3 {
+        return false;
+    }
+    mode < 7
+}
+
 fn is_order(size: usize, prior: Before, zone: Zone) -> bool
     ensures { λ r. ⌜ r ≡ isOrder prior size zone ⌝ }
 {
@@ -70,10 +80,10 @@ fn is_order(size: usize, prior: Before, zone: Zone) -> bool
             zone.mode == 0
         }
         Before::After(mode) => {
-            if mode != 3 {
+            if !is_amc(mode) {
                 return true;
             }
-            zone.mode == 3
+            is_amc(zone.mode)
         }
     }
 }

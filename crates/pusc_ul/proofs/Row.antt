@@ -22,7 +22,7 @@ use Rattle.pusc_ul.specs.Model.{tableEntry, placeNumber, tileStart, putT
 use Rattle.pusc_ul.proofs.Place.{on-carrier, on-place}
 
 -- index m is on data place (m+13s) mod 48
-pub number-on-place : (cell s m : ℕ) → placeNumber cell s ((m + 13 * s % 48) % 48) ≡ carrierNumber puscBand (spotOf cell s m)
+pub number-on-place : (cell s m : ℕ) → placeNumber cell s ((m + 13 * s % 48) % 48) ≡ carrierNumber 2048 puscBand (spotOf cell s m)
 unfolding placeNumber spotOf
 number-on-place cell s m = ap (placeNumber cell s) (omega arith)
 

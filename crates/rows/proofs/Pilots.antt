@@ -16,6 +16,7 @@ use Rattle.ofusc.proofs.Sequence.{size}
 use Rattle.map.specs.declared.Setup.{Setup}
 use Rattle.map.specs.Mode.{width, band, isPilot, setupWith}
 use Rattle.map.specs.Model.{Valid, pusc-dl, pusc-ul, ofusc, amc}
+use Rattle.map.proofs.Choice.{amc-tests}
 use Rattle.rows.specs.declared.Comb.{Comb}
 use Rattle.rows.specs.Model.{combOf, pilotNumber}
 
@@ -117,14 +118,15 @@ tiles-law o =
     (λ t. rw t (none-law (record { first = 0; second = 3; step = 4; count = 0 }) refl 1680 (isTilePilot o) (λ u. rw t)))
     (λ t. rw t (comb-law (record { first = 0; second = 3; step = 4; count = 420 }) (lit< tt) (lit< tt) (isTilePilot o) (λ u. rw t)))
 
-pub pilots-law : {c : Setup} → Valid c → (y : ℕ) → CombLaw (combOf c y) (band c .used) (isPilot c y)
+pub pilots-law : {c : Setup} → Valid c → (y : ℕ) → CombLaw (combOf c y) (band c .used) (λ u. isPilot c y u)
 unfolding combOf isPilot band isClusterPilot
 pilots-law (pusc-dl h) y =
     comb-law (record { first = firstPilot y; second = secondPilot y; step = 14; count = 120 })
     (cluster-lt y .0) (cluster-lt y .1) (isClusterPilot y) (λ u. refl)
 pilots-law (pusc-ul h) y = tiles-law (y % 3)
 pilots-law (ofusc {n = n} {cell = cell} w h) y = bins-law (width (setupWith 2 (64 * n) cell)) y
-pilots-law (amc {n = n} {cell = cell} w h) y = bins-law (width (setupWith 3 (64 * n) cell)) y
+pilots-law (amc {mode = mode} {n = n} {cell = cell} q w h) y =
+    let t = amc-tests q in rw (t .not-0, t .not-1, t .not-2, t .listed) (bins-law (width (setupWith mode (64 * n) cell)) y)
 
 -- a comb's numbers are small
 pub record Small (b : Comb) : Type 0 where
@@ -138,4 +140,7 @@ unfolding combOf width
 comb-small (pusc-dl h) y = let l = cluster-lt y in record { first-lt = omega arith; second-lt = omega arith; step-lt = omega arith; count-le = omega arith }
 comb-small (pusc-ul h) y = record { first-lt = omega arith; second-lt = omega arith; step-lt = omega arith; count-le = cases (eqb (y % 3) 1) (λ t. rw t (omega arith)) (λ t. rw t (omega arith)) }
 comb-small (ofusc {n = n} w h) y = let l = place-lt y in record { first-lt = omega arith; second-lt = omega arith; step-lt = omega arith; count-le = omega (arith, size w .most) }
-comb-small (amc {n = n} w h) y = let l = place-lt y in record { first-lt = omega arith; second-lt = omega arith; step-lt = omega arith; count-le = omega (arith, size w .most) }
+comb-small (amc {n = n} q w h) y =
+    let t = amc-tests q in
+    let l = place-lt y in
+    rw (t .not-0, t .not-1, t .not-2, t .listed) record { first-lt = omega arith; second-lt = omega arith; step-lt = omega arith; count-le = omega (arith, size w .most) }

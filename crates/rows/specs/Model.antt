@@ -7,7 +7,7 @@ use Rattle.base.specs.Model.{Starts}
 use Rattle.carriers.specs.Bin.{binPilotPlace}
 use Rattle.pusc_dl.specs.Cluster.{firstPilot, secondPilot}
 use Rattle.map.specs.declared.Setup.{Setup}
-use Rattle.map.specs.Mode.{byMode, width}
+use Rattle.map.specs.Mode.{shapeOf, byMode, width}
 use Rattle.rows.specs.declared.Comb.{Comb}
 use Rattle.pusc_dl.specs.Model as pusc-dl
 use Rattle.pusc_ul.specs.Model as pusc-ul
@@ -16,7 +16,7 @@ use Rattle.amc.specs.Model as amc
 
 -- what the cell alone fixes, in the table of its mode: how many entries, and entry i
 unfoldable pub tableLength : (setup : Setup) → ℕ
-tableLength setup = byMode (setup .mode) 188 76 48 48 0
+tableLength setup = byMode (setup .mode) 188 76 48 144 0
 
 unfoldable pub tableEntry : (setup : Setup) (i : ℕ) → ℕ
 tableEntry setup i =
@@ -24,7 +24,7 @@ tableEntry setup i =
     (pusc-dl.tableEntry (setup .cell) i)
     (pusc-ul.tableEntry (setup .cell) i)
     (ofusc.cellNumber (width setup) (setup .cell) i)
-    (amc.sequencePlace (setup .cell) i)
+    (amc.tableEntry (shapeOf (setup .mode)) (width setup) (setup .cell) i)
     0
 
 abbrev pub TableOf : (setup : Setup) (table : List ℕ) → Type 0

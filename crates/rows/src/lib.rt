@@ -31,7 +31,7 @@ pub fn table(setup: Setup) -> [u16; 188]
     if setup.mode == 2 {
         return ofusc::table(map::width(setup), setup.cell);
     }
-    amc::table(setup.cell)
+    amc::carrier_table(map::shape(setup.mode), map::width(setup), setup.cell)
 }
 
 // The place in a subchannel's row at which index 0 stands; the others follow, going on at the row's start.
@@ -48,38 +48,45 @@ pub fn shift(setup: Setup, subchannel: usize) -> usize
     if setup.mode == 2 {
         return 23 * subchannel % 48;
     }
-    if setup.mode == 3 {
+    if setup.mode < 7 {
         return setup.cell % 48;
     }
     0
 }
 
-// Where the points of a subchannel lie in its slot, as numbers, index 0 at place `shift`; not in PUSC uplink.
+// Where the points of a subchannel of PUSC downlink or optional FUSC lie in its slot, as numbers, index 0 at place `shift`.
 fn spots(setup: Setup, slot: usize, subchannel: usize, table: &[u16; 188]) -> [u16; 48]
     requires { ⌜ Valid setup ⌝ }
-    requires { ⌜ (setup .mode ≡ 1 → ⊥) × (subchannel < subchannels setup) × TableOf setup (now table) ⌝ }
+    requires { ⌜ (setup .mode < 3) × (setup .mode ≡ 1 → ⊥) × (subchannel < subchannels setup) × TableOf setup (now table) ⌝ }
     ensures { λ r. ⌜ Turned (shiftOf setup subchannel) (λ m. spotNumber (spotOf setup slot subchannel m)) r ⌝ }
 {
     if setup.mode == 0 {
         return pusc_dl::spots(setup.cell, subchannel, table);
     }
-    if setup.mode == 2 {
-        return carriers::used_numbers(
-            slot,
-            ofusc::numbers(map::width(setup), setup.cell, subchannel, table),
-        );
-    }
-    carriers::used_numbers(slot, amc::numbers(setup.cell, subchannel, table))
+    carriers::used_numbers(
+        slot,
+        ofusc::numbers(map::width(setup), setup.cell, subchannel, table),
+    )
 }
 
-// The carriers of a subchannel's points as numbers, 2048 for each symbol of the slot, index 0 at place `shift`.
+// The carriers of a subchannel's points as numbers, the size for each symbol of the slot, index 0 at place `shift`.
 pub fn carrier_row(setup: Setup, slot: usize, subchannel: usize, table: &[u16; 188]) -> [u16; 48]
     requires { ⌜ Valid setup ⌝ }
     requires { ⌜ (subchannel < subchannels setup) × TableOf setup (now table) ⌝ }
-    ensures { λ r. ⌜ Turned (shiftOf setup subchannel) (λ m. carrierNumber (band setup) (spotOf setup slot subchannel m)) r ⌝ }
+    ensures { λ r. ⌜ Turned (shiftOf setup subchannel) (λ m. carrierNumber (setup .size) (band setup) (spotOf setup slot subchannel m)) r ⌝ }
 {
     if setup.mode == 1 {
         return pusc_ul::carrier_row(setup.cell, subchannel, table);
+    }
+    if 3 <= setup.mode {
+        return amc::carrier_row(
+            map::shape(setup.mode),
+            map::width(setup),
+            slot,
+            setup.cell,
+            subchannel,
+            table,
+        );
     }
     let row = spots(setup, slot, subchannel, table);
     carriers::carrier_row(map::band(setup), row)

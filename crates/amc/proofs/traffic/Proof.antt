@@ -9,5 +9,5 @@ pub traffic-spec : {M : Type 1} → statement M
 traffic-spec =
     tie.close
     (tie.spec
-    (λ c. search needs) (λ c κs. (refl, search needs, search needs)) (λ c κs. search needs)
-    (λ c. c .wide16 .ensures .0 ∙ c .before .sequence-place .ensures ∙ traffic-at _ _))
+    (λ c. search needs) (λ c κs. (refl, search needs, search needs))
+    (λ c. c .sequence-place .ensures ∙ traffic-at _ _))

@@ -1,6 +1,7 @@
 -- `map::address` meets its contract.
 use native.Mathlib.Omega.{arith}
-use Rattle.map.proofs.ByMode.{pusc-dl-asks, pusc-ul-asks, ofusc-back-asks, in-amc, mode-0, mode-1, mode-2, mode-3, amc-mode, few}
+use Rattle.map.proofs.Choice.{mode-0, mode-1, mode-2}
+use Rattle.map.proofs.ByMode.{pusc-dl-asks, pusc-ul-asks, ofusc-back-asks, amc-back-asks, amc-address, amc-mode, few}
 use Rattle.map.specs.Mode.{addressOf}
 use borrow.Author.Needs.{needs}
 use Rattle.map.proofs.address.Statement.{statement}
@@ -40,15 +41,17 @@ unfolding addressOf
 returns-3 c = rw (c .address3 .ensures, c .before .width .ensures, c .before .before .before .before .data-of-used .ensures) (search (mode-2, needs))
 
 address-requires-4 : tie.Need-address-requires-4
-address-requires-4 c κs = in-amc (c .before .before .before .before .before .before .before .pre .0) (search (amc-mode, needs)) .cell-lt
+address-requires-4 c κs =
+    let s = c .before .before .before .before in
+    let p = s .before .before .before .before .before .pre in
+    amc-back-asks (p .0) _ _ (p .1 .0) (p .1 .1) _ (c .before .shape .ensures) _ (c .offset-of .ensures) _ (s .data-of-used .ensures) (search (amc-mode, needs))
 
 returns-4 : tie.Need-returns-4
-unfolding addressOf
-returns-4 c = rw (c .address4 .ensures, c .before .before .before .data-of-used .ensures) (search (mode-3, amc-mode, needs))
+returns-4 c = search (amc-address, amc-mode, needs)
 
 pub address-spec : {M : Type 1} → statement M
 address-spec =
     tie.close
     (tie.spec
     address-requires returns address-requires-2 returns-2 data-of-used-requires (λ c κs. search needs)
-    address-requires-3 returns-3 address-requires-4 returns-4)
+    address-requires-3 returns-3 (λ c κs. search needs) (λ c κs. search needs) address-requires-4 returns-4)

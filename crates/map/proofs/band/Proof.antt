@@ -1,6 +1,7 @@
 -- `map::band` meets its contract.
 use native.Mathlib.Omega.{arith}
-use Rattle.map.proofs.ByMode.{bin-width, mode-0, mode-1, mode-bins, listed-mode}
+use Rattle.map.proofs.Choice.{mode-0, mode-1, mode-bins}
+use Rattle.map.proofs.ByMode.{bin-width, listed-mode}
 use Rattle.ofusc.proofs.Sequence.{size}
 use Rattle.map.specs.Mode.{band}
 use borrow.Author.Needs.{needs}

@@ -7,4 +7,4 @@ returns : tie.Need-returns
 returns c = rw (c .used-of-data .ensures)
 
 pub bin-spot-spec : {M : Type 1} → statement M
-bin-spot-spec = tie.close (tie.spec (λ c κs. search needs) returns)
+bin-spot-spec = tie.close (tie.spec (λ c. search needs) (λ c κs. search needs) returns)

@@ -2,7 +2,7 @@
 use Rattle.map.specs.Mode.{width, cells}
 use native.Mathlib.Nat.{mul-le-mul}
 use native.Mathlib.Omega.{arith}
-use Rattle.map.proofs.ByMode.{mode-0, mode-1, mode-2, mode-3, last-mode}
+use Rattle.map.proofs.Choice.{mode-0, mode-1, mode-2, mode-amc, last-mode}
 use borrow.Author.Needs.{needs}
 use Rattle.map.proofs.cells.Statement.{statement}
 use Rattle.map.proofs.cells.Tie as tie
@@ -25,7 +25,7 @@ returns-3 c = rw (c .before .width .ensures, c .width2 .ensures) (mode-2 _ _ _ _
 
 returns-4 : tie.Need-returns-4
 unfolding cells
-returns-4 c = search (mode-3, last-mode, needs)
+returns-4 c = search (mode-amc, last-mode, needs)
 
 pub cells-spec : {M : Type 1} → statement M
 cells-spec =

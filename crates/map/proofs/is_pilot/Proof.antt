@@ -1,5 +1,6 @@
 -- `map::is_pilot` meets its contract.
-use Rattle.map.proofs.ByMode.{mode-0, mode-1, mode-bins, listed-mode}
+use Rattle.map.proofs.Choice.{mode-0, mode-1, mode-bins}
+use Rattle.map.proofs.ByMode.{listed-mode}
 use Rattle.map.specs.Mode.{isPilot}
 use borrow.Author.Needs.{needs}
 use Rattle.map.proofs.is_pilot.Statement.{statement}

@@ -1,19 +1,22 @@
 -- `map::offset_of` meets its contract.
-use mathlib.Core.Path.{ap}
-use Prim.Native.Nat.{ℕ, _%_}
+use mathlib.Core.Path.{sym}
+use Prim.Native.Nat.{_*_, _≤_}
+use native.Mathlib.Nat.{div-mul-le-self, mod-eq-sub-div-mul}
 use native.Mathlib.Omega.{arith}
-use Rattle.map.proofs.ByMode.{two-symbols, three-symbols, one-symbol}
+use borrow.Author.Needs.{needs}
+use Rattle.map.specs.Mode.{symbols}
 use Rattle.map.proofs.offset_of.Statement.{statement}
 use Rattle.map.proofs.offset_of.Tie as tie
 
+sub-result : tie.Need-sub-result
+sub-result c = rw (c .before .slot-of .ensures, c .symbols .ensures) (div-mul-le-self _ _)
+
+mul-result : tie.Need-mul-result
+mul-result c = omega (arith, sub-result c)
+
 returns : tie.Need-returns
-returns c = ap (λ (t : ℕ). c .before .before .args .symbol % t) (two-symbols _ (c .if1 .taken))
-
-returns-2 : tie.Need-returns-2
-returns-2 c = ap (λ (t : ℕ). c .before .before .before .before .args .symbol % t) (three-symbols _ (c .if2 .taken))
-
-returns-3 : tie.Need-returns-3
-returns-3 c = omega (arith, ap (λ (t : ℕ). c .before .before .before .before .args .symbol % t) (one-symbol _ (c .before .before .before .before .pre) (c .before .before .if1 .left) (c .if2 .left)))
+returns c = rw (c .before .slot-of .ensures, c .symbols .ensures) (sym (mod-eq-sub-div-mul _ _))
 
 pub offset-of-spec : {M : Type 1} → statement M
-offset-of-spec = tie.close (tie.spec returns returns-2 returns-3)
+offset-of-spec =
+    tie.close (tie.spec (λ c κs. search needs) (λ c κs. search needs) mul-result sub-result returns)

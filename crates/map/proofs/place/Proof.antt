@@ -5,7 +5,7 @@ use Rattle.map.proofs.place.Statement.{statement}
 use Rattle.map.proofs.place.Tie as tie
 
 spot-requires : tie.Need-spot-requires
-spot-requires c κs = (search (now-valid, needs), (search (subchannel-in, needs), search needs))
+spot-requires c κs = (search (now-valid, needs), (search needs, search (subchannel-in, needs), search needs))
 
 at-requires : tie.Need-at-requires
 at-requires c κs = spot-asks _ _ _ _ (c .spot .result) (search (now-valid, needs)) (search needs) (search (subchannel-in, needs)) (search needs) (c .spot .ensures)

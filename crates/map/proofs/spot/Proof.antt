@@ -1,11 +1,12 @@
 -- `map::spot` meets its contract.
-use Rattle.map.proofs.ByMode.{in-pusc-dl, in-pusc-ul, ofusc-asks, ofusc-few, amc-asks, amc-few, mode-0, mode-1, mode-2, mode-3, amc-mode}
+use Rattle.map.proofs.Choice.{mode-0, mode-1}
+use Rattle.map.proofs.ByMode.{in-pusc-dl, in-pusc-ul, ofusc-few, ofusc-spot, amc-asks, amc-few, amc-spot, amc-mode, slot-few}
+use mathlib.Core.Path.{refl}
 use native.Mathlib.Omega.{arith}
 use Rattle.map.specs.Mode.{spotOf}
 use borrow.Author.Needs.{needs}
 use Rattle.map.proofs.spot.Statement.{statement}
 use Rattle.map.proofs.spot.Tie as tie
-use Rattle.ofusc.proofs.data_number.Reads as data-number-reads′
 use Rattle.pusc_ul.proofs.spot.Reads as spot-reads′
 
 spot-requires : tie.Need-spot-requires
@@ -22,33 +23,40 @@ returns-2 : tie.Need-returns-2
 unfolding spotOf
 returns-2 c = rw (c .spot2 .ensures) (search (mode-1, needs))
 
-data-number-requires : tie.Need-data-number-requires
-data-number-requires c κs =
-    let p = c .before .before .before .before .before .before .before .pre in
-    ofusc-asks (p .0) _ (c .width .ensures) _ _ (p .1 .0) (p .1 .1) (c .before .if3 .taken)
+mul-first : tie.Need-mul-first
+mul-first c =
+    let s = c .before .before .before .before .before in
+    omega (arith, slot-few (s .pre .0) (s .args .slot) (c .symbols .result) (s .pre .1 .0) (c .symbols .ensures))
 
 bin-spot-requires : tie.Need-bin-spot-requires
-bin-spot-requires c κs = rw (c .data-number .ensures) (search (ofusc-few, needs))
+bin-spot-requires c κs =
+    let y = c .before .before .before in
+    let s = y .before .before .before .before .before in
+    let few = ofusc-few (s .pre .0) _ refl _ _ (s .pre .1 .1) (s .pre .1 .2) (c .before .if3 .taken) in (
+      omega (arith, slot-few (s .pre .0) (s .args .slot) (y .symbols .result) (s .pre .1 .0) (y .symbols .ensures)),
+      rw (c .ofusc-place .ensures) (omega arith),
+      rw (c .ofusc-place .ensures) few,
+    )
 
-returns-3 : tie.Need-returns-3
-unfolding spotOf
-returns-3 c = rw (c .bin-spot .ensures, c .before .data-number .ensures, c .before .before .width .ensures) (search (mode-2, needs))
-
-data-number-requires-2 : tie.Need-data-number-requires-2
-data-number-requires-2 c κs =
-    let p = c .before .before .before .before .before .before .pre in
-    amc-asks (p .0) (search (amc-mode, needs)) _ _ (p .1 .0) (p .1 .1)
+data-place-requires : tie.Need-data-place-requires
+data-place-requires c κs =
+    let p = c .before .before .before .before .before .before .before .before .pre in
+    amc-asks (p .0) (search (amc-mode, needs)) _ _ (p .1 .1) (p .1 .2) _ (c .shape .ensures)
 
 bin-spot-requires-2 : tie.Need-bin-spot-requires-2
-bin-spot-requires-2 c κs = rw (c .data-number2 .ensures) (search (amc-few, amc-mode, needs))
-
-returns-4 : tie.Need-returns-4
-unfolding spotOf
-returns-4 c = rw (c .bin-spot2 .ensures, c .before .data-number2 .ensures) (search (mode-3, amc-mode, needs))
+bin-spot-requires-2 c κs =
+    let y = c .before .before .before .before in
+    let s = y .before .before .before .before .before in
+    let few = amc-few (s .pre .0) (search (amc-mode, needs)) _ _ (s .pre .1 .1) (s .pre .1 .2) _ (c .before .shape .ensures) in (
+      omega (arith, slot-few (s .pre .0) (s .args .slot) (y .symbols .result) (s .pre .1 .0) (y .symbols .ensures)),
+      rw (c .data-place .ensures) (few .0),
+      rw (c .data-place .ensures) (few .1),
+    )
 
 pub spot-spec : {M : Type 1} → statement M
 spot-spec =
     tie.close
     (tie.spec
-    spot-requires returns spot-requires-2 returns-2 (λ c κs. search needs) data-number-requires bin-spot-requires
-    returns-3 data-number-requires-2 bin-spot-requires-2 returns-4)
+    spot-requires returns spot-requires-2 returns-2 (λ c κs. search needs) mul-first (λ c κs. search needs)
+    bin-spot-requires (λ c. search (ofusc-spot, needs)) (λ c κs. search needs) data-place-requires bin-spot-requires-2
+    (λ c. search (amc-spot, amc-mode, needs)))

@@ -1,7 +1,9 @@
 -- `map::subchannels` meets its contract.
-use Rattle.map.proofs.ByMode.{mode-0, mode-1, mode-bins, mode-other}
-use Rattle.map.specs.Mode.{subchannels}
+use native.Mathlib.Nat.{mul-le-mul}
+use native.Mathlib.Omega.{arith}
 use borrow.Author.Needs.{needs}
+use Rattle.map.proofs.Choice.{mode-0, mode-1, mode-2, shape-few, rest-subchannels}
+use Rattle.map.specs.Mode.{width, subchannels}
 use Rattle.map.proofs.subchannels.Statement.{statement}
 use Rattle.map.proofs.subchannels.Tie as tie
 
@@ -15,11 +17,16 @@ returns-2 c = mode-1 _ _ _ _ _ _ (c .if2 .taken)
 
 returns-3 : tie.Need-returns-3
 unfolding subchannels
-returns-3 c = rw (c .width .ensures) (search (mode-bins, needs))
+returns-3 c = rw (c .width .ensures) (mode-2 _ _ _ _ _ _ (c .before .if3 .taken))
 
-returns-4 : tie.Need-returns-4
-unfolding subchannels
-returns-4 c = search (mode-other, needs)
+mul-result : tie.Need-mul-result
+unfolding width
+mul-result c =
+    omega (arith, mul-le-mul {n₁ = c .before .before .width2 .result} {m₁ = c .before .shape .result .symbols} {n₂ = 288230376151711744} {m₂ = 6} (omega arith) (rw (c .before .shape .ensures) (shape-few _)))
 
 pub subchannels-spec : {M : Type 1} → statement M
-subchannels-spec = tie.close (tie.spec returns returns-2 (λ c κs. search needs) returns-3 returns-4)
+subchannels-spec =
+    tie.close
+    (tie.spec
+    returns returns-2 (λ c κs. search needs) returns-3 (λ c κs. search needs) (λ c κs. search needs) mul-result
+    (λ c. search (rest-subchannels, needs)))

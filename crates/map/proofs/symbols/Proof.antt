@@ -1,6 +1,6 @@
 -- `map::symbols` meets its contract.
 use borrow.Author.Needs.{needs}
-use Rattle.map.proofs.ByMode.{mode-0, mode-1, mode-bins, mode-other}
+use Rattle.map.proofs.Choice.{mode-0, mode-1, mode-2, rest-symbols}
 use Rattle.map.specs.Mode.{symbols}
 use Rattle.map.proofs.symbols.Statement.{statement}
 use Rattle.map.proofs.symbols.Tie as tie
@@ -15,11 +15,8 @@ returns-2 c = mode-1 _ _ _ _ _ _ (c .if2 .taken)
 
 returns-3 : tie.Need-returns-3
 unfolding symbols
-returns-3 c = search (mode-bins, needs)
-
-returns-4 : tie.Need-returns-4
-unfolding symbols
-returns-4 c = search (mode-other, needs)
+returns-3 c = mode-2 _ _ _ _ _ _ (c .if3 .taken)
 
 pub symbols-spec : {M : Type 1} → statement M
-symbols-spec = tie.close (tie.spec returns returns-2 returns-3 returns-4)
+symbols-spec =
+    tie.close (tie.spec returns returns-2 returns-3 (λ c κs. search needs) (λ c. search (rest-symbols, needs)))

@@ -1,6 +1,7 @@
 -- `rows::pilot_comb` meets its contract.
 use Rattle.ofusc.proofs.Sequence.{size}
-use Rattle.map.proofs.ByMode.{mode-0, mode-1, mode-bins, listed-mode, bin-width}
+use Rattle.map.proofs.Choice.{mode-0, mode-1, mode-bins}
+use Rattle.map.proofs.ByMode.{listed-mode, bin-width}
 use Rattle.rows.specs.Model.{combOf}
 use native.Mathlib.Omega.{arith}
 use borrow.Author.Needs.{needs}

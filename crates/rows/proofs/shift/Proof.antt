@@ -1,7 +1,7 @@
 -- `rows::shift` meets its contract.
 use native.Mathlib.Omega.{arith}
 use borrow.Author.Needs.{needs}
-use Rattle.rows.proofs.Row.{shift-0, shift-1, shift-2, shift-3, shift-other}
+use Rattle.rows.proofs.Row.{shift-0, shift-1, shift-2, shift-amc, shift-other}
 use Rattle.rows.proofs.shift.Statement.{statement}
 use Rattle.rows.proofs.shift.Tie as tie
 
@@ -15,7 +15,7 @@ returns-3 : tie.Need-returns-3
 returns-3 c = (shift-2 _ _ (c .if3 .taken), omega arith)
 
 returns-4 : tie.Need-returns-4
-returns-4 c = (search (shift-3, needs), omega arith)
+returns-4 c = (search (shift-amc, needs), omega arith)
 
 returns-5 : tie.Need-returns-5
 returns-5 c = (search (shift-other, needs), omega arith)

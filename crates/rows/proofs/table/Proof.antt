@@ -1,8 +1,8 @@
 -- `rows::table` meets its contract.
 use native.Mathlib.Omega.{arith}
 use borrow.Author.Needs.{needs}
-use Rattle.map.proofs.ByMode.{in-pusc-dl, in-pusc-ul, in-ofusc, in-amc, bin-width, amc-mode}
-use Rattle.rows.proofs.Row.{as-0, as-1, as-2, as-3, to-table}
+use Rattle.map.proofs.ByMode.{in-pusc-dl, in-pusc-ul, in-ofusc, bin-width, amc-mode}
+use Rattle.rows.proofs.Row.{as-0, as-1, as-2, as-amc, to-table, table-asks}
 use Rattle.rows.proofs.table.Statement.{statement}
 use Rattle.rows.proofs.table.Tie as tie
 
@@ -27,15 +27,18 @@ table-requires-3 c κs =
 returns-3 : tie.Need-returns-3
 returns-3 c = to-table (c .table3 .result) (as-2 (c .before .before .if3 .taken)) (rw (c .before .width .ensures) at (c .table3 .ensures))
 
-table-requires-4 : tie.Need-table-requires-4
-table-requires-4 c κs = in-amc (c .before .before .before .before .before .before .pre) (search (amc-mode, needs)) .cell-lt
+carrier-table-requires : tie.Need-carrier-table-requires
+carrier-table-requires c κs =
+    table-asks (c .before .before .before .before .before .before .before .before .pre) (search (amc-mode, needs)) _ (c .before .shape .ensures) _ (c .width2 .ensures)
 
 returns-4 : tie.Need-returns-4
-returns-4 c = to-table (c .table4 .result) (as-3 (search (amc-mode, needs))) (c .table4 .ensures)
+returns-4 c =
+    to-table (c .carrier-table .result) (as-amc (search (amc-mode, needs)))
+    (rw (c .before .before .shape .ensures, c .before .width2 .ensures) at (c .carrier-table .ensures))
 
 pub table-spec : {M : Type 1} → statement M
 table-spec =
     tie.close
     (tie.spec
     table-requires returns table-requires-2 returns-2 (λ c κs. search needs) table-requires-3 returns-3
-    table-requires-4 returns-4)
+    (λ c κs. search needs) (λ c κs. search needs) carrier-table-requires returns-4)

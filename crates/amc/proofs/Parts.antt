@@ -1,0 +1,48 @@
+-- A slot's shape: what follows of its two numbers from their product alone.
+use mathlib.Core.Path.{_≡_, sym, ap, _∙_}
+use Prim.Native.Nat.{ℕ, _-_, _*_, _/_, _%_, _<_, _≤_}
+use native.Mathlib.Nat.{mul-comm, mul-le-mul, pos-of-ne-zero, mul-div-mul-right, mod-eq-sub-div-mul, div-mul-le-self, div-le-self, mod-lt}
+use native.Mathlib.Omega.{arith}
+use Rattle.amc.specs.declared.Shape.{Shape}
+use Rattle.amc.specs.Model.{IsShape}
+
+module _ (shape : Shape) (six : IsShape shape) where
+  pub bins-pos : 0 < shape .bins
+  bins-pos = pos-of-ne-zero (λ e. let z : 0 * shape .symbols ≡ 6 = rw e at six in omega arith)
+
+  pub symbols-six : shape .symbols * shape .bins ≡ 6
+  symbols-six = mul-comm (shape .symbols) (shape .bins) ∙ six
+
+  pub symbols-pos : 0 < shape .symbols
+  symbols-pos = pos-of-ne-zero (λ e. let z : 0 * shape .bins ≡ 6 = rw e at symbols-six in omega arith)
+
+  pub bins-few : shape .bins ≤ 6
+  bins-few = omega (arith, six, mul-le-mul {n₁ = shape .bins} {m₁ = 1} {n₂ = shape .bins} {m₂ = shape .symbols} (omega arith) symbols-pos)
+
+  pub symbols-few : shape .symbols ≤ 6
+  symbols-few = omega (arith, symbols-six, mul-le-mul {n₁ = shape .symbols} {m₁ = 1} {n₂ = shape .symbols} {m₂ = shape .bins} (omega arith) bins-pos)
+
+  -- a quotient by the bins is one by six
+  pub by-six : (w : ℕ) → w * shape .symbols / 6 ≡ w / shape .bins
+  by-six w = ap (λ (x : ℕ). w * shape .symbols / x) (sym six) ∙ mul-div-mul-right w (shape .bins) symbols-pos
+
+  -- and the rest
+  pub rest-six : (w q : ℕ) → q ≡ w / shape .bins → w - q * shape .bins ≡ w % shape .bins
+  rest-six w q e = ap (λ (x : ℕ). w - x * shape .bins) e ∙ sym (mod-eq-sub-div-mul w (shape .bins))
+
+  -- a bin's number stays small
+  pub product-few : (w : ℕ) → w < 8192 → w * shape .symbols ≤ 49152
+  product-few w h = mul-le-mul {n₁ = w} {m₁ = shape .symbols} {n₂ = 8192} {m₂ = 6} (omega arith) symbols-few
+
+  pub taken-le : (w : ℕ) → w * shape .symbols / 6 * shape .bins ≤ w
+  taken-le w = rw (by-six w) (div-mul-le-self w (shape .bins))
+
+  pub quotient-few : (w : ℕ) → w < 6 → w / shape .bins < 6
+  quotient-few w h = omega (arith, div-le-self w (shape .bins))
+
+  pub rest-few : (w : ℕ) → w % shape .bins < 6
+  rest-few w = omega (arith, mod-lt w bins-pos, bins-few)
+
+  -- and so do the bins before a subchannel
+  pub before-few : (a : ℕ) → a < 65536 → a * shape .bins ≤ 393216
+  before-few a h = mul-le-mul {n₁ = a} {m₁ = shape .bins} {n₂ = 65536} {m₂ = 6} (omega arith) bins-few
