@@ -1,4 +1,4 @@
-"""Document 01, as changed by document 02's wish 1, in plain Python, written from the papers alone.
+"""Document 01, as changed by document 02's wishes 1 and 2, in plain Python, written from the papers alone.
 
 The stored vectors and the tests through C are made from this file. It is as simple as it can be
 and slow where that is simpler: locating builds the whole slot by placing and looks the carrier up.
@@ -32,8 +32,13 @@ P = """
     06 55 31 25 35 36 51 20 02 44 15 34 14 12 45 30 03 66 54 16 56 53 64 10
 """.split()
 
-PUSC_DL, PUSC_UL, OFUSC, AMC = 0, 1, 2, 3
-SLOT_LENGTH = {PUSC_DL: 2, PUSC_UL: 3, OFUSC: 1, AMC: 1}
+MODES = range(7)
+PUSC_DL, PUSC_UL, OFUSC, AMC, AMC_2X3, AMC_3X2, AMC_1X6 = MODES
+
+# The slot of each AMC mode (document 02, wish 2): how many bins a subchannel is wide, how many symbols a slot is long.
+SHAPES = {AMC: (6, 1), AMC_2X3: (2, 3), AMC_3X2: (3, 2), AMC_1X6: (1, 6)}
+
+SLOT_LENGTH = {PUSC_DL: 2, PUSC_UL: 3, OFUSC: 1, **{mode: symbols for mode, (_, symbols) in SHAPES.items()}}
 BIN_SIZES = [256, 512, 1024, 2048]
 SLOTS = 512
 POINTS = 48
@@ -47,7 +52,7 @@ def sizes(mode):
 
 
 def n_of(size):
-    """N of modes 2 and 3: size = 64N."""
+    """N of modes 2 to 6: size = 64N."""
     return size // 64
 
 
@@ -62,7 +67,12 @@ def cells(mode, size):
 def subchannels(mode, size):
     if mode == PUSC_DL:
         return 60
-    return 70 if mode == PUSC_UL else n_of(size)
+    if mode == PUSC_UL:
+        return 70
+    if mode == OFUSC:
+        return n_of(size)
+    wide, _ = SHAPES[mode]
+    return 6 * n_of(size) // wide
 
 
 # --- the questions put to a request -----------------------------------------------------------
@@ -70,7 +80,7 @@ def subchannels(mode, size):
 
 def setup_refusal(mode, size, cell):
     """Questions 1, 2, 3."""
-    if mode not in (PUSC_DL, PUSC_UL, OFUSC, AMC):
+    if mode not in MODES:
         return 1
     if size not in sizes(mode):
         return 2
@@ -286,9 +296,18 @@ def amc_v(cell, index):
     return 7 * e[0] + e[1] - 1
 
 
-def place_amc(cell, slot, subchannel, index):
-    v = amc_v(cell, index)
-    return slot, used_of_bin_place(slot, 6 * subchannel + v // 8, v % 8)
+# Traffic places of an AMC subchannel: along the carriers of a bin, then its next bin, then the next symbol.
+AMC_TRAFFIC_PLACES = {
+    mode: [(offset, b, x) for offset in range(symbols) for b in range(wide) for x in range(8)]
+    for mode, (wide, symbols) in SHAPES.items()
+}
+
+
+def place_amc(mode, cell, slot, subchannel, index):
+    wide, symbols = SHAPES[mode]
+    offset, b, x = AMC_TRAFFIC_PLACES[mode][amc_v(cell, index)]
+    symbol = symbols * slot + offset
+    return symbol, used_of_bin_place(symbol, wide * subchannel + b, x)
 
 
 def place(mode, size, cell, slot, subchannel, index):
@@ -303,7 +322,7 @@ def place(mode, size, cell, slot, subchannel, index):
     elif mode == OFUSC:
         symbol, used = place_ofusc(size, cell, slot, subchannel, index)
     else:
-        symbol, used = place_amc(cell, slot, subchannel, index)
+        symbol, used = place_amc(mode, cell, slot, subchannel, index)
     return 0, symbol, carrier_of_used(mode, size, used)
 
 
@@ -423,7 +442,7 @@ def ofusc_collisions(size, cell_a, subchannel_a, cell_b, subchannel_b, slot=0):
 
 
 def amc_collisions(cell_a, cell_b):
-    """(refusal, marks by index, their count). Question 3, twice."""
+    """(refusal, marks by index, their count). Question 3, twice. The answer is the same for every shape."""
     if cell_a >= cells(AMC, 2048) or cell_b >= cells(AMC, 2048):
         return 3, [0] * 48, 0
     hits = [int(amc_v(cell_a, j) == amc_v(cell_b, j)) for j in range(48)]
@@ -434,6 +453,7 @@ def amc_collisions(cell_a, cell_b):
 
 PLACES = 8
 NO_ZONE = (0, 0, 0)
+PLAN_MODES = [PUSC_DL, OFUSC, *SHAPES]
 
 
 class Refused(Exception):
@@ -468,7 +488,7 @@ def write_value(value):
 def judge_zone(size, before, zone):
     """Questions 1, 2, 3, 13, 14 of one zone; before is the zone before it, or None."""
     mode, cell, slots = zone
-    if mode not in (PUSC_DL, OFUSC, AMC):
+    if mode not in PLAN_MODES:
         raise Refused(1)
     number = setup_refusal(mode, size, cell)
     if number:
@@ -477,7 +497,7 @@ def judge_zone(size, before, zone):
         raise Refused(13)
     if size == 2048 and before is None and mode != PUSC_DL:
         raise Refused(14)
-    if before is not None and before[0] == AMC and mode != AMC:
+    if before is not None and before[0] in SHAPES and mode not in SHAPES:
         raise Refused(14)
 
 

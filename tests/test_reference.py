@@ -1,4 +1,4 @@
-"""Holds the reference to every known point of document 01 and to its own laws.
+"""Holds the reference to every known point of document 01, to points worked out by hand and to its own laws.
 
 Run: python3 tests/test_reference.py
 """
@@ -6,7 +6,7 @@ Run: python3 tests/test_reference.py
 import random
 
 import reference as ref
-from reference import AMC, OFUSC, PUSC_DL, PUSC_UL
+from reference import AMC, AMC_1X6, AMC_2X3, AMC_3X2, OFUSC, PUSC_DL, PUSC_UL
 
 
 def hex_bytes(text):
@@ -78,12 +78,15 @@ def test_known_collisions():
 def test_known_ranges():
     assert ref.place(OFUSC, 256, 15, 0, 0, 0)[0] == 0
     assert ref.place(OFUSC, 256, 16, 0, 0, 0)[0] == 3
-    assert ref.place(AMC, 256, 2351, 0, 0, 0)[0] == 0
-    assert ref.place(AMC, 256, 2352, 0, 0, 0)[0] == 3
-    for mode in range(4):
+    for mode in ref.SHAPES:
+        assert ref.place(mode, 256, 2351, 0, 0, 0)[0] == 0
+        assert ref.place(mode, 256, 2352, 0, 0, 0)[0] == 3
+    for mode in ref.MODES:
         assert ref.place(mode, 2048, 0, 511, 0, 0)[0] == 0
         assert ref.place(mode, 2048, 0, 512, 0, 0)[0] == 4
     assert ref.place(OFUSC, 128, 0, 0, 0, 0)[0] == 2
+    assert ref.place(7, 2048, 0, 0, 0, 0)[0] == 1
+    assert ref.place(2**32 - 1, 2048, 0, 0, 0, 0)[0] == 1
 
 
 def test_known_plans():
@@ -99,7 +102,7 @@ def test_refused_plans():
     cases = {
         "": 10, "80": 10, "80 80": 10, "81 00": 11, "80 00": 11, "80 80 00": 11, "80 80 80": 11,
         "80 80 80 01": 11, "00 80": 12, "09 80 08": 12, "01 00 80": 2, "01 80 01": 2,
-        "01 80 08 01 00": 10, "01 80 08 01 00 01": 1, "01 80 08 04 00 01": 1, "01 80 08 00 00 01": 2,
+        "01 80 08 01 00": 10, "01 80 08 01 00 01": 1, "01 80 08 07 00 01": 1, "01 80 08 00 00 01": 2,
         "01 80 02 02 10 01": 3, "01 80 08 03 B0 12 01": 3, "01 80 08 02 00 00": 13,
         "01 80 08 02 00 81 04": 13, "02 80 10 02 00 01": 14, "01 80 10 00 20 01": 3,
         "02 80 08 03 00 01 02 00 01": 14, "01 80 08 02 00 01 00": 15,
@@ -111,6 +114,29 @@ def test_refused_plans():
     assert len(largest) == 42 and ref.read_plan(largest)[0] == 0
 
 
+def test_order_of_modes():
+    """Every mode after every other, at every size: after any of 3 to 6 only these four; at 2048 mode 0 comes first."""
+    for size in ref.BIN_SIZES:
+        listed = (0, 2, 3, 4, 5, 6) if size == 2048 else (2, 3, 4, 5, 6)
+        refused = {mode: 2 if mode == 0 else 1 for mode in range(9) if mode not in listed}
+        head = [(0, 3, 1)] if size == 2048 else []
+        for mode in range(9):
+            first = refused.get(mode, 14 if size == 2048 and mode != 0 else 0)
+            assert ref.read_plan(plan_bytes(size, [(mode, 3, 1)]))[0] == first
+            for after in range(9):
+                order = 14 if mode in (3, 4, 5, 6) and after not in (3, 4, 5, 6) else 0
+                number = refused.get(mode, refused.get(after, order))
+                zones = head + [(mode, 3, 1), (after, 3, 1)]
+                assert ref.read_plan(plan_bytes(size, zones))[0] == number
+                places = zones + [ref.NO_ZONE] * (8 - len(zones))
+                assert ref.write_plan(len(zones), size, places, [0] * 48)[0] == number
+
+
+def plan_bytes(size, zones):
+    numbers = [len(zones), size] + [x for zone in zones for x in zone]
+    return [byte for number in numbers for byte in ref.write_value(number)]
+
+
 def test_plan_round_trips():
     zones = [(2, 17, 3), (3, 176, 1)] + [ref.NO_ZONE] * 6
     number, written, dest = ref.write_plan(2, 1024, zones, [7] * 12)
@@ -120,12 +146,15 @@ def test_plan_round_trips():
     assert ref.write_plan(2, 1024, zones, [7] * 9) == (16, 0, [7] * 9)
     assert ref.write_plan(1, 1024, zones, [])[0] == 12
     assert ref.write_plan(2, 128, zones, [])[0] == 2
+    shapes = [(2, 17, 3), (6, 2351, 512), (4, 0, 1), (5, 48, 2), (3, 176, 1)] + [ref.NO_ZONE] * 3
+    number, written, dest = ref.write_plan(5, 1024, shapes, [0] * 43)
+    assert number == 0 and ref.read_plan(dest[:written]) == (0, 5, 1024, shapes)
 
 
 def test_slots_are_whole():
     """Every used carrier of a slot is a pilot or one point's, and locating finds it."""
     dice = random.Random(1)
-    for mode in range(4):
+    for mode in ref.MODES:
         for size in ref.sizes(mode):
             cell, slot = dice.randrange(ref.cells(mode, size)), dice.randrange(512)
             found = ref.slot_map(mode, size, cell, slot)
@@ -137,7 +166,7 @@ def test_slots_are_whole():
 
 def test_grids():
     dice = random.Random(2)
-    for mode in range(4):
+    for mode in ref.MODES:
         size = ref.sizes(mode)[0]
         cell, slot = ref.cells(mode, size) - 1, 5
         points = [dice.randrange(2**32) for _ in range(96 * ref.subchannels(mode, size))]
@@ -188,6 +217,145 @@ def test_planners_figures():
     for _ in range(200):
         a, b = dice.sample(range(2352), 2)
         assert ref.amc_collisions(a, b)[2] <= 3
+
+
+# --- AMC's slot shapes ------------------------------------------------------------------------
+
+# Document 02, wish 2, and documents 01 and 000 for six by one: bins, symbols, and how many N subchannels are.
+WISH_2 = {3: (6, 1, 1), 4: (2, 3, 3), 5: (3, 2, 2), 6: (1, 6, 6)}
+
+
+def test_shapes():
+    assert (AMC, AMC_2X3, AMC_3X2, AMC_1X6) == (3, 4, 5, 6)
+    for mode, (wide, symbols, times) in WISH_2.items():
+        assert ref.SHAPES[mode] == (wide, symbols) and ref.SLOT_LENGTH[mode] == symbols
+        assert ref.sizes(mode) == [256, 512, 1024, 2048]
+        for n in (4, 8, 16, 32):
+            assert ref.subchannels(mode, 64 * n) == times * n
+            assert ref.cells(mode, 64 * n) == 2352
+            assert ref.grid_floats(mode, 64 * n) == 2 * symbols * 64 * n
+            check_ends(mode, 64 * n, symbols, times * n)
+
+
+def check_ends(mode, size, symbols, subchannels):
+    """The last of each range is accepted, the next is not."""
+    last = subchannels - 1
+    assert ref.place(mode, size, 2351, 511, last, 47)[0] == 0
+    assert ref.place(mode, size, 2351, 511, subchannels, 47)[0] == 5
+    assert ref.place(mode, size, 2351, 511, last, 48)[0] == 6
+    assert ref.locate(mode, size, 2351, 512 * symbols - 1, size - 1) == (0, (ref.GUARD,))
+    assert ref.locate(mode, size, 2351, 512 * symbols, size - 1)[0] == 4
+
+
+def test_amc_points_by_hand():
+    """Cell 0 has E = P, so index 2 (46) is at v = 33, index 41 (66) at 47, index 47 (10) at 6. Cell 629 = 13 * 48 + 5 has
+    off 16 and per 5: its index 14 takes P's entry 19 (61), the sum is zero, so E is off, and v = 12. At 256 the bins
+    start at carrier 20, at 512 at 40, at 2048 at 160; one more in the upper half, from bin 3N on."""
+    assert [ref.amc_v(0, 2), ref.amc_v(0, 41), ref.amc_v(0, 47), ref.amc_v(629, 14)] == [33, 47, 6, 12]
+    # Six by one. v = 33: bin 4 of bins 18 to 23, place 1; symbol 0, pilot at 1, so carrier 2 of the bin: 20 + 198 + 2 + 1.
+    assert ref.place(AMC, 256, 0, 0, 3, 2) == (0, 0, 221)
+    # v = 12: bin 1 of bins 6 to 11, place 4; symbol 511, pilot at 4, so carrier 5: 160 + 63 + 5.
+    assert ref.place(AMC, 2048, 629, 511, 1, 14) == (0, 511, 228)
+    # Two by three. v = 33 = 2 * 16 + 1: offset 2, first of bins 10 and 11, place 1; pilot at 7, so carrier 1: 20 + 90 + 1.
+    assert ref.place(AMC_2X3, 256, 0, 0, 5, 2) == (0, 2, 111)
+    # v = 12: offset 0, second of bins 190 and 191, place 4; symbol 1533, pilot at 1, so carrier 5: 160 + 1719 + 5 + 1.
+    assert ref.place(AMC_2X3, 2048, 629, 511, 95, 14) == (0, 1533, 1885)
+    # Three by two. v = 33 = 24 + 9: offset 1, second of bins 21 to 23, place 1. In slots 0, 1, 2 that is symbol 1, 3, 5,
+    # pilot at 4, 1, 7, so carrier 1, 2, 1: 20 + 198 + 1 + 1, or one more.
+    assert ref.place(AMC_3X2, 256, 0, 0, 7, 2) == (0, 1, 220)
+    assert ref.place(AMC_3X2, 256, 0, 1, 7, 2) == (0, 3, 221)
+    assert ref.place(AMC_3X2, 256, 0, 2, 7, 2) == (0, 5, 220)
+    # v = 47 = 24 + 23: offset 1, third of bins 0 to 2, place 7; symbol 5, pilot at 7, so carrier 8: 160 + 18 + 8.
+    assert ref.place(AMC_3X2, 2048, 0, 2, 0, 41) == (0, 5, 186)
+    # One by six. v = 33 = 4 * 8 + 1: offset 4, bin 47, place 1; symbol 10, pilot at 4, so carrier 1: 40 + 423 + 1 + 1.
+    assert ref.place(AMC_1X6, 512, 0, 1, 47, 2) == (0, 10, 465)
+    # v = 47: offset 5, bin 0, place 7; symbol 3071, pilot at 7, so carrier 8: 40 + 8.
+    assert ref.place(AMC_1X6, 512, 0, 511, 0, 41) == (0, 3071, 48)
+    # v = 6: offset 0, bin 191, place 6; symbol 0, pilot at 1, so carrier 7: 160 + 1719 + 7 + 1.
+    assert ref.place(AMC_1X6, 2048, 0, 0, 191, 47) == (0, 0, 1887)
+
+
+def test_amc_places_by_formula():
+    """v div 8 bins is the offset, the rest runs over the bins, eight places each: every place of every shape."""
+    for mode, (wide, symbols, times) in WISH_2.items():
+        for cell, slot, size in ((0, 0, 256), (629, 1, 512), (2351, 2, 1024), (1000, 511, 2048)):
+            for subchannel in (0, 1, times * size // 128, times * size // 64 - 1):
+                for index in range(48):
+                    v = ref.amc_v(cell, index)
+                    symbol = slot * symbols + v // (8 * wide)
+                    place = v % 8 + (v % 8 > 3 * (symbol % 3))
+                    used = 9 * (wide * subchannel + v % (8 * wide) // 8) + place
+                    carrier = 5 * size // 64 + used + (used >= 27 * size // 64)
+                    assert ref.place(mode, size, cell, slot, subchannel, index) == (0, symbol, carrier)
+
+
+# The pilot's place in each bin, symbol by symbol, of slots 0, 1 and 2: the zone's symbol has 1, 4, 7 in turn.
+PILOTS = {
+    AMC: [[1], [4], [7]],
+    AMC_2X3: [[1, 4, 7], [1, 4, 7], [1, 4, 7]],
+    AMC_3X2: [[1, 4], [7, 1], [4, 7]],
+    AMC_1X6: [[1, 4, 7, 1, 4, 7], [1, 4, 7, 1, 4, 7], [1, 4, 7, 1, 4, 7]],
+}
+
+
+def carriers_of_bins(size):
+    """The carriers of each bin, by rising frequency: all but 5N left guards, 5N - 1 right guards and DC."""
+    n = size // 64
+    used = [carrier for carrier in range(5 * n, 59 * n + 1) if carrier != 32 * n]
+    return [used[i : i + 9] for i in range(0, 54 * n, 9)]
+
+
+def test_amc_pilots():
+    for mode, slots in PILOTS.items():
+        for size in ref.BIN_SIZES:
+            symbols = [(slot, place) for slot, places in enumerate(slots) for place in places]
+            for symbol, (slot, place) in enumerate(symbols):
+                for bin_carriers in carriers_of_bins(size):
+                    found = [ref.locate(mode, size, 77, symbol, carrier)[1] for carrier in bin_carriers]
+                    assert found[place] == (ref.PILOT,)
+                    assert all(what[:2] == (ref.DATA, slot) for i, what in enumerate(found) if i != place)
+
+
+def test_amc_slots_are_partitioned():
+    """In every shape and size, for several cells and slots, each data carrier of the slot is one point's."""
+    for mode, slots in PILOTS.items():
+        for size in ref.BIN_SIZES:
+            bins = carriers_of_bins(size)
+            for cell, slot in ((0, 0), (47, 1), (629, 2), (2351, 510), (1176, 511)):
+                first = slot * len(slots[0])
+                data = [
+                    (first + offset, carrier)
+                    for offset, pilot in enumerate(slots[slot % 3])
+                    for bin_carriers in bins
+                    for i, carrier in enumerate(bin_carriers)
+                    if i != pilot
+                ]
+                addresses = [(s, m) for s in range(ref.subchannels(mode, size)) for m in range(48)]
+                placed = [ref.place(mode, size, cell, slot, s, m) for s, m in addresses]
+                assert sorted(placed) == [(0, symbol, carrier) for symbol, carrier in data]
+
+
+def test_amc_subchannels_are_adjacent():
+    """A subchannel has all data carriers of its bins, in every symbol of the slot."""
+    for mode, (wide, symbols, _) in WISH_2.items():
+        bins = carriers_of_bins(512)
+        for s in range(ref.subchannels(mode, 512)):
+            own = sum(bins[wide * s : wide * s + wide], [])
+            placed = [ref.place(mode, 512, 99, 2, s, m)[1:] for m in range(48)]
+            for symbol in range(2 * symbols, 3 * symbols):
+                here = [carrier for y, carrier in placed if y == symbol]
+                assert len(set(here)) == 8 * wide and set(here) < set(own)
+
+
+def test_amc_collisions_are_of_every_shape():
+    dice = random.Random(4)
+    for mode in ref.SHAPES:
+        for a, b in [(48, 176), (5, 5)] + [dice.sample(range(2352), 2) for _ in range(40)]:
+            size, slot = dice.choice(ref.BIN_SIZES), dice.randrange(512)
+            s = dice.randrange(ref.subchannels(mode, size))
+            placed = [[ref.place(mode, size, cell, slot, s, j) for j in range(48)] for cell in (a, b)]
+            hits = [int(placed[0][j] == placed[1][j]) for j in range(48)]
+            assert ref.amc_collisions(a, b) == (0, hits, sum(hits))
 
 
 def main():
