@@ -23,12 +23,13 @@ import random
 import sys
 
 import reference as ref
-from reference import AMC, OFUSC, PUSC_DL, PUSC_UL
+from reference import OFUSC, PUSC_DL, PUSC_UL
 
 ROOT = os.path.dirname(os.path.dirname(os.path.abspath(__file__)))
 LARGEST = 2**64 - 1
 INPUT_ROOM = 262144  # what a vector program reads
-SETUPS = [(mode, size) for mode in range(4) for size in ref.sizes(mode)]
+SETUPS = [(mode, size) for mode in ref.MODES for size in ref.sizes(mode)]
+UNLISTED = len(ref.MODES)  # the first number that is no mode
 
 
 # --- the map ----------------------------------------------------------------------------------
@@ -73,9 +74,9 @@ def whole_slot(mode, size, cell, slot):
 
 
 def whole_symbol(mode, size, cell, symbol):
-    """Every carrier of a symbol: a line a cluster, four tiles or a bin; guards and DC apart."""
+    """Every carrier of a symbol: a line a cluster, four tiles or six bins; guards and DC apart."""
     left, used = ref.left_guards(mode, size), ref.used_numbers(mode, size)
-    run = {PUSC_DL: 14, PUSC_UL: 16, OFUSC: 9, AMC: 9}[mode]
+    run = {PUSC_DL: 14, PUSC_UL: 16}.get(mode, 54)
     request = ("l", mode, size, cell, symbol)
     yield request + (0, left)
     for half in (0, used // 2):
@@ -89,37 +90,43 @@ def whole_symbol(mode, size, cell, symbol):
 
 def slot_cells(mode, size):
     """(cell, slot) of the whole slots. Optional FUSC has both terms, each alone, and the last
-    cell, where both sequences turn by N-1. AMC has the zero rule firing twice, then not at all."""
+    cell, where both sequences turn by N-1. AMC has the zero rule firing twice, then not at all;
+    its slots have up to 192 lines, and only so many of them are stored as make 48, one at least."""
     n = ref.n_of(size)
+    if mode in ref.SHAPES:
+        return [(13 * 48 + 5, 511), (2351, 0), (47, 2)][: max(1, 48 // ref.subchannels(mode, size))]
     return {
         PUSC_DL: [(31, 511), (5, 0)],
         PUSC_UL: [(69, 511), (17, 0)],
         OFUSC: [(2 * n + 1, 0), (3, 511), (2 * n, 1), (n * n - 1, 2)],
-        AMC: [(2351, 0), (13 * 48 + 5, 511), (47, 1)],
     }[mode]
 
 
 def symbol_cells(mode, size):
-    """(cell, symbol) of the whole symbols: every kind of symbol of the mode."""
-    last = ref.cells(mode, size) - 1
+    """(cell, symbol) of the whole symbols: every kind of symbol of the mode. AMC has the zone's last
+    three symbols, at every second size the three before them: each size has every pilot's place,
+    and two have it at every offset in the slot."""
+    n = ref.n_of(size)
+    if mode in ref.SHAPES:
+        end = 512 * ref.SLOT_LENGTH[mode] - 3 * (ref.BIN_SIZES.index(size) % 2)
+        return [(2351, end - 1), (20 * 48 + 31, end - 2), (46, end - 3)]
     return {
         PUSC_DL: [(31, 1022), (19, 1)],
         PUSC_UL: [(69, 1533), (44, 1), (1, 2)],
-        OFUSC: [(last, 510), (ref.n_of(size) + 2, 1), (1, 2)],
-        AMC: [(last, 510), (20 * 48 + 31, 1), (46, 509)],
+        OFUSC: [(n * n - 1, 510), (n + 2, 1), (1, 2)],
     }[mode]
 
 
 def good_place(mode, size):
     """One accepted request, with the first number of each field that is not."""
     good = [mode, size, 3, 7, 2, 11]
-    limits = [4, size + 1, ref.cells(mode, size), 512, ref.subchannels(mode, size), 48]
+    limits = [UNLISTED, size + 1, ref.cells(mode, size), 512, ref.subchannels(mode, size), 48]
     return good, limits
 
 
 def good_locate(mode, size):
     good = [mode, size, 3, 7, size // 2 + 5]
-    limits = [4, size + 1, ref.cells(mode, size), 512 * ref.SLOT_LENGTH[mode], size]
+    limits = [UNLISTED, size + 1, ref.cells(mode, size), 512 * ref.SLOT_LENGTH[mode], size]
     return good, limits
 
 
@@ -163,8 +170,8 @@ def edges(mode, size):
 
 
 def size_edges():
-    """Sizes that are no mode's, and those that are another mode's only."""
-    for mode in range(5):
+    """Sizes that are no mode's, those that are another mode's only, and all of them where the mode is not listed."""
+    for mode in (*ref.MODES, UNLISTED, 2**32 - 1):
         for size in (0, 1, 64, 128, 255, 256, 257, 512, 1023, 1024, 1536, 2047, 2048, 2049, 4096, LARGEST):
             yield ("p", mode, size, 0, 0, 0, 0, 1)
             yield ("l", mode, size, 0, 0, 0, 1)
@@ -323,6 +330,8 @@ PLANS = [
     (2048, [(0, 17, 1), (2, 1023, 512), (0, 31, 2), (3, 48, 127), (3, 2351, 128)]),
     (2048, [(0, 0, 1)] + [(2, 1023, 512)] * 7),
     (1024, [(3, 2351, 512)] * 8),
+    (512, [(2, 17, 3), (4, 176, 1), (6, 0, 512), (5, 2351, 2), (3, 48, 1)]),
+    (2048, [(0, 5, 12), (6, 2351, 512), (4, 0, 1)]),
 ]
 
 
@@ -366,10 +375,12 @@ def limit_plans():
         yield 1, size, good
         yield 1, size, [(1, 9999, 0)]
     for size in ref.BIN_SIZES:
-        for mode in (0, 1, 2, 3, 4, 127, 128):
+        for mode in (*ref.MODES, UNLISTED, 127, 128):
             for cell in (0, 31, 32, 255, 256, 1023, 1024, 2351, 2352):
                 for slots in (0, 1, 512, 513):
-                    if (mode in (1, 4, 127, 128) and cell not in (0, 2352)) or (slots in (0, 513) and cell in (31, 255)):
+                    if mode not in ref.PLAN_MODES and cell not in (0, 2352):
+                        continue
+                    if slots in (0, 513) and cell in (31, 255):
                         continue
                     zones = one_zone(size, (mode, cell, slots))
                     yield len(zones), size, zones
@@ -380,11 +391,21 @@ def limit_plans():
     for first in firsts:
         yield 1, 2048, [first]
         yield 2, 2048, [first, (3, 1, 1)]
+    yield from ordered_plans()
+
+
+def ordered_plans():
+    """(count, size, zones): at each size every mode first, and every mode after every other; what may not follow AMC also
+    without slots, where 13 is met before 14."""
+    modes = (*ref.MODES, UNLISTED)
     for size in ref.BIN_SIZES:
-        for mode in (0, 1, 2, 3):
-            start = one_zone(size, (3, 1, 1))
-            yield len(start) + 1, size, start + [(mode, 1, 1)]
-            yield len(start) + 1, size, start + [(mode, 1, 0)]
+        for mode in modes:
+            yield 1, size, [(mode, 1, 1)]
+            start = one_zone(size, (mode, 1, 1))
+            for after in modes:
+                yield len(start) + 1, size, start + [(after, 1, 1)]
+                if mode in ref.SHAPES and after not in ref.SHAPES:
+                    yield len(start) + 1, size, start + [(after, 1, 0)]
 
 
 def changed_bytes(data):
