@@ -11,7 +11,7 @@
 #include <time.h>
 
 enum { ROUNDS = 15, ROUND_MS = 10 }; // a round is as long as that or up to twice as long
-enum { MOST_POINTS = 2 * 48 * 70, MOST_GRID = 2 * 3 * 2048 };
+enum { MOST_POINTS = 2 * 48 * 192, MOST_GRID = 2 * 6 * 2048 };
 
 // The calls of one side.
 struct side {
@@ -195,7 +195,7 @@ static void do_row(struct row r) {
 
 // --- the table -------------------------------------------------------------------------------------------------------
 
-// Each mode at each of its sizes.
+// Each mode at its sizes; AMC's slots of several symbols at the smallest and the largest.
 static const struct setup {
     const char *name;
     uint32_t mode, size;
@@ -204,8 +204,11 @@ static const struct setup {
     {"PUSC downlink, 2048", PUSC_DL, 2048, false}, {"PUSC uplink, 2048", PUSC_UL, 2048, false},
     {"optional FUSC, 256", OFUSC, 256, false},     {"optional FUSC, 512", OFUSC, 512, true},
     {"optional FUSC, 1024", OFUSC, 1024, true},    {"optional FUSC, 2048", OFUSC, 2048, false},
-    {"AMC, 256", AMC, 256, false},                 {"AMC, 512", AMC, 512, true},
-    {"AMC, 1024", AMC, 1024, true},                {"AMC, 2048", AMC, 2048, false},
+    {"AMC 6x1, 256", AMC, 256, false},             {"AMC 6x1, 512", AMC, 512, true},
+    {"AMC 6x1, 1024", AMC, 1024, true},            {"AMC 6x1, 2048", AMC, 2048, false},
+    {"AMC 2x3, 256", AMC_2X3, 256, false},         {"AMC 2x3, 2048", AMC_2X3, 2048, false},
+    {"AMC 3x2, 256", AMC_3X2, 256, false},         {"AMC 3x2, 2048", AMC_3X2, 2048, false},
+    {"AMC 1x6, 256", AMC_1X6, 256, false},         {"AMC 1x6, 2048", AMC_1X6, 2048, false},
 };
 enum { SETUPS = sizeof setups / sizeof setups[0] };
 
@@ -224,7 +227,7 @@ static void collision_rows(void) {
     draw_requests(OFUSC, 2048);
     do_row((struct row){"optional FUSC collisions", "2048", run_ofusc_collisions, REQUESTS, 1});
     draw_requests(AMC, 2048);
-    do_row((struct row){"AMC collisions", "any size", run_amc_collisions, REQUESTS, 1});
+    do_row((struct row){"AMC collisions", "any size and shape", run_amc_collisions, REQUESTS, 1});
 }
 
 static void plan_rows(const char *call, run_fn *run) {

@@ -53,15 +53,17 @@ void plain_tables(void) {
 
 // --- carriers --------------------------------------------------------------------------------------------------------
 
-static uint32_t left_guards(uint32_t mode, uint32_t size) { return mode < OFUSC ? 184 : 5 * (size / 64); }
-static uint32_t used_numbers(uint32_t mode, uint32_t size) { return mode < OFUSC ? 1680 : 54 * (size / 64); }
+// From here to the grids all is inline. The compiler would else call place for each point: with seven modes it is long.
+
+static inline uint32_t left_guards(uint32_t mode, uint32_t size) { return mode < OFUSC ? 184 : 5 * (size / 64); }
+static inline uint32_t used_numbers(uint32_t mode, uint32_t size) { return mode < OFUSC ? 1680 : 54 * (size / 64); }
 
 // The carrier of a used number: past the left guards, and past DC in the upper half.
-static uint32_t carrier_of(uint32_t mode, uint32_t size, uint32_t used) {
+static inline uint32_t carrier_of(uint32_t mode, uint32_t size, uint32_t used) {
     return left_guards(mode, size) + used + (used >= used_numbers(mode, size) / 2);
 }
 
-static bool is_pilot(uint32_t mode, uint32_t symbol, uint32_t used) {
+static inline bool is_pilot(uint32_t mode, uint32_t symbol, uint32_t used) {
     uint32_t place = used % 14, corner = used % 4;
     if (mode == PUSC_DL) return symbol % 2 == 0 ? place == 4 || place == 8 : place == 0 || place == 12;
     if (mode == PUSC_UL) return symbol % 3 != 1 && (corner == 0 || corner == 3);
@@ -70,7 +72,7 @@ static bool is_pilot(uint32_t mode, uint32_t symbol, uint32_t used) {
 
 // --- placing ---------------------------------------------------------------------------------------------------------
 
-static uint32_t used_pusc_dl(uint32_t cell, uint32_t s, uint32_t m, uint32_t *row) {
+static inline uint32_t used_pusc_dl(uint32_t cell, uint32_t s, uint32_t m, uint32_t *row) {
     uint32_t g = 0;
     while (g < 5 && s >= first_subchannel[g + 1]) g++;
     uint32_t count = g % 2 ? 8 : 12, k = m % 24;
@@ -91,7 +93,7 @@ static uint32_t used_pusc_dl(uint32_t cell, uint32_t s, uint32_t m, uint32_t *ro
     return 14 * physical + place;
 }
 
-static uint32_t used_pusc_ul(uint32_t cell, uint32_t s, uint32_t m, uint32_t *row) {
+static inline uint32_t used_pusc_ul(uint32_t cell, uint32_t s, uint32_t m, uint32_t *row) {
     uint32_t q = (m + 13 * s) % 48, t, c;
     if (q < 12) {
         *row = 0, t = q / 2, c = 1 + q % 2;
@@ -104,34 +106,55 @@ static uint32_t used_pusc_ul(uint32_t cell, uint32_t s, uint32_t m, uint32_t *ro
 }
 
 // Optional FUSC: what a cell adds to the subchannel's number in a group, in the field.
-static uint32_t mask_ofusc(uint32_t n, uint32_t cell, uint32_t group) {
+static inline uint32_t mask_ofusc(uint32_t n, uint32_t cell, uint32_t group) {
     uint32_t k = group % (n - 1), c1 = cell % n, c2 = cell / n, e = 0;
     if (c1) e ^= p1[n][(k + c1) % (n - 1)];
     if (c2) e ^= p2[n][(k + c2) % (n - 1)];
     return e;
 }
 
-static uint32_t data_ofusc(uint32_t n, uint32_t cell, uint32_t s, uint32_t m) {
+// The used number of a data number of a symbol, eight to a bin.
+static inline uint32_t used_of_data(uint32_t symbol, uint32_t data) {
+    uint32_t place = data % 8;
+    if (place >= 3 * (symbol % 3) + 1) place++;
+    return 9 * (data / 8) + place;
+}
+
+static inline uint32_t used_ofusc(uint32_t n, uint32_t cell, uint32_t slot, uint32_t s, uint32_t m, uint32_t *row) {
     uint32_t group = (m + 23 * s) % 48;
-    return n * group + (s ^ mask_ofusc(n, cell, group));
+    *row = 0;
+    return used_of_data(slot, n * group + (s ^ mask_ofusc(n, cell, group)));
 }
 
 // AMC: the place of an index in its subchannel.
-static uint32_t place_amc(uint32_t cell, uint32_t m) {
+static inline uint32_t place_amc(uint32_t cell, uint32_t m) {
     uint32_t per = cell % 48, off = cell / 48, x = p_table[(m + per) % 48];
     uint32_t e = 7 * ((x / 10 + off / 7) % 7) + (x % 10 + off % 7) % 7;
     return (e == 0 ? off : e) - 1;
 }
 
-static uint32_t place(uint32_t mode, uint32_t size, uint32_t cell, uint32_t slot, uint32_t s, uint32_t m,
-                      uint32_t *row) {
+// The places of a subchannel run over its bins, eight each, and then over the rows. Each shape has a line of its own,
+// where every divisor is a constant.
+static inline uint32_t used_amc(uint32_t mode, uint32_t cell, uint32_t slot, uint32_t s, uint32_t m, uint32_t *row) {
+    uint32_t v = place_amc(cell, m);
+    uint32_t symbol, data;
+    if (mode == AMC)
+        *row = 0, symbol = slot, data = 48 * s + v;
+    else if (mode == AMC_2X3)
+        *row = v / 16, symbol = 3 * slot + *row, data = 16 * s + v % 16;
+    else if (mode == AMC_3X2)
+        *row = v / 24, symbol = 2 * slot + *row, data = 24 * s + v % 24;
+    else
+        *row = v / 8, symbol = 6 * slot + *row, data = 8 * s + v % 8;
+    return used_of_data(symbol, data);
+}
+
+static inline uint32_t place(uint32_t mode, uint32_t size, uint32_t cell, uint32_t slot, uint32_t s, uint32_t m,
+                             uint32_t *row) {
     if (mode == PUSC_DL) return carrier_of(mode, size, used_pusc_dl(cell, s, m, row));
     if (mode == PUSC_UL) return carrier_of(mode, size, used_pusc_ul(cell, s, m, row));
-    uint32_t data = mode == OFUSC ? data_ofusc(size / 64, cell, s, m) : 48 * s + place_amc(cell, m);
-    uint32_t place = data % 8;
-    if (place >= 3 * (slot % 3) + 1) place++;
-    *row = 0;
-    return carrier_of(mode, size, 9 * (data / 8) + place);
+    if (mode == OFUSC) return carrier_of(mode, size, used_ofusc(size / 64, cell, slot, s, m, row));
+    return carrier_of(mode, size, used_amc(mode, cell, slot, s, m, row));
 }
 
 uint32_t plain_place(uint32_t mode, uint32_t size, uint32_t cell, uint32_t slot, uint32_t subchannel, uint32_t index,
@@ -150,7 +173,7 @@ uint32_t plain_place(uint32_t mode, uint32_t size, uint32_t cell, uint32_t slot,
 
 // Each of these gives the subchannel, and the index by pointer, of a used or data number that holds a point.
 
-static uint32_t address_pusc_dl(uint32_t cell, uint32_t row, uint32_t used, uint32_t *index) {
+static inline uint32_t address_pusc_dl(uint32_t cell, uint32_t row, uint32_t used, uint32_t *index) {
     uint32_t place = used % 14, logical = r_table[(used / 14 + 13 * cell) % 120], g = 0;
     if (row == 0)
         place -= (place > 4) + (place > 8);
@@ -164,7 +187,7 @@ static uint32_t address_pusc_dl(uint32_t cell, uint32_t row, uint32_t used, uint
     return first_subchannel[g] + s;
 }
 
-static uint32_t address_pusc_ul(uint32_t cell, uint32_t row, uint32_t used, uint32_t *index) {
+static inline uint32_t address_pusc_ul(uint32_t cell, uint32_t row, uint32_t used, uint32_t *index) {
     uint32_t tile = used / 4, c = used % 4, t = tile / 70;
     uint32_t s = (q_inverse[(tile % 70 + 70 - cell) % 70] + 70 - t) % 70;
     uint32_t q = row == 0 ? 2 * t + c - 1 : row == 1 ? 12 + 4 * t + c : 36 + 2 * t + c - 1;
@@ -172,26 +195,42 @@ static uint32_t address_pusc_ul(uint32_t cell, uint32_t row, uint32_t used, uint
     return s;
 }
 
-static uint32_t address_ofusc(uint32_t n, uint32_t cell, uint32_t data, uint32_t *index) {
+static inline uint32_t address_ofusc(uint32_t n, uint32_t cell, uint32_t data, uint32_t *index) {
     uint32_t group = data / n, s = data % n ^ mask_ofusc(n, cell, group);
     *index = (group + 48 * 15 - 23 * s) % 48;
     return s;
 }
 
-// E is off where the sum was zero, so that P's entry is the negative of off.
-static uint32_t address_amc(uint32_t cell, uint32_t data, uint32_t *index) {
-    uint32_t per = cell % 48, off = cell / 48, e = data % 48 + 1;
+// AMC: the index of a place. E is off where the sum was zero, so that P's entry is the negative of off.
+static inline uint32_t index_amc(uint32_t cell, uint32_t v) {
+    uint32_t per = cell % 48, off = cell / 48, e = v + 1;
     if (e == off) e = 0;
     uint32_t x = 7 * ((e / 7 + 7 - off / 7) % 7) + (e % 7 + 7 - off % 7) % 7;
-    *index = (p_inverse[x] + 48 - per) % 48;
-    return data / 48;
+    return (p_inverse[x] + 48 - per) % 48;
 }
 
-static uint32_t address(uint32_t mode, uint32_t size, uint32_t cell, uint32_t symbol, uint32_t used, uint32_t *index) {
-    if (mode == PUSC_DL) return address_pusc_dl(cell, symbol % 2, used, index);
-    if (mode == PUSC_UL) return address_pusc_ul(cell, symbol % 3, used, index);
+static inline uint32_t address_amc(uint32_t mode, uint32_t cell, uint32_t symbol, uint32_t data, uint32_t *slot,
+                                   uint32_t *index) {
+    uint32_t s, v;
+    if (mode == AMC)
+        *slot = symbol, s = data / 48, v = data % 48;
+    else if (mode == AMC_2X3)
+        *slot = symbol / 3, s = data / 16, v = 16 * (symbol % 3) + data % 16;
+    else if (mode == AMC_3X2)
+        *slot = symbol / 2, s = data / 24, v = 24 * (symbol % 2) + data % 24;
+    else
+        *slot = symbol / 6, s = data / 8, v = 8 * (symbol % 6) + data % 8;
+    *index = index_amc(cell, v);
+    return s;
+}
+
+static inline uint32_t address(uint32_t mode, uint32_t size, uint32_t cell, uint32_t symbol, uint32_t used,
+                               uint32_t *slot, uint32_t *index) {
+    if (mode == PUSC_DL) return *slot = symbol / 2, address_pusc_dl(cell, symbol % 2, used, index);
+    if (mode == PUSC_UL) return *slot = symbol / 3, address_pusc_ul(cell, symbol % 3, used, index);
     uint32_t place = used % 9, data = 8 * (used / 9) + place - (place > 3 * (symbol % 3) + 1);
-    return mode == OFUSC ? address_ofusc(size / 64, cell, data, index) : address_amc(cell, data, index);
+    if (mode == OFUSC) return *slot = symbol, address_ofusc(size / 64, cell, data, index);
+    return address_amc(mode, cell, symbol, data, slot, index);
 }
 
 uint32_t plain_locate(uint32_t mode, uint32_t size, uint32_t cell, uint32_t symbol, uint32_t carrier, uint32_t *kind,
@@ -209,8 +248,7 @@ uint32_t plain_locate(uint32_t mode, uint32_t size, uint32_t cell, uint32_t symb
         *kind = PILOT;
     } else {
         *kind = DATA;
-        *slot = symbol / symbols(mode);
-        *subchannel = address(mode, size, cell, symbol, used, index);
+        *subchannel = address(mode, size, cell, symbol, used, slot, index);
     }
     return 0;
 }

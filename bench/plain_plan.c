@@ -14,7 +14,7 @@ static uint32_t zone_refusal(uint32_t size, const uint32_t *zones, uint32_t k) {
     if (refusal) return refusal;
     if (slots < 1 || slots > SLOTS) return 13;
     if (k == 0) return size == 2048 && mode != PUSC_DL ? 14 : 0;
-    return zones[3 * (k - 1)] == AMC && mode != AMC ? 14 : 0;
+    return zones[3 * (k - 1)] >= AMC && mode < AMC ? 14 : 0;
 }
 
 struct bytes {

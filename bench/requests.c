@@ -14,8 +14,9 @@ static uint32_t below(uint32_t n) {
 
 // One in `odds` times puts into a field its own limit, or a limit of another one, or a number next to these.
 static void disturb(uint32_t *field, uint32_t limit, uint32_t odds) {
-    static const uint32_t limits[] = {0,   2,   4,   8,    16,   32,   48,   60,   64,    70,            128,
-                                      256, 384, 512, 1024, 1536, 2048, 2352, 8192, 12288, UINT32_MAX - 1};
+    static const uint32_t limits[] = {0,    2,    4,    6,    8,    16,   24,   32,    48,    60,    64,
+                                      70,   96,   128,  192,  256,  384,  512,  1024,  1152,  1536,  2048,
+                                      2304, 2352, 3072, 4096, 6144, 8192, 9216, 12288, 18432, 24576, UINT32_MAX - 1};
     uint32_t other = limits[below(sizeof limits / sizeof limits[0])];
     if (below(odds) == 0) *field = (below(2) ? limit : other) + below(3) - 1;
 }
@@ -43,7 +44,7 @@ static void disturb_request(struct request *q) {
     const struct {
         uint32_t *field, limit;
     } fields[] = {
-        {&q->mode, AMC + 1},
+        {&q->mode, MODES},
         {&q->size, q->size},
         {&q->cell, cell_count},
         {&q->slot, SLOTS},
@@ -71,6 +72,8 @@ static void set_zone(struct plan *p, uint32_t k, uint32_t mode, uint32_t cell, u
     p->zones[3 * k + 2] = slots;
 }
 
+static uint32_t any_amc(void) { return AMC + below(MODES - AMC); }
+
 // One zone, each value but the size in one byte: 6 bytes.
 static void shortest_plan(struct plan *p) {
     p->count = 1;
@@ -78,13 +81,13 @@ static void shortest_plan(struct plan *p) {
     set_zone(p, 0, OFUSC, below(cells(OFUSC, p->size)), 1 + below(127));
 }
 
-// Eight zones, optional FUSC before AMC, each cell and number of slots in two bytes: 43 bytes.
+// Eight zones, optional FUSC before AMC of any shape, each cell and number of slots in two bytes: 43 bytes.
 static void longest_plan(struct plan *p) {
     uint32_t amc_from = below(9);
     p->count = 8;
     p->size = 1024;
     for (uint32_t k = 0; k < p->count; k++) {
-        uint32_t mode = k < amc_from ? OFUSC : AMC;
+        uint32_t mode = k < amc_from ? OFUSC : any_amc();
         set_zone(p, k, mode, 128 + below(cells(mode, p->size) - 128), 128 + below(SLOTS - 127));
     }
 }
@@ -95,7 +98,7 @@ static void any_plan(struct plan *p) {
     p->size = 256u << below(4);
     uint32_t amc_from = 1 + below(8), other = p->size == 2048 ? PUSC_DL : OFUSC;
     for (uint32_t k = 0; k < p->count; k++) {
-        uint32_t mode = below(12) == 0 ? below(4) : k < amc_from ? other : AMC;
+        uint32_t mode = below(12) == 0 ? below(MODES) : k < amc_from ? other : any_amc();
         set_zone(p, k, mode, below(cells(mode, p->size)), 1 + below(SLOTS));
     }
 }
@@ -117,7 +120,7 @@ static void disturb_plan(struct plan *p) {
     for (uint32_t k = 0; k < 8; k++) {
         uint32_t *zone = p->zones + 3 * k;
         disturb(&zone[1], cells(zone[0], p->size), 60);
-        disturb(&zone[0], AMC, 60);
+        disturb(&zone[0], MODES - 1, 60);
         disturb(&zone[2], SLOTS + 1, 60);
     }
     disturb(&p->count, 8, 12);
