@@ -241,10 +241,12 @@ def place_pusc_ul(cell, slot, subchannel, index):
     return 3 * slot + offset, 4 * tiles(cell, subchannel)[t] + x
 
 
+# Data places 0..7 of a bin, by the pilot that is left out.
+BIN_DATA_PLACES = {pilot: [p for p in range(9) if p != pilot] for pilot in (1, 4, 7)}
+
+
 def used_of_bin_place(symbol, bin_number, place):
-    """Data place 0..7 of a bin, the pilot left out."""
-    data_places = [p for p in range(9) if p != bin_pilot(symbol)]
-    return 9 * bin_number + data_places[place]
+    return 9 * bin_number + BIN_DATA_PLACES[bin_pilot(symbol)][place]
 
 
 MODULUS = {4: 7, 8: 11, 16: 19, 32: 37}
