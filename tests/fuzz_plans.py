@@ -110,8 +110,8 @@ def shorter_value(dice, data):
 def other_value(dice, data):
     """One value replaced by another in its shortest form, at or past the limit of some field."""
     runs = values(data)
-    limits = [0, 1, 2, 3, 4, 8, 9, 16, 32, 64, 127, 128, 256, 512, 513, 1024, 2048, 2351, 2352, 16383, 16384, 2**21 - 1]
-    runs[dice.randrange(len(runs))] = ref.write_value(dice.choice(limits + [dice.randrange(2**21)]))
+    limits = [16, 32, 64, 127, 128, 256, 512, 513, 1024, 2048, 2351, 2352, 16383, 16384, 2**21 - 1]
+    runs[dice.randrange(len(runs))] = ref.write_value(dice.choice([*range(10), *limits, dice.randrange(2**21)]))
     return joined(runs)
 
 

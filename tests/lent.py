@@ -66,7 +66,7 @@ def pattern(dice):
 class Noise:
     """Random floats, made once; a request takes a run of them that starts anywhere."""
 
-    FLOATS = 2**16
+    FLOATS = 2**17  # more than any arena has
 
     def __init__(self, dice):
         self.bytes = words([pattern(dice) for _ in range(self.FLOATS)])

@@ -3,7 +3,8 @@
     python3 tests/random_requests.py [SEED]
 
 Ten thousand requests a call. Every answer, every byte that is written and every byte that is not is compared (lent.py).
-Fails where one differs, and also where a refusal, a kind of carrier, or a mode and size that a call has never occurred.
+Fails where one differs, and also where a refusal, a kind of carrier, a mode and size that a call has, or a mode after
+another that a plan may have never occurred.
 """
 
 import random
@@ -20,10 +21,11 @@ from lent import Arena, words
 SEED = 802
 REQUESTS = 10000
 ROUND = 40  # requests of each call over one mode, size, cell and slot
-SETUPS = [(mode, size) for mode in range(4) for size in ref.sizes(mode)]
+SETUPS = [(mode, size) for mode in ref.MODES for size in ref.sizes(mode)]
+ORDERS = [(a, b) for a in ref.PLAN_MODES for b in ref.PLAN_MODES if a not in ref.SHAPES or b in ref.SHAPES]
 KINDS = {ref.GUARD: 0, ref.DC: 1, ref.PILOT: 2, ref.DATA: 3}
 LARGEST = 2**32 - 1
-POINTS_ROOM, GRID_ROOM = 2 * 96 * 70, 2 * 2 * 3 * 2048  # floats, twice the largest
+POINTS_ROOM, GRID_ROOM = 2 * 96 * 192, 2 * 2 * 6 * 2048  # floats, twice the largest
 
 
 # --- fields -----------------------------------------------------------------------------------
@@ -57,7 +59,7 @@ def spoiled(dice, good, limits, others={}):
 
 def setup_limits(mode, size):
     """The first number past each of mode, size and cell; the size's is not used."""
-    return [4, 0, ref.cells(mode, size)]
+    return [len(ref.MODES), 0, ref.cells(mode, size)]
 
 
 def some_carrier(dice, mode, size):
@@ -257,16 +259,23 @@ def good_plan(dice):
     if size == 2048:
         zones.append((ref.PUSC_DL, within(dice, ref.cells(ref.PUSC_DL, size)), 1 + within(dice, ref.SLOTS)))
     for _ in range(dice.randrange(0 if zones else 1, 9 - len(zones))):
-        modes = [ref.OFUSC, ref.AMC] + [ref.PUSC_DL] * (size == 2048)
-        mode = ref.AMC if zones and zones[-1][0] == ref.AMC else dice.choice(modes)
+        amc = dice.choice(list(ref.SHAPES))
+        modes = [ref.OFUSC, amc] + [ref.PUSC_DL] * (size == 2048)
+        mode = amc if zones and zones[-1][0] in ref.SHAPES else dice.choice(modes)
         zones.append((mode, within(dice, ref.cells(mode, size)), 1 + within(dice, ref.SLOTS)))
     return size, zones
 
 
+def orders(zones):
+    """Each zone's mode with that of the next one."""
+    modes = [mode for mode, _, _ in zones]
+    return list(zip(modes, modes[1:]))
+
+
 def other_number(dice, good, largest):
     """A number for one of a plan: the limits of its fields, or any."""
-    close = [0, 1, 2, 3, 4, 8, 9, 31, 32, 127, 128, 512, 513, 2351, 2352, 16383, 16384, good + 1, good + 2**8]
-    return dice.choice(close + [dice.randrange(largest + 1), largest])
+    close = [31, 32, 127, 128, 512, 513, 2351, 2352, 16383, 16384, good + 1, good + 2**8]
+    return dice.choice([*range(10), *close, dice.randrange(largest + 1), largest])
 
 
 def plan_numbers(dice, largest):
@@ -305,7 +314,7 @@ def plan_bytes(dice):
 
 class PlanRead:
     name, arena = "bp_plan_read", Arena(4, 4, 96, 256)
-    refusals, cases = [1, 2, 3, 10, 11, 12, 13, 14, 15], []
+    refusals, cases = [1, 2, 3, 10, 11, 12, 13, 14, 15], ORDERS
 
     def request(self, dice, noise, *_):
         data = plan_bytes(dice)
@@ -319,12 +328,12 @@ class PlanRead:
         arguments = [pointer(dice, self.arena.address(3), length), length] + outs
         flat = [x for zone in zones for x in zone]
         written = [] if number else [(0, words([count])), (1, words([size])), (2, words(flat))]
-        return arguments, [(3, bytes(data))], number, written, []
+        return arguments, [(3, bytes(data))], number, written, orders(zones[:count])
 
 
 class PlanWrite:
     name, arena = "bp_plan_write", Arena(96, 4, 256)
-    refusals, cases = [1, 2, 3, 12, 13, 14, 16], []
+    refusals, cases = [1, 2, 3, 12, 13, 14, 16], ORDERS
 
     def request(self, dice, noise, *_):
         numbers = plan_numbers(dice, LARGEST)
@@ -339,7 +348,7 @@ class PlanWrite:
         places, out, dest = map(self.arena.address, range(3))
         arguments = numbers[:2] + [places, pointer(dice, dest, length), length, out]
         written = [] if number else [(1, words([count])), (2, bytes(after[:count]))]
-        return arguments, [(0, words(numbers[2:]))], number, written, []
+        return arguments, [(0, words(numbers[2:]))], number, written, orders(zones[: numbers[0]])
 
 
 CALLS = [Place, Locate, PointsLen, GridLen, Fill, Empty, Look, OfuscCollisions, AmcCollisions, PlanRead, PlanWrite]
