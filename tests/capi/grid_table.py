@@ -48,7 +48,7 @@ def words(numbers):
 def main():
     dice = random.Random(17)
     rows = []
-    for mode in range(4):
+    for mode in ref.MODES:
         for size in ref.sizes(mode):
             cell, slot, pilot, points, grid = case(dice, mode, size)
             n = len(rows)

@@ -20,7 +20,8 @@ struct grid_row {
 #define COUNT(rows) (sizeof(rows) / sizeof((rows)[0]))
 
 enum { KIND_GUARD = 0, KIND_DC = 1, KIND_PILOT = 2, KIND_DATA = 3, SLOTS = 512, POINTS = 48 };
-enum { MOST_POINTS = 96 * 70, MOST_GRID = 2 * 3 * 2048, EDGE = 4 };
+enum { MOST_POINTS = 96 * 192, MOST_GRID = 2 * 6 * 2048, EDGE = 4 };
+enum { UNLISTED = 7 }; /* the first number that is no mode */
 
 struct setup {
     uint32_t mode, size, cells, subchannels, symbols;
@@ -30,6 +31,9 @@ static const struct setup setups[] = {
     {0, 2048, 32, 60, 2}, {1, 2048, 70, 70, 3},
     {2, 256, 16, 4, 1}, {2, 512, 64, 8, 1}, {2, 1024, 256, 16, 1}, {2, 2048, 1024, 32, 1},
     {3, 256, 2352, 4, 1}, {3, 512, 2352, 8, 1}, {3, 1024, 2352, 16, 1}, {3, 2048, 2352, 32, 1},
+    {4, 256, 2352, 12, 3}, {4, 512, 2352, 24, 3}, {4, 1024, 2352, 48, 3}, {4, 2048, 2352, 96, 3},
+    {5, 256, 2352, 8, 2}, {5, 512, 2352, 16, 2}, {5, 1024, 2352, 32, 2}, {5, 2048, 2352, 64, 2},
+    {6, 256, 2352, 24, 6}, {6, 512, 2352, 48, 6}, {6, 1024, 2352, 96, 6}, {6, 2048, 2352, 192, 6},
 };
 
 static size_t points_floats(const struct setup *s) { return 96 * (size_t)s->subchannels; }
@@ -53,30 +57,25 @@ struct out {
     uint32_t before, value, after;
 };
 
-static void set_bits(float *at, uint32_t bits) { memcpy(at, &bits, sizeof bits); }
-
 static void copy_bits(float *at, const uint32_t *bits, size_t n) { memcpy(at, bits, n * sizeof *bits); }
 
 static int same_bits(const float *at, const uint32_t *bits, size_t n) { return memcmp(at, bits, n * sizeof *bits) == 0; }
 
-/* What a buffer holds before a call: signalling NaNs, each its own. */
-static uint32_t old_bits(size_t n) { return 0xFF900000u + (uint32_t)n; }
+/* What a buffer holds before a call: signalling NaNs, each its own. No buffer is longer than a grid. */
+static uint32_t old_bits[sizeof(struct grid) / sizeof(float)];
 
-static void spoil(void *buffer, size_t bytes)
+static void make_old_bits(void)
 {
-    for (size_t n = 0; n < bytes / sizeof(float); n++)
-        set_bits((float *)buffer + n, old_bits(n));
+    for (uint32_t n = 0; n < COUNT(old_bits); n++)
+        old_bits[n] = 0xFF900000u + n;
 }
+
+static void spoil(void *buffer, size_t bytes) { memcpy(buffer, old_bits, bytes); }
 
 /* Whether these floats of a buffer hold what spoil wrote. */
 static int spoiled(const void *buffer, size_t from, size_t to)
 {
-    for (size_t n = from; n < to; n++) {
-        uint32_t old = old_bits(n);
-        if (!same_bits((const float *)buffer + n, &old, 1))
-            return 0;
-    }
-    return 1;
+    return same_bits((const float *)buffer + from, old_bits + from, to - from);
 }
 
 /* Whether a spoiled buffer holds these bits behind its first guard words, and nothing else was written. */
@@ -313,7 +312,7 @@ static int slot_refusal_agrees(const struct setup *s, unsigned wrong_fields, uns
 {
     static const uint32_t questions[FIELDS] = {1, 2, 3, 4, 8, 9};
     uint32_t refusal = first_refusal(wrong_fields, questions);
-    uint32_t mode = wrong_fields & 1 ? 4 : s->mode;
+    uint32_t mode = wrong_fields & 1 ? UNLISTED : s->mode;
     uint32_t size = wrong_fields & 2 ? 128 : s->size;
     uint32_t cell = wrong_fields & 4 ? s->cells : s->cells - 1;
     uint32_t slot = wrong_fields & 8 ? SLOTS : SLOTS - 1;
@@ -331,7 +330,7 @@ static int look_refusal_agrees(const struct setup *s, unsigned wrong_fields, uns
 {
     static const uint32_t questions[FIELDS] = {1, 2, 3, 4, 7, 9};
     uint32_t refusal = first_refusal(wrong_fields, questions);
-    uint32_t mode = wrong_fields & 1 ? 4 : s->mode;
+    uint32_t mode = wrong_fields & 1 ? UNLISTED : s->mode;
     uint32_t size = wrong_fields & 2 ? 128 : s->size;
     uint32_t cell = wrong_fields & 4 ? s->cells : s->cells - 1;
     uint32_t symbol = wrong_fields & 8 ? SLOTS * s->symbols : SLOTS * s->symbols - 1;
@@ -365,6 +364,7 @@ static int test_refusals(void)
 
 int main(void)
 {
+    make_old_bits();
     int wrong = test_rows() | test_slots() | test_refusals();
     if (!wrong)
         puts("capi: fill, empty and look keep every bit");

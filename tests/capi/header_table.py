@@ -13,7 +13,7 @@ sys.path.insert(0, TESTS)
 import reference as ref
 
 HEADER = os.path.join(os.path.dirname(TESTS), "include", "bellpulsar.h")
-NAMES = ["PUSC downlink", "PUSC uplink", "optional FUSC", "AMC"]
+NAMES = ["PUSC downlink", "PUSC uplink", "optional FUSC", *("AMC %dx%d" % shape for shape in ref.SHAPES.values())]
 
 
 def row(mode, size):
@@ -33,7 +33,7 @@ def main():
     with open(HEADER, encoding="ascii") as file:
         lines = [" ".join(line.split()) for line in file]
     stated = [line for line in lines if re.match(r"\* [0-9] .* [0-9]+ [0-9]+$", line)]
-    wanted = [row(mode, size) for mode in range(4) for size in ref.sizes(mode)]
+    wanted = [row(mode, size) for mode in ref.MODES for size in ref.sizes(mode)]
     if stated != wanted:
         sys.exit("the header's table has\n%s\nand the reference\n%s" % ("\n".join(stated), "\n".join(wanted)))
     print("capi: the header's ranges are the reference's")

@@ -30,6 +30,18 @@ static int map_is_right(void)
            slot == 1 && subchannel == 3 && index == 5;
 }
 
+/* The slot shapes of AMC by name. In cell 0 index 2 is at traffic place 33: with one bin in each symbol that is place 1 in
+   the fifth, with two bins in the third; with three it is place 1 of the second bin in the second symbol. */
+static int shapes_are_right(void)
+{
+    uint32_t symbol, carrier;
+    return BP_AMC == 3 && BP_AMC_2X3 == 4 && BP_AMC_3X2 == 5 && BP_AMC_1X6 == 6 &&
+           bp_place(BP_AMC, 256, 0, 0, 3, 2, &symbol, &carrier) == BP_ACCEPTED && symbol == 0 && carrier == 221 &&
+           bp_place(BP_AMC_2X3, 256, 0, 0, 5, 2, &symbol, &carrier) == BP_ACCEPTED && symbol == 2 && carrier == 111 &&
+           bp_place(BP_AMC_3X2, 256, 0, 1, 7, 2, &symbol, &carrier) == BP_ACCEPTED && symbol == 3 && carrier == 221 &&
+           bp_place(BP_AMC_1X6, 512, 0, 1, 47, 2, &symbol, &carrier) == BP_ACCEPTED && symbol == 10 && carrier == 465;
+}
+
 /* Every point of a slot of optional FUSC at 256 goes onto the grid and comes back; one is looked at, and nothing at DC. */
 static int grid_is_right(void)
 {
@@ -38,6 +50,8 @@ static int grid_is_right(void)
     float point[2];
     uint32_t symbol, carrier, kind, slot, subchannel, index;
     if (points_len != 384 || grid_len != 512 || bp_points_len(BP_PUSC_UL, 2048) != 6720 || bp_grid_len(BP_AMC, 128) != 0)
+        return 0;
+    if (bp_points_len(BP_AMC_1X6, 2048) != 18432 || bp_grid_len(BP_AMC_1X6, 2048) != 24576)
         return 0;
     for (int n = 0; n < 384; n++)
         floats(points)[n] = (float)n;
@@ -65,7 +79,7 @@ static int refusals_are_right(void)
     uint8_t order[6] = {1, 0x80, 0x10, 2, 0, 1}, over[7] = {1, 0x80, 8, 2, 0, 1, 0};
     const uint32_t met[17] = {
         bp_place(BP_AMC, 256, 2351, 511, 3, 47, &u[0], &u[1]),
-        bp_place(4, 256, 0, 0, 0, 0, &u[0], &u[1]),
+        bp_place(7, 256, 0, 0, 0, 0, &u[0], &u[1]),
         bp_place(BP_PUSC_DL, 256, 0, 0, 0, 0, &u[0], &u[1]),
         bp_place(BP_AMC, 256, 2352, 0, 0, 0, &u[0], &u[1]),
         bp_place(BP_AMC, 256, 0, 512, 0, 0, &u[0], &u[1]),
@@ -120,7 +134,8 @@ static int plan_is_right(void)
 
 int main(void)
 {
-    if (map_is_right() && grid_is_right() && refusals_are_right() && collisions_are_right() && plan_is_right())
+    if (map_is_right() && shapes_are_right() && grid_is_right() && refusals_are_right() && collisions_are_right() &&
+        plan_is_right())
         return 0;
     puts("a call through the header gave a wrong answer");
     return 1;
