@@ -3,7 +3,7 @@
 
     rt check zones && python3 tests/test_zones.py
 
-The inputs: no bytes, the two zones of document 01's example, every refusal that reading can meet,
+The inputs: no bytes, the two zones of document 01's example, AMC's slot shapes, every refusal that reading can meet,
 lengths about the 128 bytes that count, and input that arrives in pieces. Standard library only.
 """
 
@@ -19,6 +19,10 @@ PROGRAM = os.path.join(ROOT, "target", "bin", "zones")
 
 EXAMPLE = bytes.fromhex("02800802110303B00101")
 EXAMPLE_TEXT = "2 17 3\n3 176 1\n"
+
+# Each slot shape of AMC, behind optional FUSC.
+SHAPES = bytes.fromhex("05800802000106AF128004040001050002030003")
+SHAPES_TEXT = "2 0 1\n6 2351 512\n4 0 1\n5 0 2\n3 0 3\n"
 
 # (hex, the refusal); each number that reading can meet, by the words of document 01.
 REFUSALS = [
@@ -36,7 +40,7 @@ REFUSALS = [
     ("01810800000C", 2),
     ("018008000001", 2),
     ("018008010001", 1),
-    ("018008040001", 1),
+    ("018008070001", 1),
     ("01800802800201", 3),
     ("018008028001", 10),
     ("018008020000", 13),
@@ -44,7 +48,11 @@ REFUSALS = [
     ("01801000200C", 3),
     ("01801002000C", 14),
     ("01801002050C", 14),
+    ("01801004000C", 14),
     ("0280080300010200 01", 14),
+    ("028008050001020001", 14),
+    ("038008040001060001020001", 14),
+    ("038010000001060001000001", 14),
     ("02800802110303B0010100", 15),
 ]
 
@@ -86,6 +94,8 @@ def inputs():
     yield EXAMPLE
     yield bytes.fromhex("01801000000C")
     yield bytes.fromhex("01801000050C")
+    yield SHAPES
+    yield bytes.fromhex("03801000050C06AF128004050001")
     yield bytes([8, 0x80, 0x10, 0, 0, 1]) + bytes([2, 0xFF, 7, 0x80, 4]) * 7
     for text, _ in REFUSALS:
         yield bytes.fromhex(text)
@@ -98,6 +108,7 @@ def inputs():
 
 def main():
     assert printed(EXAMPLE) == EXAMPLE_TEXT
+    assert printed(SHAPES) == SHAPES_TEXT
     for text, number in REFUSALS:
         assert printed(bytes.fromhex(text)) == "refused %d\n" % number, text
     for data in inputs():

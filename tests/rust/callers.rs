@@ -79,7 +79,7 @@ fn point_of(bits: &[u32]) -> Point {
 
 #[test]
 fn place_agrees() {
-    for row in rows("place", 6000) {
+    for row in rows("place", 13000) {
         let [mode, size, cell, slot, subchannel, index, refusal, symbol, carrier] = row[..] else {
             panic!("{row:?}")
         };
@@ -101,7 +101,7 @@ fn place_agrees() {
 
 #[test]
 fn lengths_agree() {
-    for row in rows("length", 200) {
+    for row in rows("length", 300) {
         let [mode, size, points, grid] = row[..] else {
             panic!("{row:?}")
         };
@@ -112,7 +112,7 @@ fn lengths_agree() {
 
 #[test]
 fn locate_agrees() {
-    for row in rows("locate", 6000) {
+    for row in rows("locate", 15000) {
         let [mode, size, cell, symbol, carrier, refusal, kind, slot, subchannel, index] = row[..]
         else {
             panic!("{row:?}")
@@ -156,7 +156,7 @@ fn grids() -> Vec<Grid> {
             grid: Lent::new(grid),
         }
     };
-    rows("grid", 10).into_iter().map(read).collect()
+    rows("grid", 22).into_iter().map(read).collect()
 }
 
 #[test]
@@ -183,7 +183,7 @@ fn fill_and_empty_keep_every_bit() {
 
 #[test]
 fn fill_and_empty_refuse_and_write_nothing() {
-    for row in rows("lengths", 1800) {
+    for row in rows("lengths", 4000) {
         let [mode, size, cell, slot, points_len, grid_len, refusal] = row[..] else {
             panic!("{row:?}")
         };
@@ -230,7 +230,7 @@ fn numbers(seen: Seen) -> [u32; 6] {
 #[test]
 fn look_agrees() {
     let grids = grids();
-    for row in rows("look", 800) {
+    for row in rows("look", 3600) {
         let Grid { setup, grid, .. } = &grids[row[0] as usize];
         let seen = look(*setup, row[1], grid.at(), row[2]).map(numbers);
         assert_eq!(
@@ -243,7 +243,7 @@ fn look_agrees() {
 
 #[test]
 fn look_refuses() {
-    for row in rows("unseen", 600) {
+    for row in rows("unseen", 1300) {
         let [mode, size, cell, symbol, carrier, grid_len, refusal] = row[..] else {
             panic!("{row:?}")
         };
@@ -296,7 +296,7 @@ fn plan_of(row: &[u32]) -> Plan {
 
 #[test]
 fn plans_are_read() {
-    for row in rows("read", 1000) {
+    for row in rows("read", 3000) {
         let (bytes, answer) = row[1..].split_at(row[0] as usize);
         let bytes: Vec<u8> = bytes.iter().map(|byte| *byte as u8).collect();
         assert_eq!(
@@ -309,7 +309,7 @@ fn plans_are_read() {
 
 #[test]
 fn plans_are_written() {
-    for row in rows("write", 500) {
+    for row in rows("write", 1500) {
         let (request, answer) = row.split_at(27);
         // The reference's destination holds 238 before.
         let mut dest = vec![238u8; answer.len() - 2];
