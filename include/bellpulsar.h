@@ -20,15 +20,29 @@
  *   2 optional FUSC     512   0..63     0..7         0..511   0..511           768       1024
  *   2 optional FUSC    1024   0..255    0..15        0..511   0..511          1536       2048
  *   2 optional FUSC    2048   0..1023   0..31        0..511   0..511          3072       4096
- *   3 AMC               256   0..2351   0..3         0..511   0..511           384        512
- *   3 AMC               512   0..2351   0..7         0..511   0..511           768       1024
- *   3 AMC              1024   0..2351   0..15        0..511   0..511          1536       2048
- *   3 AMC              2048   0..2351   0..31        0..511   0..511          3072       4096
+ *   3 AMC 6x1           256   0..2351   0..3         0..511   0..511           384        512
+ *   3 AMC 6x1           512   0..2351   0..7         0..511   0..511           768       1024
+ *   3 AMC 6x1          1024   0..2351   0..15        0..511   0..511          1536       2048
+ *   3 AMC 6x1          2048   0..2351   0..31        0..511   0..511          3072       4096
+ *   4 AMC 2x3           256   0..2351   0..11        0..511   0..1535         1152       1536
+ *   4 AMC 2x3           512   0..2351   0..23        0..511   0..1535         2304       3072
+ *   4 AMC 2x3          1024   0..2351   0..47        0..511   0..1535         4608       6144
+ *   4 AMC 2x3          2048   0..2351   0..95        0..511   0..1535         9216      12288
+ *   5 AMC 3x2           256   0..2351   0..7         0..511   0..1023          768       1024
+ *   5 AMC 3x2           512   0..2351   0..15        0..511   0..1023         1536       2048
+ *   5 AMC 3x2          1024   0..2351   0..31        0..511   0..1023         3072       4096
+ *   5 AMC 3x2          2048   0..2351   0..63        0..511   0..1023         6144       8192
+ *   6 AMC 1x6           256   0..2351   0..23        0..511   0..3071         2304       3072
+ *   6 AMC 1x6           512   0..2351   0..47        0..511   0..3071         4608       6144
+ *   6 AMC 1x6          1024   0..2351   0..95        0..511   0..3071         9216      12288
+ *   6 AMC 1x6          2048   0..2351   0..191       0..511   0..3071        18432      24576
  *
  *   index: 0..47, the points of one subchannel in one slot. carrier: 0..size-1, by rising frequency, DC at size / 2.
  *
  * size is the FFT size, cell the permutation base. symbol is the symbol's number in the zone: the slot times the slot's
- * length (2 symbols in mode 0, 3 in mode 1, 1 in modes 2 and 3) plus the offset in the slot. AMC is six bins by one symbol.
+ * length (2 symbols in mode 0, 3 in mode 1, 1 in mode 2; 1, 3, 2 and 6 in modes 3 to 6) plus the offset in the slot.
+ * AMC has four slot shapes, a mode for each, named bins x symbols: a subchannel is 6, 2, 3 or 1 bins in a row (modes 3
+ * to 6), in every symbol of the slot. A bin is nine carriers in a row, of which one is a pilot.
  *
  * POINTS AND GRIDS. A point is two floats, in-phase first; its bits are copied as they are, those of a NaN too. Lengths
  * count floats and are exact: a longer buffer is refused as a shorter one is.
@@ -54,7 +68,10 @@ enum bp_mode {
     BP_PUSC_DL = 0, /* PUSC downlink */
     BP_PUSC_UL = 1, /* PUSC uplink */
     BP_OFUSC = 2,   /* optional FUSC */
-    BP_AMC = 3      /* AMC */
+    BP_AMC = 3,     /* AMC 6x1, the default shape */
+    BP_AMC_2X3 = 4, /* AMC 2x3 */
+    BP_AMC_3X2 = 5, /* AMC 3x2 */
+    BP_AMC_1X6 = 6  /* AMC 1x6 */
 };
 
 /* What a carrier holds. bp_look tells guard and DC alike, as BP_NOTHING. */
@@ -68,7 +85,7 @@ enum bp_kind {
 
 enum bp_refusal {
     BP_ACCEPTED = 0,
-    BP_REFUSED_MODE = 1,        /* the mode is none of 0, 1, 2, 3 (in a zone plan: none of 0, 2, 3) */
+    BP_REFUSED_MODE = 1,        /* the mode is none of 0 to 6 (in a zone plan: none of 0 and 2 to 6) */
     BP_REFUSED_SIZE = 2,        /* the size is not one of that mode's (of a plan: none of 256, 512, 1024, 2048) */
     BP_REFUSED_CELL = 3,        /* the cell is out of range */
     BP_REFUSED_SLOT = 4,        /* the slot, or the zone's symbol, is out of range */
@@ -81,7 +98,7 @@ enum bp_refusal {
     BP_REFUSED_FORM = 11,       /* a value goes on after its third group, or is not in its shortest form */
     BP_REFUSED_COUNT = 12,      /* a plan's count of zones is not 1 to 8, or (writing) a place past it is not all zero */
     BP_REFUSED_ZONE_SLOTS = 13, /* a zone's slots are not 1 to 512 */
-    BP_REFUSED_ORDER = 14,      /* at size 2048 the first zone is not mode 0; another mode follows mode 3 */
+    BP_REFUSED_ORDER = 14,      /* at size 2048 the first zone is not mode 0; another mode than 3 to 6 follows AMC */
     BP_REFUSED_LEFT_OVER = 15,  /* bytes are left over behind a plan */
     BP_REFUSED_DEST_LEN = 16    /* the destination is too short for the plan */
 };
@@ -147,9 +164,10 @@ uint32_t bp_look(uint32_t mode, uint32_t size, uint32_t cell, uint32_t symbol, c
 uint32_t bp_ofusc_collisions(uint32_t size, uint32_t cell_a, uint32_t subchannel_a,
                              uint32_t cell_b, uint32_t subchannel_b, uint8_t hits[48], uint32_t *count);
 
-/* AMC: which indices of a subchannel both cells put on one carrier, the same in every subchannel, slot and size.
+/* AMC: which indices of a subchannel both cells put on one carrier of one symbol, the same in every shape (modes 3 to
+ * 6), size, slot and subchannel.
  *
- * Cells are those of mode 3, 0..2351. One cell may be given twice.
+ * Cells are those of AMC, 0..2351. One cell may be given twice.
  * Written where it is accepted: all of hits, hits[j] being 1 where the two collide at index j and else 0; and *count, how
  * many are 1.
  * Refusals, in this order: 3 cell_a, 3 cell_b. */
@@ -157,8 +175,9 @@ uint32_t bp_amc_collisions(uint32_t cell_a, uint32_t cell_b, uint8_t hits[48], u
 
 /* Reads a zone plan from its bytes.
  *
- * The bytes are values: the count of zones (1..8), the size (256, 512, 1024, 2048), then mode (0, 2 or 3), cell and slots
- * (1..512) of each zone. At size 2048 the first zone is mode 0, with any cell of that mode; after mode 3 comes only mode 3.
+ * The bytes are values: the count of zones (1..8), the size (256, 512, 1024, 2048), then mode (0 or 2 to 6), cell and
+ * slots (1..512) of each zone. At size 2048 the first zone is mode 0, with any cell of that mode; after AMC (modes 3 to
+ * 6) comes only AMC, of any shape.
  * A value is one to three groups of seven bits, lowest first, with the top bit set where more follow, in its shortest form.
  * len may be any number; no plan has more than 43 bytes.
  * Written where it is accepted: *count, *size, and all of zones: mode, cell and slots of eight places one after the other,
