@@ -31,9 +31,13 @@ Modes and their ranges; N is size / 64:
     0 PUSC_DL PUSC downlink 2048                    0..31       60           2
     1 PUSC_UL PUSC uplink   2048                    0..69       70           3
     2 OFUSC   optional FUSC 256, 512, 1024, 2048    0..N*N-1    N            1
-    3 AMC     AMC           256, 512, 1024, 2048    0..2351     N            1
+    3 AMC     AMC 6x1       256, 512, 1024, 2048    0..2351     N            1
+    4 AMC_2X3 AMC 2x3       256, 512, 1024, 2048    0..2351     3 * N        3
+    5 AMC_3X2 AMC 3x2       256, 512, 1024, 2048    0..2351     2 * N        2
+    6 AMC_1X6 AMC 1x6       256, 512, 1024, 2048    0..2351     6 * N        6
 
-The cell is the permutation base. Slots are 0..511. A slot has 48 points a subchannel, with the indices 0..47.
+The cell is the permutation base. Slots are 0..511. A slot has 48 points a subchannel, with the indices 0..47. AMC has
+four slot shapes, bins x symbols; a bin is nine carriers in a row, of which one is a pilot.
 
 Numbers. Any integer may stand in any field. One that 32 bits do not hold, negative ones too, reaches the engine as
 2**32 - 1, which no question lets pass, so it is refused in its turn.
@@ -65,6 +69,9 @@ __all__ = [
     "PUSC_UL",
     "OFUSC",
     "AMC",
+    "AMC_2X3",
+    "AMC_3X2",
+    "AMC_1X6",
     "QUESTIONS",
     "Refusal",
     "Kind",
@@ -89,7 +96,8 @@ __all__ = [
     "plan_bytes",
 ]
 
-PUSC_DL, PUSC_UL, OFUSC, AMC = 0, 1, 2, 3
+PUSC_DL, PUSC_UL, OFUSC = 0, 1, 2
+AMC, AMC_2X3, AMC_3X2, AMC_1X6 = 3, 4, 5, 6
 
 
 class Refusal(Exception):
@@ -176,7 +184,7 @@ class Zone(NamedTuple):
 class Plan(NamedTuple):
     """A zone plan: the FFT size and its one to eight zones. Unused places, which are all zero, are left out.
 
-    At size 2048 the first zone is mode 0, with any of its cells; after mode 3 comes only mode 3.
+    At size 2048 the first zone is mode 0, with any of its cells; after AMC (modes 3 to 6) comes only AMC, of any shape.
     """
 
     size: int
@@ -293,11 +301,11 @@ def look(mode, size, cell, symbol, grid, carrier):
 # --- collisions -------------------------------------------------------------------------------
 
 
-def _collisions(call, mode, **fields):
+def _collisions(call, fields, **mode):
     hits, count = Hits(), uint()
     refused = call(*numbers(*fields.values()), hits, count)
     if refused:
-        raise _refusal(refused, mode=mode, **fields)
+        raise _refusal(refused, **fields, **mode)
     return Collisions(tuple(hit != 0 for hit in hits), count.value)
 
 
@@ -308,15 +316,15 @@ def ofusc_collisions(size, cell_a, subchannel_a, cell_b, subchannel_b):
     Refusals 2, 3 (cell_a), 3 (cell_b), 5 (subchannel_a), 5 (subchannel_b), in this order.
     """
     fields = {"cell_a": cell_a, "subchannel_a": subchannel_a, "cell_b": cell_b, "subchannel_b": subchannel_b}
-    return _collisions(engine.bp_ofusc_collisions, OFUSC, size=size, **fields)
+    return _collisions(engine.bp_ofusc_collisions, {"size": size, **fields}, mode=OFUSC)
 
 
 def amc_collisions(cell_a, cell_b):
-    """AMC: which indices both cells put on one carrier, as Collisions(hits, count); hits[j] is index j.
+    """AMC: which indices both cells put on one carrier of one symbol, as Collisions(hits, count); hits[j] is index j.
 
-    The answer is the same in every subchannel, slot and size. Refusals 3 (cell_a), 3 (cell_b).
+    The answer is the same in every shape (modes 3 to 6), size, slot and subchannel. Refusals 3 (cell_a), 3 (cell_b).
     """
-    return _collisions(engine.bp_amc_collisions, AMC, cell_a=cell_a, cell_b=cell_b)
+    return _collisions(engine.bp_amc_collisions, {"cell_a": cell_a, "cell_b": cell_b})
 
 
 # --- zone plans -------------------------------------------------------------------------------

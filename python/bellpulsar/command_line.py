@@ -25,15 +25,20 @@ modes and their ranges (N is SIZE / 64):
   0  PUSC downlink    2048                  0..31     0..59       2
   1  PUSC uplink      2048                  0..69     0..69       3
   2  optional FUSC    256 512 1024 2048     0..N*N-1  0..N-1      1
-  3  AMC              256 512 1024 2048     0..2351   0..N-1      1
+  3  AMC 6x1          256 512 1024 2048     0..2351   0..N-1      1
+  4  AMC 2x3          256 512 1024 2048     0..2351   0..3*N-1    3
+  5  AMC 3x2          256 512 1024 2048     0..2351   0..2*N-1    2
+  6  AMC 1x6          256 512 1024 2048     0..2351   0..6*N-1    6
 
 SIZE is the FFT size, CELL the permutation base. SLOT is 0..511, INDEX 0..47, CARRIER 0..SIZE-1.
+AMC has four slot shapes, bins x symbols; a bin is nine carriers in a row, of which one is a pilot.
 SYMBOL counts in the zone: slot times symbols a slot, plus the offset in the slot.
 Any number may be given: the engine refuses what is out of range."""
 
 PLAN_RULES = """\
-A plan has a SIZE (256, 512, 1024 or 2048) and one to eight zones, each of MODE 0, 2 or 3, a CELL of that mode and 1 to
-512 SLOTS. At 2048 the first zone is mode 0, with any of its cells. After a zone of mode 3 come zones of mode 3 only.
+A plan has a SIZE (256, 512, 1024 or 2048) and one to eight zones, each of MODE 0 or 2 to 6, a CELL of that mode and 1
+to 512 SLOTS. At 2048 the first zone is mode 0, with any of its cells. After a zone of AMC (modes 3 to 6) come zones of
+AMC only, of any shape.
 ./bellpulsar --help has the modes and their cells."""
 
 OVERVIEW = """\
@@ -62,7 +67,7 @@ examples:
 # --- arguments --------------------------------------------------------------------------------
 
 FIELDS = {
-    "mode": "0 PUSC downlink, 1 PUSC uplink, 2 optional FUSC, 3 AMC",
+    "mode": "0 PUSC downlink, 1 PUSC uplink, 2 optional FUSC, 3 to 6 AMC 6x1, 2x3, 3x2, 1x6",
     "size": "the FFT size",
     "cell": "the permutation base",
     "cells": "one or more cells",
@@ -189,7 +194,7 @@ def add_collisions(commands):
     summary = "optional FUSC: the groups in which two subchannels are on one carrier"
     command(kinds, "ofusc", "ofusc_collisions", summary, example, fields)
     example = "  ./bellpulsar collisions amc 48 176\n  count 3 indices 8 24 32"
-    summary = "AMC: the indices that two cells put on one carrier, in every subchannel"
+    summary = "AMC: the indices that two cells put on one carrier, in every slot shape and subchannel"
     command(kinds, "amc", "amc_collisions", summary, example, ["cell_a", "cell_b"])
 
 

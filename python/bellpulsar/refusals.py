@@ -8,7 +8,7 @@ from typing import Callable, NamedTuple, Tuple
 
 # The questions of document 01, by number.
 QUESTIONS = {
-    1: "Is the mode listed (in a plan: 0, 2 or 3)?",
+    1: "Is the mode listed (in a plan: 0 or 2 to 6)?",
     2: "Is the size that mode's (of a plan: 256, 512, 1024 or 2048)?",
     3: "Is the cell in range?",
     4: "Is the slot below 512, the zone's symbol below 512 times the slot length?",
@@ -21,7 +21,7 @@ QUESTIONS = {
     11: "Does the value end by its third group, in shortest form?",
     12: "Is the count 1 to 8, and in writing every place past it zero?",
     13: "Are the slots 1 to 512?",
-    14: "At 2048, is the first zone mode 0, and does nothing but mode 3 follow mode 3?",
+    14: "At 2048, is the first zone mode 0, and does nothing but AMC (modes 3 to 6) follow AMC?",
     15: "Are the bytes used up?",
     16: "Is the destination long enough?",
 }
@@ -31,6 +31,8 @@ QUESTIONS = {
 SIZES = (256, 512, 1024, 2048)
 SLOTS = 512
 POINTS = 48
+AMC_CELLS = 2352
+AMC_MODES = range(3, 7)
 
 
 class Mode(NamedTuple):
@@ -43,13 +45,21 @@ class Mode(NamedTuple):
     symbols: int  # of a slot
 
 
+def amc(bins, symbols):
+    """AMC in a slot of this shape. A symbol has 6 * N bins."""
+    return Mode("AMC %dx%d" % (bins, symbols), SIZES, lambda n: AMC_CELLS, lambda n: 6 * n // bins, symbols)
+
+
 MODES = (
     Mode("PUSC downlink", (2048,), lambda n: 32, lambda n: 60, 2),
     Mode("PUSC uplink", (2048,), lambda n: 70, lambda n: 70, 3),
     Mode("optional FUSC", SIZES, lambda n: n * n, lambda n: n, 1),
-    Mode("AMC", SIZES, lambda n: 2352, lambda n: n, 1),
+    amc(6, 1),
+    amc(2, 3),
+    amc(3, 2),
+    amc(1, 6),
 )
-PLAN_MODES = (0, 2, 3)
+PLAN_MODES = (0, 2, *AMC_MODES)
 PLAN_COUNTS = range(1, 9)
 PLAN_SLOTS = range(1, SLOTS + 1)
 
@@ -79,7 +89,7 @@ def by_size(mode, size, count):
 
 
 def mode_words(field, asked):
-    return not_one_of(field, asked[field], "the map's", tuple(range(len(MODES))))
+    return not_one_of(field, asked[field], "the map's", range(len(MODES)))
 
 
 def size_words(field, asked):
@@ -87,7 +97,9 @@ def size_words(field, asked):
 
 
 def cell_words(field, asked):
-    mode, size = asked["mode"], asked.get("size", 0)  # AMC's collisions have no size
+    if "mode" not in asked:  # AMC's collisions, the same in all its modes and sizes
+        return not_one_of(field, asked[field], "AMC's", range(AMC_CELLS))
+    mode, size = asked["mode"], asked["size"]
     count = MODES[mode].cells
     return not_one_of(field, asked[field], by_size(mode, size, count), range(count(size // 64)))
 
@@ -150,8 +162,10 @@ def order_words(size, zones, at):
     mode = zones[at][0]
     if size == 2048 and at == 0 and mode != 0:
         return "mode %d is first at size 2048, where only mode 0 is accepted" % mode
-    if at > 0 and zones[at - 1][0] == 3 and mode != 3:
-        return "mode %d follows mode 3, after which only mode 3 is accepted" % mode
+    before = zones[at - 1][0] if at > 0 else None
+    if before in AMC_MODES and mode not in AMC_MODES:
+        after = (mode, before, accepted_values(AMC_MODES))
+        return "mode %d follows mode %d, after which only modes %s are accepted" % after
 
 
 def zone_words(number, size, zones, at):
