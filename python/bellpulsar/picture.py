@@ -1,7 +1,8 @@
 """Pictures of the map as SVG text, drawn from the library's answers alone.
 
 `slot` draws a slot: carriers along x, in bands under each other, symbols along y, a colour for each subchannel.
-`subchannel` draws one subchannel's points: carriers along x, the index along y, a panel for each cell.
+`subchannel` draws one subchannel's points: carriers along x, the index along y, a panel for each cell, a colour for
+each symbol. Where all points lie close together, as in AMC, it has only the carriers around them.
 What one points at has a title: symbol, carrier and what is there.
 """
 
@@ -12,7 +13,7 @@ from typing import NamedTuple
 
 import bellpulsar
 from bellpulsar import Kind
-from bellpulsar.refusals import MODES
+from bellpulsar.refusals import AMC_MODES, MODES
 
 LEFT, RIGHT, TOP, BOTTOM = 76, 24, 64, 16  # margins
 WIDTH = 1280  # of a band or panel
@@ -246,8 +247,9 @@ def slot(mode, size, cell, slot, picked=None):
 INDEX = 5  # height of an index
 PANEL = 48 * INDEX
 BETWEEN = 58
-SYMBOL_COLOURS = ("#1f77b4", "#e07b00", "#2a9134")
+SYMBOL_COLOURS = ("#1f77b4", "#e07b00", "#2a9134", "#b0369a", "#7a5230", "#00a5a5")
 INDEX_TICKS = (0, 12, 24, 36, 47)
+CLOSE = 64  # carriers: where all points lie within as many, a panel has no more
 
 
 def places_of(mode, size, cell, slot, subchannel):
@@ -257,6 +259,16 @@ def places_of(mode, size, cell, slot, subchannel):
 def index_height(index):
     """Index 0 is at the bottom."""
     return PANEL - INDEX * index - INDEX / 2
+
+
+def window(size, points):
+    """The carriers that every panel has: all, or those around the points."""
+    carriers = [place.carrier for places in points for place in places]
+    if max(carriers) - min(carriers) >= CLOSE:
+        return range(size)
+    first = (min(carriers) + max(carriers) + 1 - CLOSE) // 2
+    first = min(max(first, 0), size - CLOSE)
+    return range(first, first + CLOSE)
 
 
 class Mark(NamedTuple):
@@ -269,7 +281,7 @@ class Mark(NamedTuple):
 
 def marks_of(mode, cells, subchannel, points):
     """The marks of each panel. A point is shared where another cell of the picture has one on the same symbol and
-    carrier. In AMC, where all cells share a subchannel's carriers, that one must have the same index too, as in its
+    carrier. In AMC, where all cells share a subchannel's bins, that one must have the same index too, as in its
     collisions."""
     panels = []
     for at, (cell, places) in enumerate(zip(cells, points)):
@@ -277,7 +289,7 @@ def marks_of(mode, cells, subchannel, points):
         marks = []
         for index, place in enumerate(places):
             also = [(its.index(place), other) for other, its in others if place in its]
-            if mode == bellpulsar.AMC:
+            if mode in AMC_MODES:
                 also = [(its, other) for its, other in also if its == index]
             title = "cell %d, symbol %d, carrier %d: subchannel %d, index %d" % (cell, *place, subchannel, index)
             title += "".join("; also index %d of cell %d" % (its, other) for its, other in also)
@@ -286,11 +298,16 @@ def marks_of(mode, cells, subchannel, points):
     return panels
 
 
-def circles(marks, scale, first_symbol):
+def carrier_middle(carriers, carrier):
+    """Where a carrier is in a panel of these carriers."""
+    return "%g" % ((carrier - carriers[0] + 0.5) * WIDTH / len(carriers))
+
+
+def circles(marks, carriers, first_symbol):
     """A circle for each point; those that another cell has too are ringed."""
     parts = []
     for index, mark in enumerate(marks):
-        x, y = "%g" % ((mark.place.carrier + 0.5) * scale), "%g" % index_height(index)
+        x, y = carrier_middle(carriers, mark.place.carrier), "%g" % index_height(index)
         fill = SYMBOL_COLOURS[mark.place.symbol - first_symbol]
         if mark.shared:
             look = {"class_": "point shared", "r": 4, "stroke": "#000000", "stroke_width": 2}
@@ -300,26 +317,26 @@ def circles(marks, scale, first_symbol):
     return parts
 
 
-def panel_frame(size, scale):
+def panel_frame(size, carriers):
     parts = [box(0, 0, WIDTH, PANEL, fill="#f7f7f7", stroke="#444444")]
     for index in INDEX_TICKS:
         y = "%g" % index_height(index)
         parts += [line(0, y, WIDTH, y, stroke="#dddddd"), line(-5, y, 0, y)]
         parts += [text(-8, index_height(index) + 4, index, text_anchor="end")]
-    middle = "%g" % ((size // 2 + 0.5) * scale)
-    parts += [line(middle, 0, middle, PANEL, stroke_dasharray="5 4"), upright(-48, PANEL // 2, "index")]
-    parts += [text(middle, -6, "DC", text_anchor="middle", font_weight="bold")]
-    return parts + carrier_ticks(PANEL, 0, size - 1, size // 16, scale)
+    has_dc, middle = size // 2 in carriers, carrier_middle(carriers, size // 2)
+    parts += [line(middle, 0, middle, PANEL, stroke_dasharray="5 4")] if has_dc else []
+    parts += [upright(-48, PANEL // 2, "index")]
+    parts += [text(middle, -6, "DC", text_anchor="middle", font_weight="bold")] if has_dc else []
+    return parts + carrier_ticks(PANEL, carriers[0], carriers[-1], len(carriers) // 16, WIDTH / len(carriers))
 
 
-def panel(size, cell, marks, first_symbol):
-    scale = WIDTH / size
-    parts = panel_frame(size, scale) + [text(0, -6, "cell %d" % cell, font_weight="bold")]
-    return parts + circles(marks, scale, first_symbol)
+def panel(size, carriers, cell, marks, first_symbol):
+    parts = panel_frame(size, carriers) + [text(0, -6, "cell %d" % cell, font_weight="bold")]
+    return parts + circles(marks, carriers, first_symbol)
 
 
 RINGED = "on a carrier that another cell of the picture has in the same symbol"
-RINGED_AMC = "on the carrier that another cell of the picture has at the same index"
+RINGED_AMC = "where another cell of the picture puts the same index"
 
 
 def subchannel_legend(symbols, ringed):
@@ -337,12 +354,12 @@ def subchannel_legend(symbols, ringed):
 def subchannel(mode, size, cells, slot, subchannel):
     """One subchannel's points under each of the cells. Refusals 1, 2, 3, 4, 5, those of the first cell first."""
     points = [places_of(mode, size, cell, slot, subchannel) for cell in cells]
-    symbols = sorted({place.symbol for place in points[0]})
+    symbols, carriers = sorted({place.symbol for place in points[0]}), window(size, points)
     parts, y = [], TOP + 6
     for cell, marks in zip(cells, marks_of(mode, cells, subchannel, points)):
-        parts.append(group(LEFT, y, panel(size, cell, marks, symbols[0]), class_="panel"))
+        parts.append(group(LEFT, y, panel(size, carriers, cell, marks, symbols[0]), class_="panel"))
         y += PANEL + BETWEEN
-    ringed = "" if len(cells) == 1 else RINGED_AMC if mode == bellpulsar.AMC else RINGED
+    ringed = "" if len(cells) == 1 else RINGED_AMC if mode in AMC_MODES else RINGED
     parts.append(text(LEFT + WIDTH / 2, y - 18, "carrier", text_anchor="middle"))
     parts.append(group(LEFT, y + 6, subchannel_legend(symbols, ringed), class_="legend"))
     names = (MODES[mode].name, mode, size, slot, subchannel)
