@@ -31,14 +31,16 @@ expect 0 "symbol 1 carrier 552
 holds slot 1 subchannel 3 index 5" point 2 1024 0 1 3 5
 expect 0 "symbol 0 carrier 1862
 holds slot 0 subchannel 1 index 11" point 0 2048 0 0 1 11
-expect 1 "refused 1: Is the mode listed (in a plan: 0, 2 or 3)?" point 4 1024 256 0 0 0
+expect 0 "symbol 4 carrier 122
+holds slot 1 subchannel 5 index 1" point 4 256 176 1 5 1
+expect 1 "refused 1: Is the mode listed (in a plan: 0 or 2 to 6)?" point 7 1024 256 0 0 0
 expect 1 "refused 2: Is the size that mode's (of a plan: 256, 512, 1024 or 2048)?" point 2 128 256 0 0 0
 expect 1 "refused 3: Is the cell in range?" point 2 1024 256 0 0 0
 expect 1 "refused 4: Is the slot below 512, the zone's symbol below 512 times the slot length?" point 3 256 2351 512 0 0
 expect 1 "refused 5: Is the subchannel in range?" point 1 2048 69 511 70 48
 expect 1 "refused 6: Is the index below 48?" point 2 1024 17 0 0 48
 # A number that 32 bits do not hold is refused, not cut to one that they hold.
-expect 1 "refused 1: Is the mode listed (in a plan: 0, 2 or 3)?" point 4294967298 1024 17 0 0 0
+expect 1 "refused 1: Is the mode listed (in a plan: 0 or 2 to 6)?" point 4294967298 1024 17 0 0 0
 expect 1 "refused 3: Is the cell in range?" point 2 1024 -1 0 0 0
 expect 1 "refused 6: Is the index below 48?" point 2 1024 17 0 0 340282366920938463463374607431768211456
 for word in first "" " 3" "3 " "	3" " -18446744073709551615" "- 3" - --3 +3 1_0 0x1 1.0 1e3 "٣"; do
@@ -59,6 +61,8 @@ expect 0 "symbol 1 carrier 377: point (48, -48) of slot 0 subchannel 1 index 0
 3360 points: all back" slot 1 2048 0 0
 expect 0 "symbol 9 carrier 133: point (48, -48) of slot 9 subchannel 1 index 0
 384 points: all back" slot 3 512 7 9
+expect 0 "symbol 29 carrier 60: point (48, -48) of slot 9 subchannel 1 index 0
+1152 points: all back" slot 4 512 7 9
 expect 1 "refused 2: Is the size that mode's (of a plan: 256, 512, 1024 or 2048)?" slot 2 4294967295 0 0
 
 expect 0 "size 2048
@@ -71,7 +75,13 @@ expect 0 "size 1024
 mode 2 cell 17 slots 3
 mode 3 cell 176 slots 1
 bytes 02 80 08 02 11 03 03 B0 01 01" plan 02 80 08 02 11 03 03 B0 01 01
-expect 1 "refused 14: At 2048, is the first zone mode 0, and does nothing but mode 3 follow mode 3?" plan 01 80 10 02 00 0C
+expect 0 "size 1024
+mode 4 cell 176 slots 1
+mode 3 cell 0 slots 2
+bytes 02 80 08 04 B0 01 01 03 00 02" plan 02 80 08 04 B0 01 01 03 00 02
+order="refused 14: At 2048, is the first zone mode 0, and does only AMC (modes 3 to 6) follow AMC?"
+expect 1 "$order" plan 01 80 10 02 00 0C
+expect 1 "$order" plan 02 80 08 04 B0 01 01 02 00 02
 expect 1 "refused 11: Does the value end by its third group, in shortest form?" plan 81 00
 expect 1 "refused 10: Do the bytes reach to the value's end or its third group?" plan
 for word in 100 1 0x1 " 1" -1 +1 0g ""; do

@@ -7,7 +7,7 @@
 
 static const char *const questions[17] = {
     "",
-    "Is the mode listed (in a plan: 0, 2 or 3)?",
+    "Is the mode listed (in a plan: 0 or 2 to 6)?",
     "Is the size that mode's (of a plan: 256, 512, 1024 or 2048)?",
     "Is the cell in range?",
     "Is the slot below 512, the zone's symbol below 512 times the slot length?",
@@ -20,7 +20,7 @@ static const char *const questions[17] = {
     "Does the value end by its third group, in shortest form?",
     "Is the count 1 to 8, and in writing every place past it zero?",
     "Are the slots 1 to 512?",
-    "At 2048, is the first zone mode 0, and does nothing but mode 3 follow mode 3?",
+    "At 2048, is the first zone mode 0, and does only AMC (modes 3 to 6) follow AMC?",
     "Are the bytes used up?",
     "Is the destination long enough?",
 };

@@ -62,7 +62,7 @@ impl Refusal {
     /// The question in words.
     pub fn question(self) -> &'static str {
         match self.0 {
-            1 => "Is the mode listed (in a plan: 0, 2 or 3)?",
+            1 => "Is the mode listed (in a plan: 0 or 2 to 6)?",
             2 => "Is the size that mode's (of a plan: 256, 512, 1024 or 2048)?",
             3 => "Is the cell in range?",
             4 => "Is the slot below 512, the zone's symbol below 512 times the slot length?",
@@ -75,7 +75,7 @@ impl Refusal {
             11 => "Does the value end by its third group, in shortest form?",
             12 => "Is the count 1 to 8, and in writing every place past it zero?",
             13 => "Are the slots 1 to 512?",
-            14 => "At 2048, is the first zone mode 0, and does nothing but mode 3 follow mode 3?",
+            14 => "At 2048, is the first zone mode 0, and does only AMC (modes 3 to 6) follow AMC?",
             15 => "Are the bytes used up?",
             16 => "Is the destination long enough?",
             _ => "A question that document 01 does not have",
@@ -100,7 +100,8 @@ fn done(number: u32) -> Result<(), Refusal> {
     }
 }
 
-/// Mode (0 PUSC downlink, 1 PUSC uplink, 2 optional FUSC, 3 AMC), FFT size and cell (the permutation base).
+/// Mode (0 PUSC downlink, 1 PUSC uplink, 2 optional FUSC, 3 to 6 AMC: 6x1, 2x3, 3x2 and 1x6, bins by symbols), FFT size
+/// and cell (the permutation base).
 #[derive(Clone, Copy, Debug, PartialEq, Eq)]
 pub struct Setup {
     pub mode: u32,
@@ -324,7 +325,7 @@ pub fn ofusc_collisions(
     })
 }
 
-/// AMC: the indices that both cells put on one carrier.
+/// AMC: the indices that both cells put on one carrier of one symbol, the same in modes 3 to 6.
 pub fn amc_collisions(cell_a: u32, cell_b: u32) -> Result<Collisions, Refusal> {
     let (mut hits, mut count) = ([0u8; 48], 0);
     // Safety: `hits` has the 48 bytes that are written.

@@ -21,7 +21,7 @@ QUESTIONS = {
     11: "Does the value end by its third group, in shortest form?",
     12: "Is the count 1 to 8, and in writing every place past it zero?",
     13: "Are the slots 1 to 512?",
-    14: "At 2048, is the first zone mode 0, and does nothing but AMC (modes 3 to 6) follow AMC?",
+    14: "At 2048, is the first zone mode 0, and does only AMC (modes 3 to 6) follow AMC?",
     15: "Are the bytes used up?",
     16: "Is the destination long enough?",
 }
