@@ -20,7 +20,7 @@ import reference as ref
 ROOT = os.path.dirname(os.path.dirname(os.path.abspath(__file__)))
 sys.path.insert(0, os.path.join(ROOT, "python"))
 
-from bellpulsar import command_line  # noqa: E402
+from bellpulsar import command_line, refusals  # noqa: E402
 
 COMMAND = os.path.join(ROOT, "bellpulsar")
 SVG = "{http://www.w3.org/2000/svg}"
@@ -93,6 +93,7 @@ class Map(Case):
         self.prints("place 0 2048 0 0 1 11", "symbol 0 carrier 1862\n")
         self.prints("place 0 2048 0 0 1 35", "symbol 1 carrier 1861\n")
         self.prints("place 1 2048 0 0 1 0", "symbol 1 carrier 377\n")
+        self.prints("place 4 256 176 1 5 1", "symbol 4 carrier 122\n")
 
     def test_ranges(self):
         self.prints("place 2 256 15 0 0 0", "symbol 0 carrier %d\n" % ref.place(2, 256, 15, 0, 0, 0)[2])
@@ -100,6 +101,11 @@ class Map(Case):
         self.prints("place 3 256 2351 511 0 0", "symbol 511 carrier %d\n" % ref.place(3, 256, 2351, 511, 0, 0)[2])
         self.refused(3, "place 3 256 2352 511 0 0")
         self.refused(4, "place 3 256 2351 512 0 0")
+        self.prints("place 6 2048 2351 511 191 47", "symbol 3070 carrier 1886\n")
+        self.refused(5, "place 6 2048 2351 511 192 47")
+        self.prints("locate 6 2048 2351 3071 1887", "pilot\n")
+        self.refused(4, "locate 6 2048 2351 3072 1887")
+        self.refused(1, "place 7 2048 0 0 0 0")
 
     def test_locate(self):
         for cell in (0, 5, 31):
@@ -113,10 +119,10 @@ class Map(Case):
 
     def test_every_refusal_of_a_field(self):
         good = "2 1024 255 511 15 47".split()
-        for at, bad in enumerate("4 2047 256 512 16 48".split()):
+        for at, bad in enumerate("7 2047 256 512 16 48".split()):
             self.refused(at + 1, "place " + " ".join(good[:at] + [bad] + good[at + 1 :]))
         good = "1 2048 69 1535 2047".split()
-        for at, (bad, number) in enumerate([(4, 1), (1024, 2), (70, 3), (1536, 4), (2048, 7)]):
+        for at, (bad, number) in enumerate([(7, 1), (1024, 2), (70, 3), (1536, 4), (2048, 7)]):
             self.refused(number, "locate " + " ".join(good[:at] + [str(bad)] + good[at + 1 :]))
 
     def test_numbers_of_any_size(self):
@@ -137,19 +143,22 @@ class Words(Case):
     """A refusal says what was asked, the value given and what would be accepted."""
 
     def test_of_fields(self):
-        self.refused(1, "place 4 1024 256 0 0 0", "mode 4 is not one of the map's: 0, 1, 2, 3")
+        self.refused(1, "place 7 1024 256 0 0 0", "mode 7 is not one of the map's: 0 to 6")
         self.refused(2, "place 0 1024 0 0 0 0", "size 1024 is not one of mode 0's: 2048")
         self.refused(3, "place 2 1024 256 0 0 0", "cell 256 is not one of mode 2's at size 1024: 0 to 255")
         self.refused(4, "locate 1 2048 0 1536 0", "symbol 1536 is not one of mode 1's: 0 to 1535")
         self.refused(6, "place 2 1024 0 0 0 -1", "index -1 is not one of a subchannel's: 0 to 47")
         self.refused(7, "locate 3 256 0 0 256", "carrier 256 is not one of size 256's: 0 to 255")
-        self.refused(3, "collisions amc 0 2352", "cell_b 2352 is not one of mode 3's: 0 to 2351")
+        self.refused(3, "collisions amc 0 2352", "cell_b 2352 is not one of AMC's: 0 to 2351")
         self.refused(5, "show 0 2048 0 0 --subchannel 60", "subchannel 60 is not one of mode 0's: 0 to 59")
         words = "subchannel 8 is not one of mode 3's at size 512: 0 to 7"
         self.refused(5, "picture slot 3 512 0 0 --subchannel 8", words)
+        words = "subchannel 192 is not one of mode 6's at size 2048: 0 to 191"
+        self.refused(5, "picture subchannel 6 2048 0 0 192", words)
+        self.refused(4, "show 6 256 0 3072", "symbol 3072 is not one of mode 6's: 0 to 3071")
 
     def test_of_any_size(self):
-        self.refused(1, "place %d 0 0 0 0 0" % 2**64, "mode %d is not one of the map's: 0, 1, 2, 3" % 2**64)
+        self.refused(1, "place %d 0 0 0 0 0" % 2**64, "mode %d is not one of the map's: 0 to 6" % 2**64)
         words = "cell of more than 20 digits is not one of mode 0's: 0 to 31"
         self.refused(3, "place 0 2048 %s 0 0 0" % ("9" * 6000), words)
 
@@ -157,8 +166,10 @@ class Words(Case):
         self.refused(10, "plan read 01 80 08 02", "4 bytes end within zone 1's cell, and more must follow")
         self.refused(11, "plan read 81 00", "the count is 81 00, which is not its shortest form")
         self.refused(12, "plan write 1024", "count 0 is not one of a plan's: 1 to 8")
-        words = "zone 2: mode 2 follows mode 3, after which only mode 3 is accepted"
-        self.refused(14, "plan write 1024 3,0,1 2,0,1", words)
+        for mode in range(3, 7):
+            words = "zone 2: mode 2 follows mode %d, after which only modes 3 to 6 are accepted" % mode
+            self.refused(14, "plan write 1024 %d,0,1 2,0,1" % mode, words)
+        self.refused(1, "plan write 1024 7,0,1", "zone 1: mode 7 is not one of a plan's: 0, 2, 3, 4, 5, 6")
         self.refused(15, "plan read %s 00" % EXAMPLE, "11 bytes are given, and the plan ends after 10")
 
 
@@ -194,6 +205,7 @@ class Plans(Case):
         self.prints("plan read 0280080211 0303b00101", EXAMPLE_TEXT)
         self.prints("plan read 01 80 10 00 00 0C", "size 2048\nmode 0 cell 0 slots 12\n")
         self.prints("plan read 01 80 10 00 05 0C", "size 2048\nmode 0 cell 5 slots 12\n")
+        self.prints("plan read 02 80 08 04 00 01 03 00 01", "size 1024\nmode 4 cell 0 slots 1\nmode 3 cell 0 slots 1\n")
 
     def test_read_refusals(self):
         self.refused(14, "plan read 01 80 10 02 00 0C")
@@ -202,6 +214,7 @@ class Plans(Case):
         self.refused(12, "plan read 00")
         self.refused(2, "plan read 01 00")
         self.refused(1, "plan read 01 80 08 01 00 01")
+        self.refused(1, "plan read 01 80 08 07 00 01")
         self.refused(3, "plan read 01 80 08 02 80 02 01")
         self.refused(13, "plan read 01 80 08 02 00 00")
         self.refused(15, "plan read %s 00" % EXAMPLE)
@@ -225,6 +238,8 @@ class Plans(Case):
         self.prints("plan write 2048 0,0,12", "01 80 10 00 00 0C\n")
         self.prints("plan write 2048 0,31,12 0,5,1", "02 80 10 00 1F 0C 00 05 01\n")
         self.prints("plan write 256 %s" % " ".join(["3,0,1"] * 8), "08 80 02" + " 03 00 01" * 8 + "\n")
+        amc = "plan write 256 2,0,1 6,0,1 5,0,1 4,0,1 3,0,1 4,0,1 5,0,1 6,0,1"
+        self.prints(amc, "08 80 02 " + " ".join("%02X 00 01" % mode for mode in (2, 6, 5, 4, 3, 4, 5, 6)) + "\n")
 
     def test_write_refusals(self):
         self.refused(12, "plan write 1024")
@@ -237,6 +252,8 @@ class Plans(Case):
         self.refused(14, "plan write 2048 2,0,12", "zone 1: mode 2 is first at size 2048, where only mode 0 is accepted")
         self.refused(3, "plan write 2048 0,32,12")
         self.refused(14, "plan write 1024 3,0,1 2,0,1")
+        self.refused(14, "plan write 2048 0,0,1 6,0,1 0,0,1")
+        self.refused(14, "plan write 2048 4,0,1")
 
 
 # --- a symbol as text -------------------------------------------------------------------------
@@ -262,7 +279,7 @@ class Show(Case):
         )
 
     def test_every_mode_against_the_reference(self):
-        for mode in range(4):
+        for mode in range(7):
             for size in ref.sizes(mode):
                 last = ref.cells(mode, size) - 1, ref.subchannels(mode, size) - 1
                 for cell, symbol, picked in ((0, 1, None), (last[0], 511, last[1]), (1, 2, 0)):
@@ -278,7 +295,7 @@ class Show(Case):
         self.assertEqual(done.stdout.decode().splitlines()[-1], "- guard  D DC  P pilot  . data")
 
     def test_refusals(self):
-        self.refused(1, "show 4 2048 0 0")
+        self.refused(1, "show 7 2048 0 0")
         self.refused(2, "show 0 1024 0 0")
         self.refused(3, "show 0 2048 32 0 --subchannel 60")
         self.refused(4, "show 0 2048 31 1024 --subchannel 60")
@@ -345,9 +362,21 @@ def texts(node):
     return [part.text for part in node.iter(SVG + "text")]
 
 
+def carrier_axis(panel):
+    """The carriers that a panel has, from the numbers under it, which stand where these carriers are."""
+    ticks = [part for part in panel.iter(SVG + "text") if part.get("text-anchor") == "middle" and part.text.isdigit()]
+    carriers = range(int(ticks[0].text), int(ticks[-1].text) + 1)
+    for tick in ticks:
+        drawn = float(tick.get("x")) * len(carriers) / 1280 - 0.5
+        assert round(drawn, 2) == int(tick.text) - carriers[0]
+    return carriers
+
+
 class Pictures(Case):
     def test_every_carrier_of_a_slot(self):
-        for mode, size, cell, slot in ((0, 2048, 5, 3), (1, 2048, 69, 511), (2, 256, 15, 2), (3, 1024, 2351, 1)):
+        slots = [(0, 2048, 5, 3), (1, 2048, 69, 511), (2, 256, 15, 2), (3, 1024, 2351, 1)]
+        slots += [(4, 512, 176, 1), (5, 256, 48, 511), (6, 256, 0, 2), (6, 2048, 2351, 511)]
+        for mode, size, cell, slot in slots:
             root = drawing("slot", mode, size, cell, slot)
             found, told = drawn_slot(root)
             self.assertEqual(found, slot_as_drawn(mode, size, cell, slot, None))
@@ -379,8 +408,24 @@ class Pictures(Case):
         self.assertEqual(list(found.values()).count("subchannel-3"), 48)
         self.assertIn("data of subchannel 3", texts(root))
 
+    def test_a_slot_of_each_shape_of_amc(self):
+        """A subchannel is as many bins of nine carriers by as many symbols as the shape's name says."""
+        for mode, bins, symbols in ((3, 6, 1), (4, 2, 3), (5, 3, 2), (6, 1, 6)):
+            root = drawing("slot", mode, 256, 176, 1, "--subchannel", 0)
+            found, _ = drawn_slot(root)
+            picked = [place for place, name in found.items() if name == "subchannel-0"]
+            pilots = [place for place, name in found.items() if name == "pilot" and place[1] < 20 + 9 * bins]
+            block = {(offset, carrier) for offset in range(symbols) for carrier in range(20, 20 + 9 * bins)}
+            self.assertEqual(sorted(picked + pilots), sorted(block))
+            places = {(offset, (carrier - 20) % 9) for offset, carrier in pilots}
+            self.assertEqual(places, {(offset, 3 * ((symbols + offset) % 3) + 1) for offset in range(symbols)})
+            title = "AMC %dx%d (mode %d), size 256, cell 176, slot 1, subchannel 0 picked out" % (bins, symbols, mode)
+            self.assertEqual(root.find(SVG + "title").text, title)
+
     def test_subchannels(self):
         cases = [(0, 2048, [0, 1, 31], 3, 1), (1, 2048, [7], 0, 69), (2, 512, [9, 9], 4, 7), (3, 1024, [48, 176], 5, 2)]
+        cases += [(4, 256, [0, 7], 511, 0), (5, 512, [2351, 48], 1, 15), (6, 256, [3], 0, 12)]
+        cases += [(6, 2048, [48, 176], 511, 191)]
         for mode, size, cells, slot, subchannel in cases:
             root = drawing("subchannel", mode, size, ",".join(map(str, cells)), slot, subchannel)
             panels = of_class(root, "g", "panel")
@@ -388,8 +433,11 @@ class Pictures(Case):
             points = [reference_places(mode, size, cell, slot, subchannel) for cell in cells]
             for at, (cell, panel, places) in enumerate(zip(cells, panels, points)):
                 marks = of_class(panel, "circle", "point")
-                drawn = [round(float(mark.get("cx")) * size / 1280 - 0.5, 2) for mark in marks]
+                carriers = carrier_axis(panel)
+                self.assertEqual(len(carriers), 64 if mode >= ref.AMC else size)
+                drawn = [float(mark.get("cx")) * len(carriers) / 1280 - 0.5 + carriers[0] for mark in marks]
                 self.assertEqual([round(carrier) for carrier in drawn], [carrier for _, carrier in places])
+                self.assertEqual("DC" in texts(panel), size // 2 in carriers)
                 heights = [float(mark.get("cy")) for mark in marks]
                 self.assertEqual(heights, sorted(heights, reverse=True))
                 self.assertEqual(len({mark.get("fill") for mark in marks}), ref.SLOT_LENGTH[mode])
@@ -398,7 +446,7 @@ class Pictures(Case):
                     others = [
                         (other, its.index(place))
                         for other, its in zip(cells[:at] + cells[at + 1 :], points[:at] + points[at + 1 :])
-                        if place in its and (mode != ref.AMC or its.index(place) == index)
+                        if place in its and (mode < ref.AMC or its.index(place) == index)
                     ]
                     self.assertEqual(mark.get("class") == "point shared", others != [], (cell, index))
                     title = "cell %d, symbol %d, carrier %d: " % (cell, *place)
@@ -417,6 +465,8 @@ class Pictures(Case):
         self.assertEqual(hits, [8, 24, 32])
         self.assertEqual(self.rings(3, 256, "48,176", 0, 3), [hits, hits])
         self.assertEqual(self.rings(3, 2048, "7,7", 511, 31), [list(range(48))] * 2)
+        for mode, subchannel in ((4, 95), (5, 63), (6, 191)):
+            self.assertEqual(self.rings(mode, 2048, "48,176", 511, subchannel), [hits, hits])
         for cells in ((0, 244), (0, 17)):
             count = ref.ofusc_collisions(1024, cells[0], 2, cells[1], 2)[2]
             self.assertEqual([len(ringed) for ringed in self.rings(2, 1024, "%d,%d" % cells, 3, 2)], [count] * 2)
@@ -461,7 +511,8 @@ class Pictures(Case):
             self.assertEqual((done.stdout, done.returncode), (run("picture", "slot", 2, 256, 0, 0).stdout, 0))
 
     def test_refusals(self):
-        self.refused(1, "picture slot 4 2048 0 0")
+        self.refused(1, "picture slot 7 2048 0 0")
+        self.refused(5, "picture slot 4 2048 0 0 --subchannel 96")
         self.refused(4, "picture slot 0 2048 0 -1 --subchannel -1")
         self.refused(5, "picture slot 0 2048 0 0 --subchannel 60")
         self.refused(3, "picture subchannel 0 2048 0,32 0 1")
@@ -494,15 +545,16 @@ class Usage(Case):
         text = run("--help").stdout.decode()
         for word in "place locate collisions plan show picture refused".split():
             self.assertIn(word, text)
-        for words in ("PUSC downlink", "PUSC uplink", "optional FUSC", "AMC", "256 512 1024 2048", "0..2351"):
+        for words in ("PUSC downlink", "PUSC uplink", "optional FUSC", "AMC 6x1", "256 512 1024 2048", "0..2351"):
             self.assertIn(words, text)
 
     def test_ranges_of_the_help(self):
         row = r"^  (\d)  ([\w ]+?)  +([\d ]+?)  +0\.\.(\S+) +0\.\.(\S+) +(\d)$"
         rows = re.findall(row, command_line.RANGES, re.MULTILINE)
-        self.assertEqual([int(row[0]) for row in rows], [0, 1, 2, 3])
+        self.assertEqual([int(row[0]) for row in rows], list(range(7)))
         for row in rows:
             mode, sizes = int(row[0]), list(map(int, row[2].split()))
+            self.assertEqual(row[1], refusals.MODES[mode].name)
             self.assertEqual((sizes, int(row[5])), (ref.sizes(mode), ref.SLOT_LENGTH[mode]))
             for size in sizes:
                 last = [eval(formula, {"N": size // 64}) for formula in row[3:5]]

@@ -32,7 +32,7 @@ try:
 except ImportError:
     numpy = None
 
-SETUPS = [(mode, size) for mode in range(4) for size in ref.sizes(mode)]
+SETUPS = [(mode, size) for mode in range(7) for size in ref.sizes(mode)]
 MOST = 2**32 - 1
 HUGE = 10**40
 # Integers that no field takes.
@@ -123,6 +123,26 @@ class Map(unittest.TestCase):
         self.assertEqual(bp.locate(0, 2048, 5, 0, 1024).kind, Kind.DC)
         self.assertEqual(bp.locate(1, 2048, 0, 1, 377), (Kind.DATA, 0, 1, 0))
 
+    def test_slot_shapes_of_amc(self):
+        """By hand: v is 0 at index 0 of cell 0, 27 at index 1 of cell 176, 37 at index 47 of cell 2351."""
+        for mode in (bp.AMC, bp.AMC_2X3, bp.AMC_3X2, bp.AMC_1X6):
+            self.assertEqual(bp.place(mode, 256, 0, 0, 0, 0), (0, 20))
+        self.assertEqual(bp.place(bp.AMC, 256, 176, 1, 1, 1), (1, 104))
+        self.assertEqual(bp.place(bp.AMC_2X3, 256, 176, 1, 5, 1), (4, 122))
+        self.assertEqual(bp.place(bp.AMC_3X2, 256, 176, 1, 5, 1), (3, 160))
+        self.assertEqual(bp.place(bp.AMC_1X6, 256, 176, 1, 5, 1), (9, 69))
+        self.assertEqual(bp.place(bp.AMC_1X6, 2048, 2351, 511, 191, 47), (3070, 1886))
+        self.assertEqual(bp.locate(bp.AMC_1X6, 2048, 2351, 3070, 1886), (Kind.DATA, 511, 191, 47))
+        self.assertEqual(bp.locate(bp.AMC_1X6, 2048, 2351, 3071, 1887).kind, Kind.PILOT)
+
+    def test_the_last_of_each_shape_and_the_next(self):
+        for mode, subchannels, symbols in ((3, 32, 1), (4, 96, 3), (5, 64, 2), (6, 192, 6)):
+            found = {bp.place(mode, 2048, 2351, 511, subchannels - 1, index).symbol for index in range(48)}
+            self.assertEqual(found, set(range(511 * symbols, 512 * symbols)))
+            self.assertEqual(refusal(bp.place, mode, 2048, 2351, 511, subchannels, 0), 5)
+            self.assertEqual(bp.locate(mode, 2048, 2351, 512 * symbols - 1, 160)[:3], (Kind.DATA, 511, 0))
+            self.assertEqual(refusal(bp.locate, mode, 2048, 2351, 512 * symbols, 160), 4)
+
     def test_answers_are_plain_numbers(self):
         for value in (*bp.place(2, 1024, 17, 0, 0, 0), *bp.locate(2, 1024, 17, 0, 87)[1:]):
             self.assertIs(type(value), int)
@@ -148,6 +168,15 @@ class Collisions(unittest.TestCase):
             cells = (rng.randrange(2352), rng.randrange(2352))
             _, hits, count = ref.amc_collisions(*cells)
             self.assertEqual(bp.amc_collisions(*cells), (tuple(hits), count), cells)
+
+    def test_amc_is_where_both_cells_place_an_index(self):
+        """In every shape and size."""
+        rng = random.Random(10)
+        for mode, size in SETUPS:
+            for cells in ((48, 176), rng.sample(range(2352), 2), rng.sample(range(2352), 2)) if mode >= ref.AMC else ():
+                slot, subchannel = rng.randrange(512), rng.randrange(ref.subchannels(mode, size))
+                one, other = ([bp.place(mode, size, cell, slot, subchannel, j) for j in range(48)] for cell in cells)
+                self.assertEqual(bp.amc_collisions(*cells).hits, tuple(a == b for a, b in zip(one, other)))
 
     def test_known_points(self):
         answer = bp.ofusc_collisions(2048, 0, 2, 1010, 0)
@@ -182,7 +211,7 @@ def calls_of(mode, size):
     cells, subs = ref.cells(mode, size), ref.subchannels(mode, size)
     symbols = 512 * ref.SLOT_LENGTH[mode]
     points, grid = 96 * subs, ref.grid_floats(mode, size)
-    setup, past = (mode, size, cells - 1), (4, size + 1, cells)
+    setup, past = (mode, size, cells - 1), (7, size + 1, cells)
     yield bp.place, ref.place_refusal, (*setup, 511, subs - 1, 47), (*past, 512, subs, 48)
     yield bp.locate, ref.locate_refusal, (*setup, symbols - 1, size - 1), (*past, symbols, size)
     yield fill_with, ref.buffers_refusal, (*setup, 511, points, grid), (*past, 512, points + 1, grid + 1)
@@ -299,13 +328,24 @@ class Refusals(unittest.TestCase):
                     self.assertEqual(told, "%s of %d floats, not %d" % (name, past[at], good[at]))
                     continue
                 self.assertTrue(told.startswith("%s %d is not one of " % (name, past[at])), told)
-                accepted = {"mode": "0, 1, 2, 3", "size": ", ".join(map(str, ref.sizes(mode)))}
+                accepted = {"mode": "0 to 6", "size": ", ".join(map(str, ref.sizes(mode)))}
                 self.assertEqual(told.split(": ")[1], accepted.get(name, "0 to %d" % good[at]))
 
     def test_words_of_both_lengths(self):
         self.assertEqual(words(fill_with, 2, 1024, 0, 0, 95, 2048), "points of 95 floats, not 1536")
         self.assertEqual(words(empty_with, 2, 1024, 0, 0, 1536, 0), "grid of 0 floats, not 2048")
         self.assertEqual(words(look_with, 0, 2048, 0, 0, 5, 0), "grid of 5 floats, not 8192")
+        self.assertEqual(words(fill_with, 6, 2048, 0, 0, 3072, 4096), "points of 3072 floats, not 18432")
+        self.assertEqual(words(look_with, 6, 2048, 0, 3071, 4096, 0), "grid of 4096 floats, not 24576")
+
+    def test_words_of_the_shapes(self):
+        self.assertEqual(words(bp.place, 7, 2048, 0, 0, 0, 0), "mode 7 is not one of the map's: 0 to 6")
+        last = "subchannel 192 is not one of mode 6's at size 2048: 0 to 191"
+        self.assertEqual(words(bp.place, 6, 2048, 0, 0, 192, 0), last)
+        self.assertEqual(words(bp.locate, 6, 256, 0, 3072, 0), "symbol 3072 is not one of mode 6's: 0 to 3071")
+        self.assertEqual(words(bp.place, 4, 128, 0, 0, 0, 0), "size 128 is not one of mode 4's: 256, 512, 1024, 2048")
+        self.assertEqual(words(bp.place, 5, 256, 2352, 0, 0, 0), "cell 2352 is not one of mode 5's: 0 to 2351")
+        self.assertEqual(words(bp.amc_collisions, 2352, 0), "cell_a 2352 is not one of AMC's: 0 to 2351")
 
     def test_words_of_plans(self):
         def read(text):
@@ -323,15 +363,19 @@ class Refusals(unittest.TestCase):
         self.assertEqual(read("09"), "count 9 is not one of a plan's: 1 to 8")
         self.assertEqual(read("018001"), "size 128 is not one of a plan's: 256, 512, 1024, 2048")
         self.assertEqual(read("028008 020001 000001"), "zone 2: size 1024 is not one of mode 0's: 2048")
-        self.assertEqual(read("028008 020001 010001"), "zone 2: mode 1 is not one of a plan's: 0, 2, 3")
+        self.assertEqual(read("028008 020001 010001"), "zone 2: mode 1 is not one of a plan's: 0, 2, 3, 4, 5, 6")
+        self.assertEqual(write(1, 256, (7, 0, 1)), "zone 1: mode 7 is not one of a plan's: 0, 2, 3, 4, 5, 6")
         self.assertEqual(read("018008 02 8002 01"), "zone 1: cell 256 is not one of mode 2's at size 1024: 0 to 255")
         self.assertEqual(read("018008 02 00 8104"), "zone 1: slots 513 is not one of a zone's: 1 to 512")
         first = "zone 1: mode %d is first at size 2048, where only mode 0 is accepted"
         self.assertEqual(read("018010 020001"), first % 2)
         self.assertEqual(write(1, 2048, (3, 5, 1)), first % 3)
         self.assertEqual(write(1, 2048, (0, 32, 1)), "zone 1: cell 32 is not one of mode 0's: 0 to 31")
-        third = "zone 3: mode 2 follows mode 3, after which only mode 3 is accepted"
-        self.assertEqual(write(3, 1024, (2, 0, 1), (3, 0, 1), (2, 0, 1)), third)
+        third = "zone 3: mode %d follows mode %d, after which only modes 3 to 6 are accepted"
+        for mode in range(3, 7):
+            self.assertEqual(write(1, 2048, (mode, 0, 1)), first % mode)
+            self.assertEqual(write(3, 1024, (2, 0, 1), (mode, 0, 1), (2, 0, 1)), third % (2, mode))
+            self.assertEqual(write(3, 2048, (0, 0, 1), (mode, 0, 1), (0, 0, 1)), third % (0, mode))
         self.assertEqual(read(EXAMPLE.hex() + "00" * 500), "510 bytes are given, and the plan ends after 10")
         self.assertEqual(write(-1, 1024), "count -1 is not one of a plan's: 1 to 8")
         place = "place 3 is 0,%s,1, where past the count of 1 only zeros are accepted"
@@ -368,7 +412,7 @@ class Refusals(unittest.TestCase):
             return refusal(bp.plan_read, bytes.fromhex(text))
 
         numbers = [
-            refusal(bp.place, 4, 1024, 0, 0, 0, 0),
+            refusal(bp.place, 7, 1024, 0, 0, 0, 0),
             refusal(bp.place, 2, 128, 0, 0, 0, 0),
             refusal(bp.place, 2, 1024, 256, 0, 0, 0),
             refusal(bp.place, 2, 1024, 0, 512, 0, 0),
@@ -459,12 +503,13 @@ class Grids(unittest.TestCase):
 class Lengths(unittest.TestCase):
     def test_as_the_reference(self):
         sizes = [*range(0, 4200), 2**16 + 256, 2**31, 2**32 - 1, 2**32 + 256, -256, HUGE]
-        for mode in [*range(6), 256, 2**16, 2**32 - 1, 2**32, -1, HUGE]:
+        for mode in [*range(9), 256, 2**16, 2**32 - 1, 2**32, -1, HUGE]:
             for size in sizes:
                 setup = as_engine(mode), as_engine(size)
                 lengths = ref.points_len(*setup), ref.grid_len(*setup)
                 self.assertEqual((bp.points_len(mode, size), bp.grid_len(mode, size)), lengths, (mode, size))
         self.assertEqual(bp.points_len(mode=1, size=2048), 6720)
+        self.assertEqual((bp.points_len(bp.AMC_1X6, 2048), bp.grid_len(bp.AMC_1X6, 2048)), (18432, 24576))
         for value in (1.0, "1", None):
             for call in (bp.points_len, bp.grid_len):
                 self.assertRaises(TypeError, call, value, 2048)
@@ -687,7 +732,8 @@ def random_plan(rng):
     size = rng.choice(ref.BIN_SIZES + [128])
     zones = []
     for _ in range(rng.choice([1, 2, 3, 8])):
-        mode = rng.choice([0, 2, 3, 3, 1] if rng.random() < 0.2 else [0] if not zones and size == 2048 else [2, 3])
+        modes = [0] if not zones and size == 2048 else [2, 3, 4, 5, 6]
+        mode = rng.choice(range(8) if rng.random() < 0.2 else modes)
         cell = rng.choice([0, 5, 31, 31, 32] if mode == 0 else [0, 15, 16, 255, 1023, 2351, 2352, MOST])
         zones.append((mode, cell, rng.choice([1, 3, 512, 1, 3, 512, 0, 513])))
     return size, zones
@@ -726,7 +772,7 @@ class Plans(unittest.TestCase):
         for _ in range(4000):
             data = bytearray(rng.choice([EXAMPLE, LARGEST, bytes.fromhex("01801000000C")]))
             for _ in range(rng.randrange(3)):
-                data[rng.randrange(len(data))] = rng.choice([0, 1, 2, 3, 8, 0x80, 0x81, rng.randrange(256)])
+                data[rng.randrange(len(data))] = rng.choice([*range(9), 0x80, 0x81, rng.randrange(256)])
             data = data[: rng.randrange(len(data) + 1)] if rng.random() < 0.2 else data
             self.assertEqual(read_as_module(data), read_as_reference(data), data.hex())
 
@@ -745,6 +791,18 @@ class Plans(unittest.TestCase):
             self.assertEqual((*answer, list(dest)), after)
             met.add(answer[0])
         self.assertEqual(met, {0, 1, 2, 3, 12, 13, 14, 16})
+
+    def test_every_order_of_two_zones(self):
+        """Only AMC, modes 3 to 6, follows AMC; at 2048 mode 0 is first."""
+        for size in ref.BIN_SIZES:
+            first, modes = ([(0, 5, 1)], [0, 2, 3, 4, 5, 6]) if size == 2048 else ([], [2, 3, 4, 5, 6])
+            for one, other in itertools.product(modes, modes):
+                zones = first + [(one, 0, 1), (other, 1, 512)]
+                number = refusal(bp.plan_bytes, size, zones)
+                self.assertEqual(number, 14 if one >= 3 > other else 0, (size, zones))
+                if number == 0:
+                    self.assertEqual(bp.plan_read(bp.plan_bytes(size, zones)), (size, tuple(zones)))
+        self.assertEqual([refusal(bp.plan_bytes, 2048, [(mode, 0, 1)]) for mode in range(8)], [0, 1] + [14] * 5 + [1])
 
     def test_integers_out_of_range(self):
         for value in NEVER:
@@ -827,7 +885,8 @@ class Loading(unittest.TestCase):
         exec("from bellpulsar import *", found)
         calls = [name for name, thing in vars(bp).items() if getattr(thing, "__module__", "") == "bellpulsar"]
         public = {name for name in calls if not name.startswith("_")}
-        modes = {"PUSC_DL", "PUSC_UL", "OFUSC", "AMC"}
+        modes = {"PUSC_DL", "PUSC_UL", "OFUSC", "AMC", "AMC_2X3", "AMC_3X2", "AMC_1X6"}
+        self.assertEqual(sorted(getattr(bp, name) for name in modes), list(range(7)))
         self.assertEqual(set(found) - {"__builtins__"}, public | modes | {"QUESTIONS"})
         self.assertEqual(len(bp.__all__), len(set(bp.__all__)))
 
