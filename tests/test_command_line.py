@@ -434,7 +434,7 @@ class Pictures(Case):
             for at, (cell, panel, places) in enumerate(zip(cells, panels, points)):
                 marks = of_class(panel, "circle", "point")
                 carriers = carrier_axis(panel)
-                self.assertEqual(len(carriers), 64 if mode >= ref.AMC else size)
+                self.assertEqual(len(carriers), {3: 64, 4: 32, 5: 32, 6: 16}.get(mode, size))
                 drawn = [float(mark.get("cx")) * len(carriers) / 1280 - 0.5 + carriers[0] for mark in marks]
                 self.assertEqual([round(carrier) for carrier in drawn], [carrier for _, carrier in places])
                 self.assertEqual("DC" in texts(panel), size // 2 in carriers)

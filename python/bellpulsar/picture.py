@@ -249,7 +249,8 @@ PANEL = 48 * INDEX
 BETWEEN = 58
 SYMBOL_COLOURS = ("#1f77b4", "#e07b00", "#2a9134", "#b0369a", "#7a5230", "#00a5a5")
 INDEX_TICKS = (0, 12, 24, 36, 47)
-CLOSE = 64  # carriers: where all points lie within as many, a panel has no more
+CLOSE = (16, 32, 64)  # carriers: a panel has no more where all points lie within as many
+LABEL = 140  # width of a symbol's label
 
 
 def places_of(mode, size, cell, slot, subchannel):
@@ -264,11 +265,10 @@ def index_height(index):
 def window(size, points):
     """The carriers that every panel has: all, or those around the points."""
     carriers = [place.carrier for places in points for place in places]
-    if max(carriers) - min(carriers) >= CLOSE:
-        return range(size)
-    first = (min(carriers) + max(carriers) + 1 - CLOSE) // 2
-    first = min(max(first, 0), size - CLOSE)
-    return range(first, first + CLOSE)
+    lowest, highest = min(carriers), max(carriers)
+    wide = next(wide for wide in (*CLOSE, size) if highest - lowest < wide)
+    first = min(max((lowest + highest + 1 - wide) // 2, 0), size - wide)
+    return range(first, first + wide)
 
 
 class Mark(NamedTuple):
@@ -342,10 +342,10 @@ RINGED_AMC = "where another cell of the picture puts the same index"
 def subchannel_legend(symbols, ringed):
     parts = []
     for at, symbol in enumerate(symbols):
-        parts += [element("circle", cx=130 * at + 6, cy=0, r=5, fill=SYMBOL_COLOURS[at])]
-        parts += [text(130 * at + 18, 4, "point, symbol %d" % symbol)]
+        parts += [element("circle", cx=LABEL * at + 6, cy=0, r=5, fill=SYMBOL_COLOURS[at])]
+        parts += [text(LABEL * at + 18, 4, "point, symbol %d" % symbol)]
     if ringed:
-        x = 130 * len(symbols)
+        x = LABEL * len(symbols)
         parts += [element("circle", cx=x + 6, cy=0, r=5, fill="none", stroke="#000000", stroke_width=2)]
         parts += [text(x + 18, 4, ringed)]
     return parts
