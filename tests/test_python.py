@@ -172,8 +172,8 @@ class Collisions(unittest.TestCase):
     def test_amc_is_where_both_cells_place_an_index(self):
         """In every shape and size."""
         rng = random.Random(10)
-        for mode, size in SETUPS:
-            for cells in ((48, 176), rng.sample(range(2352), 2), rng.sample(range(2352), 2)) if mode >= ref.AMC else ():
+        for mode, size in (setup for setup in SETUPS if setup[0] >= ref.AMC):
+            for cells in ((48, 176), rng.sample(range(2352), 2), rng.sample(range(2352), 2)):
                 slot, subchannel = rng.randrange(512), rng.randrange(ref.subchannels(mode, size))
                 one, other = ([bp.place(mode, size, cell, slot, subchannel, j) for j in range(48)] for cell in cells)
                 self.assertEqual(bp.amc_collisions(*cells).hits, tuple(a == b for a, b in zip(one, other)))

@@ -31,8 +31,8 @@ modes and their ranges (N is SIZE / 64):
   6  AMC 1x6          256 512 1024 2048     0..2351   0..6*N-1    6
 
 SIZE is the FFT size, CELL the permutation base. SLOT is 0..511, INDEX 0..47, CARRIER 0..SIZE-1.
-AMC has four slot shapes, bins x symbols; a bin is nine carriers in a row, of which one is a pilot.
 SYMBOL counts in the zone: slot times symbols a slot, plus the offset in the slot.
+AMC has four slot shapes, bins x symbols; a bin is nine carriers in a row, of which one is a pilot.
 Any number may be given: the engine refuses what is out of range."""
 
 PLAN_RULES = """\
