@@ -98,7 +98,7 @@ enum bp_refusal {
     BP_REFUSED_FORM = 11,       /* a value goes on after its third group, or is not in its shortest form */
     BP_REFUSED_COUNT = 12,      /* a plan's count of zones is not 1 to 8, or (writing) a place past it is not all zero */
     BP_REFUSED_ZONE_SLOTS = 13, /* a zone's slots are not 1 to 512 */
-    BP_REFUSED_ORDER = 14,      /* at size 2048 the first zone is not mode 0; what follows AMC is not AMC (modes 3 to 6) */
+    BP_REFUSED_ORDER = 14,      /* at size 2048 the first zone is not mode 0; another mode follows AMC (modes 3 to 6) */
     BP_REFUSED_LEFT_OVER = 15,  /* bytes are left over behind a plan */
     BP_REFUSED_DEST_LEN = 16    /* the destination is too short for the plan */
 };
