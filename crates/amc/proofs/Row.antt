@@ -43,8 +43,8 @@ sequence-place-lt cell i hc hi =
 
 -- the digits of P's entries
 pub record Digits (x : ℕ) : Type 0 where
-  pub high-lt : x / 10 < 7
-  pub low-lt : x % 10 < 7
+  pub high-lt : x / 16 < 7
+  pub low-lt : x % 16 < 7
   pub above : 0 < x
 
 pub entry-digits : (i : ℕ) → i < 48 → Digits (entry sequenceDigits i)
@@ -55,7 +55,7 @@ entry-digits i h =
     record { high-lt = omega (arith, high, p .proper .high-lt); low-lt = omega (arith, low, p .proper .low-lt); above = pos-of-ne-zero (λ e. p .nonzero (omega (arith, high, low, e))) }
 
 -- no entry of P is zero, so a sum that is zero has an offset that is not
-pub offset-above : (h l x : ℕ) → h < 7 → l < 7 → x / 10 < 7 → x % 10 < 7 → 0 < x → (x / 10 + h) % 7 * 7 + (x % 10 + l) % 7 ≡ 0 → 0 < h * 7 + l
+pub offset-above : (h l x : ℕ) → h < 7 → l < 7 → x / 16 < 7 → x % 16 < 7 → 0 < x → (x / 16 + h) % 7 * 7 + (x % 16 + l) % 7 ≡ 0 → 0 < h * 7 + l
 offset-above h l x hh hl xh xl above e = omega arith
 
 -- the pilots of a symbol go by its number modulo 3

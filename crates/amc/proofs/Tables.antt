@@ -12,10 +12,10 @@ use Rattle.amc.proofs.Digit.{Proper, same-number, number-lt}
 
 -- an entry as document 004 prints it, two twoDigits
 abbrev pub printed : ℕ → Element
-printed i = element (entry sequenceDigits i / 10) (entry sequenceDigits i % 10)
+printed i = element (entry sequenceDigits i / 16) (entry sequenceDigits i % 16)
 
 -- document 004's list is the powers of 22, and no more
-pub printed-list : sequenceDigits ≡ tabulate 48 (λ i. sequence i .high * 10 + sequence i .low)
+pub printed-list : sequenceDigits ≡ tabulate 48 (λ i. sequence i .high * 16 + sequence i .low)
 unfolding tabulate times sequence
 printed-list = refl
 

@@ -2,9 +2,9 @@
 use mathlib.Core.List.{List, [], _∷_}
 use Prim.Native.Nat.{ℕ}
 
--- Document 004, "Basic sequence defined in GF(7²)", in hepta-notation: 22 is the pair of twoDigits 2 and 2.
+-- Document 004, "Basic sequence defined in GF(7²)", in hepta-notation: 22 is the pair of digits 2 and 2. Here they are those of a hexadecimal number.
 abbrev pub sequenceDigits : List ℕ
-sequenceDigits = 1 ∷ 22 ∷ 46 ∷ 52 ∷ 42 ∷ 41 ∷ 26 ∷ 50 ∷ 5 ∷ 33 ∷ 62 ∷ 43 ∷ 63 ∷ 65 ∷ 32 ∷ 40 ∷ 4 ∷ 11 ∷ 23 ∷ 61 ∷ 21 ∷ 24 ∷ 13 ∷ 60 ∷ 6 ∷ 55 ∷ 31 ∷ 25 ∷ 35 ∷ 36 ∷ 51 ∷ 20 ∷ 2 ∷ 44 ∷ 15 ∷ 34 ∷ 14 ∷ 12 ∷ 45 ∷ 30 ∷ 3 ∷ 66 ∷ 54 ∷ 16 ∷ 56 ∷ 53 ∷ 64 ∷ 10 ∷ []
+sequenceDigits = 0x01 ∷ 0x22 ∷ 0x46 ∷ 0x52 ∷ 0x42 ∷ 0x41 ∷ 0x26 ∷ 0x50 ∷ 0x05 ∷ 0x33 ∷ 0x62 ∷ 0x43 ∷ 0x63 ∷ 0x65 ∷ 0x32 ∷ 0x40 ∷ 0x04 ∷ 0x11 ∷ 0x23 ∷ 0x61 ∷ 0x21 ∷ 0x24 ∷ 0x13 ∷ 0x60 ∷ 0x06 ∷ 0x55 ∷ 0x31 ∷ 0x25 ∷ 0x35 ∷ 0x36 ∷ 0x51 ∷ 0x20 ∷ 0x02 ∷ 0x44 ∷ 0x15 ∷ 0x34 ∷ 0x14 ∷ 0x12 ∷ 0x45 ∷ 0x30 ∷ 0x03 ∷ 0x66 ∷ 0x54 ∷ 0x16 ∷ 0x56 ∷ 0x53 ∷ 0x64 ∷ 0x10 ∷ []
 
 -- The reverse: where in P an element stands, by its number in base seven; the zero element is not there
 abbrev pub positions : List ℕ

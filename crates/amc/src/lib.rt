@@ -25,56 +25,56 @@ struct TrafficPlace {
     place: u16,
 }
 
-// The sequence P as document 004 prints it: the digits of 22 are 2 and 2.
+// The sequence P as document 004 prints it: the digits of 22 are 2 and 2, those of the hexadecimal number too.
 const SEQUENCE: [u8; 48] = [
-    1,
-    22,
-    46,
-    52,
-    42,
-    41,
-    26,
-    50,
-    5,
-    33,
-    62,
-    43,
-    63,
-    65,
-    32,
-    40,
-    4,
-    11,
-    23,
-    61,
-    21,
-    24,
-    13,
-    60,
-    6,
-    55,
-    31,
-    25,
-    35,
-    36,
-    51,
-    20,
-    2,
-    44,
-    15,
-    34,
-    14,
-    12,
-    45,
-    30,
-    3,
-    66,
-    54,
-    16,
-    56,
-    53,
-    64,
-    10,
+    0x01,
+    0x22,
+    0x46,
+    0x52,
+    0x42,
+    0x41,
+    0x26,
+    0x50,
+    0x05,
+    0x33,
+    0x62,
+    0x43,
+    0x63,
+    0x65,
+    0x32,
+    0x40,
+    0x04,
+    0x11,
+    0x23,
+    0x61,
+    0x21,
+    0x24,
+    0x13,
+    0x60,
+    0x06,
+    0x55,
+    0x31,
+    0x25,
+    0x35,
+    0x36,
+    0x51,
+    0x20,
+    0x02,
+    0x44,
+    0x15,
+    0x34,
+    0x14,
+    0x12,
+    0x45,
+    0x30,
+    0x03,
+    0x66,
+    0x54,
+    0x16,
+    0x56,
+    0x53,
+    0x64,
+    0x10,
 ];
 
 // The reverse: where in P an element stands, by its number in base seven.
@@ -141,10 +141,10 @@ fn digit_sum(a: u16, b: u16) -> u16
 // v of the entry x of P, two twoDigits, under the offset whose twoDigits are high and low: the sum, or the offset itself where
 // that sum is zero.
 fn sum_place(high: u16, low: u16, x: u16) -> u16
-    requires { ⌜ (high < 7) × (low < 7) × (x / 10 < 7) × (x % 10 < 7) × (0 < x) ⌝ }
-    ensures { λ r. ⌜ r ≡ sumPlace (element high low) (element (x / 10) (x % 10)) ⌝ }
+    requires { ⌜ (high < 7) × (low < 7) × (x / 16 < 7) × (x % 16 < 7) × (0 < x) ⌝ }
+    ensures { λ r. ⌜ r ≡ sumPlace (element high low) (element (x / 16) (x % 16)) ⌝ }
 {
-    let sum = digit_sum(x / 10, high) * 7 + digit_sum(x % 10, low);
+    let sum = digit_sum(x / 16, high) * 7 + digit_sum(x % 16, low);
     if sum == 0 {
         high * 7 + low - 1
     } else {
@@ -237,19 +237,19 @@ pub fn address(shape: Shape, cell: usize, offset: usize, d: usize) -> Address
     }
 }
 
-// v of each entry of P, once for all subchannels.
-pub fn table(cell: usize) -> [u16; 188]
+// v of each entry of P.
+pub fn places(cell: usize) -> [u16; 48]
     requires { ⌜ cell < 2352 ⌝ }
     ensures { λ r. ⌜ Starts 48 (sequencePlace cell) r ⌝ }
 {
     let p = SEQUENCE;
-    let mut table = [0; 188];
+    let mut places = [0; 48];
     let mut i = 0;
     while i < 48 {
-        table[i] = sequence_place(&p, cell, i);
+        places[i] = sequence_place(&p, cell, i);
         i += 1;
     }
-    table
+    places
 }
 
 // The carrier of traffic place v of subchannel 0, in a slot whose first symbol has the number `first`.
@@ -263,11 +263,11 @@ fn first_carrier(shape: Shape, n: u16, first: u16, v: u16) -> u16
 }
 
 // The carriers of P's entries in subchannel 0, once for all subchannels.
-pub fn carrier_table(shape: Shape, n: usize, cell: usize) -> [u16; 188]
+pub fn table(shape: Shape, n: usize, cell: usize) -> [u16; 188]
     requires { ⌜ IsShape shape × EvenWidth n × (cell < 2352) ⌝ }
     ensures { λ r. ⌜ Starts 144 (tableEntry shape n cell) r ⌝ }
 {
-    let places = table(cell);
+    let places = places(cell);
     let mut table = [0; 188];
     let mut i = 0;
     while i < 48 {

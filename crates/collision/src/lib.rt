@@ -54,8 +54,8 @@ fn amc_hits(cell_a: usize, cell_b: usize) -> Collisions
     requires { ⌜ («cell_a» < 2352) × («cell_b» < 2352) ⌝ }
     ensures { λ r. ⌜ r ≡ answerOf (accepted (amcHit «cell_a» «cell_b»)) ⌝ }
 {
-    let places_a = amc::table(cell_a);
-    let places_b = amc::table(cell_b);
+    let places_a = amc::places(cell_a);
+    let places_b = amc::places(cell_b);
     let mut hits = [false; 48];
     let mut count = 0;
     let mut j = 0;

@@ -31,7 +31,7 @@ pub fn table(setup: Setup) -> [u16; 188]
     if setup.mode == 2 {
         return ofusc::table(map::width(setup), setup.cell);
     }
-    amc::carrier_table(map::shape(setup.mode), map::width(setup), setup.cell)
+    amc::table(map::shape(setup.mode), map::width(setup), setup.cell)
 }
 
 // The place in a subchannel's row at which index 0 stands; the others follow, going on at the row's start.

@@ -21,8 +21,8 @@ unfolding amcHit
 loop-again c =
     step _ _ _ _ _ (c .before .loop .inv) (c .loop-test .taken)
     (ap₂ eqb
-    (c .before .before .before .table .ensures ((c .before .loop .j + c .before .before .before .before .args .cell-a % 48) % 48) (omega arith) ∙ traffic-at (c .before .before .before .before .args .cell-a) (c .before .loop .j))
-    (c .before .before .table2 .ensures ((c .before .loop .j + c .before .before .before .before .args .cell-b % 48) % 48) (omega arith) ∙ traffic-at (c .before .before .before .before .args .cell-b) (c .before .loop .j)))
+    (c .before .before .before .places .ensures ((c .before .loop .j + c .before .before .before .before .args .cell-a % 48) % 48) (omega arith) ∙ traffic-at (c .before .before .before .before .args .cell-a) (c .before .loop .j))
+    (c .before .before .places2 .ensures ((c .before .loop .j + c .before .before .before .before .args .cell-b % 48) % 48) (omega arith) ∙ traffic-at (c .before .before .before .before .args .cell-b) (c .before .loop .j)))
 
 pub amc-hits-spec : {M : Type 1} → statement M
 amc-hits-spec =

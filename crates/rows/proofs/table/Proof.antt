@@ -27,18 +27,18 @@ table-requires-3 c κs =
 returns-3 : tie.Need-returns-3
 returns-3 c = to-table (c .table3 .result) (as-2 (c .before .before .if3 .taken)) (rw (c .before .width .ensures) at (c .table3 .ensures))
 
-carrier-table-requires : tie.Need-carrier-table-requires
-carrier-table-requires c κs =
+table-requires-4 : tie.Need-table-requires-4
+table-requires-4 c κs =
     table-asks (c .before .before .before .before .before .before .before .before .pre) (search (amc-mode, needs)) _ (c .before .shape .ensures) _ (c .width2 .ensures)
 
 returns-4 : tie.Need-returns-4
 returns-4 c =
-    to-table (c .carrier-table .result) (as-amc (search (amc-mode, needs)))
-    (rw (c .before .before .shape .ensures, c .before .width2 .ensures) at (c .carrier-table .ensures))
+    to-table (c .table4 .result) (as-amc (search (amc-mode, needs)))
+    (rw (c .before .before .shape .ensures, c .before .width2 .ensures) at (c .table4 .ensures))
 
 pub table-spec : {M : Type 1} → statement M
 table-spec =
     tie.close
     (tie.spec
     table-requires returns table-requires-2 returns-2 (λ c κs. search needs) table-requires-3 returns-3
-    (λ c κs. search needs) (λ c κs. search needs) carrier-table-requires returns-4)
+    (λ c κs. search needs) (λ c κs. search needs) table-requires-4 returns-4)
