@@ -1,4 +1,4 @@
--- Elements with twoDigits below 7: their numbers in base seven, and addition, which is a rotation of each digit.
+-- Elements with digits below 7: their numbers in base seven, and addition, which is a rotation of each digit.
 use mathlib.Core.Path.{_≡_, sym, ap, _∙_}
 use Prim.Native.Nat.{ℕ, _+_, _/_, _%_, _<_}
 use native.Mathlib.Omega.{arith}
@@ -6,7 +6,7 @@ use lib.Dec.{lit<}
 use Rattle.base.proofs.Perm.{rotation}
 use Rattle.amc.specs.Element.{Element, element, baseSeven, twoDigits, add, subtract}
 
--- both twoDigits are 0..6
+-- both digits are 0..6
 pub record Proper (e : Element) : Type 0 where
   pub high-lt : e .high < 7
   pub low-lt : e .low < 7

@@ -7,16 +7,16 @@ use lib.Arith.{digits-div, digits-mod, digits-lt}
 use lib.Dec.{lit<}
 use Rattle.base.specs.Steps.{entry, unrotate}
 use Rattle.base.proofs.Perm.{Perm, rotation}
-use Rattle.carriers.specs.declared.DataPlace.{DataPlace}
+use Rattle.carriers.specs.declared.DataNumber.{DataNumber}
 use Rattle.carriers.specs.Law.{NumberLaw}
 use Rattle.amc.specs.declared.Shape.{Shape}
 use Rattle.amc.specs.Table.{positions}
 use Rattle.amc.specs.Element.{Element, baseSeven, twoDigits, add, subtract, sequence}
-use Rattle.amc.specs.Map.{off, zeroRule, sumOf, elementOf, traffic, indexOf, trafficPlace, dataPlace, addressOf}
+use Rattle.amc.specs.Map.{off, zeroRule, sumOf, elementOf, traffic, indexOf, trafficNumber, dataNumber, addressOf}
 use Rattle.amc.specs.Model.{IsShape}
 use Rattle.amc.proofs.Digit.{Proper, number-lt, digits-proper, digits-number, add-proper, subtract-proper, subtract-add, add-subtract, added-differs, subtracted-differs}
 use Rattle.amc.proofs.Tables.{powers, position-lt, at-position}
-use Rattle.amc.proofs.Parts.{bins-pos, symbols-six, by-six, rest-six}
+use Rattle.amc.proofs.Parts.{bins-pos, symbols-six}
 use Rattle.amc.proofs.ZeroRule.{sum-back, rule-nonzero, rule-proper, rule-back, sum-not-off, sum-proper}
 
 module _ (cell : ℕ) (range : cell < 2352) where
@@ -115,12 +115,12 @@ module _ (cell : ℕ) (range : cell < 2352) where
   traffic-perm = record { to-lt = λ j h. traffic-lt j; from-lt = λ v h. omega arith; back = index-traffic; forth = traffic-index }
 
 -- the bin of a data number and its place there, which are the subchannel's and v's
-pub bin-of : (shape : Shape) (a v : ℕ) → trafficPlace shape a v .number / 8 ≡ a * shape .bins + v / 8 % shape .bins
-unfolding trafficPlace
+pub bin-of : (shape : Shape) (a v : ℕ) → trafficNumber shape a v .number / 8 ≡ a * shape .bins + v / 8 % shape .bins
+unfolding trafficNumber
 bin-of shape a v = omega arith
 
-pub place-of : (shape : Shape) (a v : ℕ) → trafficPlace shape a v .number % 8 ≡ v % 8
-unfolding trafficPlace
+pub place-of : (shape : Shape) (a v : ℕ) → trafficNumber shape a v .number % 8 ≡ v % 8
+unfolding trafficNumber
 place-of shape a v = omega arith
 
 -- THE SLOT IS PARTITIONED, whatever its shape: the six bins of a subchannel are symbol and bin as two digits, and the bins of a symbol are subchannel and bin as two digits.
@@ -148,29 +148,25 @@ module _ (shape : Shape) (six : IsShape shape) where
   pub traffic-below : (o d : ℕ) → o < t → (o * b + d / 8 % b) * 8 + d % 8 < 48
   traffic-below o d h = omega (arith, rw (symbols-six shape six) at (digits-lt h (rest-lt (d / 8))))
 
-  -- as the code puts it together
-  pub index-below : (o d : ℕ) → o < t → (o * b + (d / 8 - d / 8 * t / 6 * b)) * 8 + d % 8 < 48
-  index-below o d h = rw (rest-six shape six (d / 8) (d / 8 * t / 6) (by-six shape six (d / 8))) (traffic-below o d h)
-
   module _ (a v : ℕ) where
-    abbrev its : DataPlace
-    its = trafficPlace shape a v
+    abbrev its : DataNumber
+    its = trafficNumber shape a v
 
     subchannel-of : its .number / 8 / b ≡ a
     subchannel-of = ap (λ (w : ℕ). w / b) (bin-of shape a v) ∙ digits-div a (rest-lt (v / 8))
 
     pub traffic-back : (its .offset * b + its .number / 8 % b) * 8 + its .number % 8 ≡ v
-    unfolding trafficPlace
+    unfolding trafficNumber
     traffic-back =
         let bin : its .number / 8 % b ≡ v / 8 % b = ap (λ (w : ℕ). w % b) (bin-of shape a v) ∙ digits-mod a (rest-lt (v / 8)) in
         omega (arith, bin, place-of shape a v, div-add-mod' (v / 8) b)
 
     pub offset-lt : v < 48 → its .offset < t
-    unfolding trafficPlace
+    unfolding trafficNumber
     offset-lt = offset-below v
 
     pub number-below : (n : ℕ) → a < n * t → its .number < 48 * n
-    unfolding trafficPlace
+    unfolding trafficNumber
     number-below n h = omega (arith, all-bins n, digits-lt h (rest-lt (v / 8)))
 
   -- the digits put together again
@@ -178,8 +174,8 @@ module _ (shape : Shape) (six : IsShape shape) where
     abbrev its-v : ℕ
     its-v = (o * b + d / 8 % b) * 8 + d % 8
 
-    pub place-back : trafficPlace shape (d / 8 / b) its-v ≡ record { offset = o; number = d }
-    unfolding trafficPlace
+    pub place-back : trafficNumber shape (d / 8 / b) its-v ≡ record { offset = o; number = d }
+    unfolding trafficNumber
     place-back =
         let w : its-v / 8 ≡ o * b + d / 8 % b = omega arith in
         let offset : its-v / 8 / b ≡ o = ap (λ (k : ℕ). k / b) w ∙ digits-div o (rest-lt (d / 8)) in
@@ -187,8 +183,8 @@ module _ (shape : Shape) (six : IsShape shape) where
         let number : (d / 8 / b * b + its-v / 8 % b) * 8 + its-v % 8 ≡ d = omega (arith, bin, div-add-mod' (d / 8) b) in
         λ i. record { offset = offset i; number = number i }
 
-  pub law : (cell : ℕ) → cell < 2352 → (n : ℕ) → NumberLaw t (n * t) (48 * n) (dataPlace shape cell) (addressOf shape cell)
-  unfolding dataPlace addressOf
+  pub law : (cell : ℕ) → cell < 2352 → (n : ℕ) → NumberLaw t (n * t) (48 * n) (dataNumber shape cell) (addressOf shape cell)
+  unfolding dataNumber addressOf
   law cell range n =
       record {
         offset-lt = λ a j ha hj. offset-lt a (traffic cell j) (traffic-lt cell range j);
@@ -199,5 +195,5 @@ module _ (shape : Shape) (six : IsShape shape) where
               subchannel-lt = div-lt-iff-lt-mul pos .1 (rw (all-bins n) (omega arith));
               index-lt = traffic-perm cell range .from-lt _ (traffic-below o d ho);
             };
-        forth = λ o d ho hd. ap (trafficPlace shape (d / 8 / b)) (traffic-index cell range _ (traffic-below o d ho)) ∙ place-back o d;
+        forth = λ o d ho hd. ap (trafficNumber shape (d / 8 / b)) (traffic-index cell range _ (traffic-below o d ho)) ∙ place-back o d;
       }

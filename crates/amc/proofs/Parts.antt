@@ -1,7 +1,7 @@
 -- A slot's shape: what follows of its two numbers from their product alone.
 use mathlib.Core.Path.{_≡_, sym, ap, _∙_}
-use Prim.Native.Nat.{ℕ, _-_, _*_, _/_, _%_, _<_, _≤_}
-use native.Mathlib.Nat.{mul-comm, mul-le-mul, pos-of-ne-zero, mul-div-mul-right, mod-eq-sub-div-mul, div-mul-le-self, div-le-self, mod-lt}
+use Prim.Native.Nat.{ℕ, _+_, _-_, _*_, _/_, _%_, _<_, _≤_}
+use native.Mathlib.Nat.{mul-comm, mul-left-comm, mul-le-mul, pos-of-ne-zero, mul-div-mul-right, div-add-mod', div-le-self}
 use native.Mathlib.Omega.{arith}
 use Rattle.amc.specs.declared.Shape.{Shape}
 use Rattle.amc.specs.Model.{IsShape}
@@ -26,23 +26,26 @@ module _ (shape : Shape) (six : IsShape shape) where
   pub by-six : (w : ℕ) → w * shape .symbols / 6 ≡ w / shape .bins
   by-six w = ap (λ (x : ℕ). w * shape .symbols / x) (sym six) ∙ mul-div-mul-right w (shape .bins) symbols-pos
 
-  -- and the rest
-  pub rest-six : (w q : ℕ) → q ≡ w / shape .bins → w - q * shape .bins ≡ w % shape .bins
-  rest-six w q e = ap (λ (x : ℕ). w - x * shape .bins) e ∙ sym (mod-eq-sub-div-mul w (shape .bins))
-
   -- a bin's number stays small
   pub product-few : (w : ℕ) → w < 8192 → w * shape .symbols ≤ 49152
   product-few w h = mul-le-mul {n₁ = w} {m₁ = shape .symbols} {n₂ = 8192} {m₂ = 6} (omega arith) symbols-few
 
-  pub taken-le : (w : ℕ) → w * shape .symbols / 6 * shape .bins ≤ w
-  taken-le w = rw (by-six w) (div-mul-le-self w (shape .bins))
-
   pub quotient-few : (w : ℕ) → w < 6 → w / shape .bins < 6
   quotient-few w h = omega (arith, div-le-self w (shape .bins))
 
-  pub rest-few : (w : ℕ) → w % shape .bins < 6
-  rest-few w = omega (arith, mod-lt w bins-pos, bins-few)
+  -- A subchannel has eight places a bin in each symbol. Take those of the q runs before it off x, and put those of p others before it.
+  run-is : (q : ℕ) → q * (8 * shape .bins) ≡ 8 * (q * shape .bins)
+  run-is q = mul-left-comm q 8 (shape .bins)
 
-  -- and so do the bins before a subchannel
-  pub before-few : (a : ℕ) → a < 65536 → a * shape .bins ≤ 393216
-  before-few a h = mul-le-mul {n₁ = a} {m₁ = shape .bins} {n₂ = 65536} {m₂ = 6} (omega arith) bins-few
+  module _ (x q : ℕ) (e : q ≡ x / 8 / shape .bins) where
+    parts : q * shape .bins + x / 8 % shape .bins ≡ x / 8
+    parts = ap (λ (k : ℕ). k * shape .bins + x / 8 % shape .bins) e ∙ div-add-mod' (x / 8) (shape .bins)
+
+    pub run-le : q * (8 * shape .bins) ≤ x
+    run-le = omega (arith, run-is q, parts)
+
+    pub run-moved : (p : ℕ) → p * (8 * shape .bins) + (x - q * (8 * shape .bins)) ≡ (p * shape .bins + x / 8 % shape .bins) * 8 + x % 8
+    run-moved p = omega (arith, run-is p, run-is q, parts)
+
+  pub before-few : (a : ℕ) → a < 65536 → a * (8 * shape .bins) ≤ 3145728
+  before-few a h = mul-le-mul {n₁ = a} {m₁ = 8 * shape .bins} {n₂ = 65536} {m₂ = 48} (omega arith) (omega (arith, bins-few))

@@ -10,7 +10,7 @@ use Rattle.amc.specs.Table.{sequenceDigits, positions}
 use Rattle.amc.specs.Element.{Element, element, baseSeven, times, sequence}
 use Rattle.amc.proofs.Digit.{Proper, same-number, number-lt}
 
--- an entry as document 004 prints it, two twoDigits
+-- an entry as document 004 prints it, two digits
 abbrev pub printed : ℕ → Element
 printed i = element (entry sequenceDigits i / 16) (entry sequenceDigits i % 16)
 
@@ -19,7 +19,7 @@ pub printed-list : sequenceDigits ≡ tabulate 48 (λ i. sequence i .high * 16 +
 unfolding tabulate times sequence
 printed-list = refl
 
--- what is tested at entry i: document 004's twoDigits are those of the power of 22, proper and not zero, and its position is i
+-- what is tested at entry i: document 004's digits are those of the power of 22, proper and not zero, and its position is i
 pub record Power (i : ℕ) : Type 0 where
   pub printed-is : printed i ≡ sequence i
   pub proper : Proper (sequence i)

@@ -13,7 +13,7 @@ element a b = record { high = a; low = b }
 abbrev pub baseSeven : (e : Element) → ℕ
 baseSeven e = e .high * 7 + e .low
 
--- a number below 49 as two base-seven twoDigits
+-- a number below 49 as two base-seven digits
 abbrev pub twoDigits : (x : ℕ) → Element
 twoDigits x = element (x / 7) (x % 7)
 

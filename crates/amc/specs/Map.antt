@@ -4,12 +4,12 @@ use lib.Dec.{eqb}
 use Rattle.base.specs.Choice.{pick}
 use Rattle.base.specs.Steps.{entry, unrotate}
 use Rattle.carriers.specs.declared.Address.{Address}
-use Rattle.carriers.specs.declared.DataPlace.{DataPlace}
+use Rattle.carriers.specs.declared.DataNumber.{DataNumber}
 use Rattle.amc.specs.declared.Shape.{Shape}
 use Rattle.amc.specs.Table.{positions}
 use Rattle.amc.specs.Element.{Element, baseSeven, twoDigits, element, add, subtract, sequence}
 
--- per = cell mod 48, off = cell div 48 as two base-seven twoDigits
+-- per = cell mod 48, off = cell div 48 as two base-seven digits
 unfoldable pub off : (cell : ℕ) → Element
 off cell = twoDigits (cell / 48)
 
@@ -33,13 +33,14 @@ sumOf o e = pick (eqb (baseSeven e) (baseSeven o)) (element 0 0) e
 unfoldable pub indexOf : (cell v : ℕ) → ℕ
 indexOf cell v = unrotate 48 (cell % 48) (entry positions (baseSeven (subtract (sumOf (off cell) (twoDigits (v + 1))) (off cell))))
 
--- Document 02, wish 2: subchannel a takes its bins from bin bins·a on. Its 48 traffic places run along the eight data carriers of a bin, then its next bin, then the next symbol. (Data number d is place d mod 8 of bin d div 8.)
-unfoldable pub trafficPlace : (shape : Shape) (a v : ℕ) → DataPlace
-trafficPlace shape a v =
+-- Document 02, wish 2: subchannel a takes its bins from bin bins·a on (document 01, six by one: bins 6a to 6a+5). Its 48 traffic places run along the eight data carriers of a bin, then its next bin, then the next symbol. (Data number d is place d mod 8 of bin d div 8.)
+unfoldable pub trafficNumber : (shape : Shape) (a v : ℕ) → DataNumber
+trafficNumber shape a v =
     record { offset = v / 8 / shape .bins; number = (a * shape .bins + v / 8 % shape .bins) * 8 + v % 8 }
 
-unfoldable pub dataPlace : (shape : Shape) (cell a j : ℕ) → DataPlace
-dataPlace shape cell a j = trafficPlace shape a (traffic cell j)
+-- Index j is on traffic place v.
+unfoldable pub dataNumber : (shape : Shape) (cell a j : ℕ) → DataNumber
+dataNumber shape cell a j = trafficNumber shape a (traffic cell j)
 
 -- The reverse: the address of a data number in a symbol of the slot, which is the subchannel of its bin and the index of its v.
 unfoldable pub addressOf : (shape : Shape) (cell offset d : ℕ) → Address

@@ -1,28 +1,21 @@
-// AMC: pairs of base-seven twoDigits, the sequence P, the zero rule; the slot's shape.
+// AMC: pairs of base-seven digits, the sequence P, the zero rule; the slot's shape.
 use base::unrotate;
 use base::wide;
 use base::wide16;
 use carriers::Address;
-use carriers::DataPlace;
+use carriers::DataNumber;
 ghost use mathlib.Core.Path.{_≡_};
 ghost use Prim.Native.Nat.{_+_, _*_, _/_, _%_, _<_, _≤_};
 ghost use Rattle.base.specs.Model.{Starts};
 ghost use Rattle.amc.specs.Table.{sequenceDigits};
 ghost use Rattle.amc.specs.Element.{element, baseSeven, twoDigits, subtract};
-ghost use Rattle.amc.specs.Map.{sumOf, traffic as Traffic, indexOf, dataPlace, addressOf};
-ghost use Rattle.amc.specs.Model.{IsShape, EvenWidth, sumPlace, sequencePlace, trafficCarrier, tableEntry, sequenceCarrier};
+ghost use Rattle.amc.specs.Map.{sumOf, traffic as Traffic, indexOf, dataNumber, addressOf};
+ghost use Rattle.amc.specs.Model.{IsShape, EvenWidth, sumPlace, sequencePlace, trafficCarrier, subchannelStep, sequenceCarrier};
 
 // A slot's shape: bins of a subchannel by symbols.
 pub struct Shape {
     pub bins: usize,
     pub symbols: usize,
-}
-
-// A traffic place in its subchannel: the symbol of the slot, the bin, the place in the bin.
-struct TrafficPlace {
-    offset: u16,
-    bin: u16,
-    place: u16,
 }
 
 // The sequence P as document 004 prints it: the digits of 22 are 2 and 2, those of the hexadecimal number too.
@@ -130,7 +123,7 @@ const POSITIONS: [u8; 49] = [
     41,
 ];
 
-// The sum of two twoDigits, modulo 7.
+// The sum of two digits, modulo 7.
 fn digit_sum(a: u16, b: u16) -> u16
     requires { ⌜ (a < 7) × (b < 7) ⌝ }
     ensures { λ r. ⌜ (r ≡ (a + b) % 7) × (r < 7) ⌝ }
@@ -138,7 +131,7 @@ fn digit_sum(a: u16, b: u16) -> u16
     if a + b < 7 { a + b } else { a + b - 7 }
 }
 
-// v of the entry x of P, two twoDigits, under the offset whose twoDigits are high and low: the sum, or the offset itself where
+// v of the entry x of P, two digits, under the offset whose digits are high and low: the sum, or the offset itself where
 // that sum is zero.
 fn sum_place(high: u16, low: u16, x: u16) -> u16
     requires { ⌜ (high < 7) × (low < 7) × (x / 16 < 7) × (x % 16 < 7) × (0 < x) ⌝ }
@@ -197,30 +190,26 @@ fn index(cell: usize, v: usize) -> usize
     unrotate(48, cell % 48, wide(POSITIONS[x]))
 }
 
-// Where traffic place v lies in its subchannel. A subchannel has six bins in all its symbols, so w div bins is
-// w·symbols div 6.
-fn traffic_place(shape: Shape, v: u16) -> TrafficPlace
-    requires { ⌜ IsShape shape × (v < 48) ⌝ }
-    ensures { λ r. ⌜ (r .offset ≡ v / 8 / shape .bins) × (r .bin ≡ v / 8 % shape .bins) × (r .place ≡ v % 8) ⌝ }
-    ensures { λ r. ⌜ (r .offset < 6) × (r .bin < 6) ⌝ }
+// The symbol of the slot in which bin w of a subchannel lies. It has six bins in all its symbols, so w div bins is w·symbols
+// div 6.
+fn bin_symbol(shape: Shape, w: u16) -> u16
+    requires { ⌜ IsShape shape × (w < 6) ⌝ }
+    ensures { λ r. ⌜ (r ≡ w / shape .bins) × (r < 6) ⌝ }
 {
-    let offset = v / 8 * shape.symbols as u16 / 6;
-    TrafficPlace {
-        offset: offset,
-        bin: v / 8 - offset * shape.bins as u16,
-        place: v % 8,
-    }
+    w * shape.symbols as u16 / 6
 }
 
-// The symbol and the data number of a point.
-pub fn data_place(shape: Shape, cell: usize, subchannel: usize, index: usize) -> DataPlace
+// The symbol and the data number of a point; a subchannel has `run` data numbers in each symbol.
+pub fn data_number(shape: Shape, cell: usize, subchannel: usize, index: usize) -> DataNumber
     requires { ⌜ IsShape shape × (cell < 2352) × (subchannel < 65536) × (index < 48) ⌝ }
-    ensures { λ r. ⌜ r ≡ dataPlace shape cell subchannel index ⌝ }
+    ensures { λ r. ⌜ r ≡ dataNumber shape cell subchannel index ⌝ }
 {
-    let x = traffic_place(shape, traffic(cell, index));
-    DataPlace {
-        offset: wide16(x.offset),
-        number: (subchannel * shape.bins + wide16(x.bin)) * 8 + wide16(x.place),
+    let v = traffic(cell, index);
+    let offset = wide16(bin_symbol(shape, v / 8));
+    let run = 8 * shape.bins;
+    DataNumber {
+        offset: offset,
+        number: subchannel * run + (wide16(v) - offset * run),
     }
 }
 
@@ -230,10 +219,10 @@ pub fn address(shape: Shape, cell: usize, offset: usize, d: usize) -> Address
     ensures { λ r. ⌜ r ≡ addressOf shape cell offset d ⌝ }
 {
     let subchannel = d / 8 * shape.symbols / 6;
-    let bin = d / 8 - subchannel * shape.bins;
+    let run = 8 * shape.bins;
     Address {
         subchannel: subchannel,
-        index: index(cell, (offset * shape.bins + bin) * 8 + d % 8),
+        index: index(cell, offset * run + (d - subchannel * run)),
     }
 }
 
@@ -257,30 +246,38 @@ fn first_carrier(shape: Shape, n: u16, first: u16, v: u16) -> u16
     requires { ⌜ IsShape shape × EvenWidth n × (first < 3) × (v < 48) ⌝ }
     ensures { λ r. ⌜ r ≡ trafficCarrier shape n first 0 v ⌝ }
 {
-    let x = traffic_place(shape, v);
-    let pilot = 3 * ((first + x.offset) % 3) + 1;
-    x.offset * (64 * n) + 5 * n + x.bin * 9 + x.place + (pilot <= x.place) as u16
+    let offset = bin_symbol(shape, v / 8);
+    let pilot = 3 * ((first + offset) % 3) + 1;
+    offset * (64 * n - 9 * shape.bins as u16) + 5 * n + v + v / 8 + (pilot <= v % 8) as u16
 }
 
-// The carriers of P's entries in subchannel 0, once for all subchannels.
-pub fn table(shape: Shape, n: usize, cell: usize) -> [u16; 188]
+// The carriers of P's entries in subchannel 0 of a slot, once for all subchannels.
+pub fn table(shape: Shape, n: usize, slot: usize, cell: usize) -> [u16; 188]
     requires { ⌜ IsShape shape × EvenWidth n × (cell < 2352) ⌝ }
-    ensures { λ r. ⌜ Starts 144 (tableEntry shape n cell) r ⌝ }
+    ensures { λ r. ⌜ Starts 48 (sequenceCarrier shape n (slot * shape .symbols) cell 0) r ⌝ }
 {
-    let places = places(cell);
+    let p = SEQUENCE;
+    let first = (slot % 3 * shape.symbols % 3) as u16;
     let mut table = [0; 188];
     let mut i = 0;
     while i < 48 {
-        let v = places[i];
-        table[i] = first_carrier(shape, n as u16, 0, v);
-        table[i + 48] = first_carrier(shape, n as u16, 1, v);
-        table[i + 96] = first_carrier(shape, n as u16, 2, v);
+        table[i] = first_carrier(shape, n as u16, first, sequence_place(&p, cell, i));
         i += 1;
     }
     table
 }
 
-// The carriers of P's entries in a subchannel. DC lies between two subchannels, so one step goes for all of them.
+// How far a subchannel's carriers are from those of subchannel 0: by the used numbers before it, and by DC, which lies
+// between two subchannels.
+fn subchannel_step(shape: Shape, n: usize, subchannel: usize) -> u16
+    requires { ⌜ IsShape shape × EvenWidth n × (subchannel < n * shape .symbols) ⌝ }
+    ensures { λ r. ⌜ (r ≡ subchannelStep shape n subchannel) × (r < 1729) ⌝ }
+{
+    let used = subchannel * shape.bins * 9;
+    (used + (27 * n <= used) as usize) as u16
+}
+
+// The carriers of P's entries in a subchannel.
 pub fn carrier_row(
     shape: Shape,
     n: usize,
@@ -290,16 +287,14 @@ pub fn carrier_row(
     table: &[u16; 188],
 ) -> [u16; 48]
     requires { ⌜ IsShape shape × EvenWidth n × (cell < 2352) × (subchannel < n * shape .symbols) ⌝ }
-    requires { ⌜ Starts 144 (tableEntry shape n cell) (now table) ⌝ }
+    requires { ⌜ Starts 48 (sequenceCarrier shape n (slot * shape .symbols) cell 0) (now table) ⌝ }
     ensures { λ r. ⌜ Starts 48 (sequenceCarrier shape n (slot * shape .symbols) cell subchannel) r ⌝ }
 {
-    let start = slot % 3 * shape.symbols % 3 * 48;
-    let used = subchannel * shape.bins * 9;
-    let step = (used + (27 * n <= used) as usize) as u16;
+    let step = subchannel_step(shape, n, subchannel);
     let mut row = [0; 48];
     let mut i = 0;
     while i < 48 {
-        row[i] = table[start + i] + step;
+        row[i] = table[i] + step;
         i += 1;
     }
     row

@@ -8,7 +8,7 @@ use mir.Val.{boolByte}
 use borrow.Author.Tests.{ne-eqb, eqb-false}
 use Rattle.base.specs.Steps.{skip, unskip}
 use Rattle.base.proofs.LeaveOut.{unskip-skip, skip-unskip, skip-ne, skip-lt, unskip-lt, skip-step}
-use Rattle.carriers.specs.declared.DataPlace.{DataPlace}
+use Rattle.carriers.specs.declared.DataNumber.{DataNumber}
 use Rattle.carriers.specs.declared.Address.{Address}
 use Rattle.carriers.specs.Bin.{binPilotPlace, isBinPilot, usedOfData, dataOfUsed, binSpot}
 use Rattle.carriers.specs.Law.{SlotLaw, NumberLaw}
@@ -84,7 +84,7 @@ module _ (y : ℕ) where
     data-lt n h = let l = data-place-lt in omega arith
 
 -- the pilots counted in, those of each symbol by its number in the zone
-pub bin-law : (first n : ℕ) {symbols subchannels : ℕ} {place : ℕ → ℕ → DataPlace} {address : ℕ → ℕ → Address} → NumberLaw symbols subchannels (48 * n) place address
+pub bin-law : (first n : ℕ) {symbols subchannels : ℕ} {place : ℕ → ℕ → DataNumber} {address : ℕ → ℕ → Address} → NumberLaw symbols subchannels (48 * n) place address
     → SlotLaw symbols subchannels (54 * n) (λ o u. isBinPilot (first + o) u) (λ s m. binSpot first (place s m)) (λ o u. address o (dataOfUsed (first + o) u))
 bin-law first n {place = place} {address = address} law =
     record {

@@ -4,7 +4,7 @@ use Prim.Native.Nat.{ℕ, _+_, _*_, _/_, _%_}
 use lib.Dec.{eqb}
 use Rattle.base.specs.Steps.{skip, unskip}
 use Rattle.carriers.specs.declared.Spot.{Spot}
-use Rattle.carriers.specs.declared.DataPlace.{DataPlace}
+use Rattle.carriers.specs.declared.DataNumber.{DataNumber}
 
 unfoldable pub binPilotPlace : (symbol : ℕ) → ℕ
 binPilotPlace symbol = 3 * (symbol % 3) + 1
@@ -20,10 +20,10 @@ usedOfData symbol d = d / 8 * 9 + skip (binPilotPlace symbol) (d % 8)
 unfoldable pub dataOfUsed : (symbol used : ℕ) → ℕ
 dataOfUsed symbol used = used / 9 * 8 + unskip (binPilotPlace symbol) (used % 9)
 
--- where a data place lies in its slot, whose first symbol has the number `first` in the zone: each symbol has its own pilots
-abbrev pub binSpot : (first : ℕ) (x : DataPlace) → Spot
+-- where a data number of a slot lies, whose first symbol has the number `first` in the zone: each symbol has its own pilots
+abbrev pub binSpot : (first : ℕ) (x : DataNumber) → Spot
 binSpot first x = record { offset = x .offset; used = usedOfData (first + x .offset) (x .number) }
 
 -- data number d in a slot of one symbol
-abbrev pub inOnlySymbol : (d : ℕ) → DataPlace
+abbrev pub inOnlySymbol : (d : ℕ) → DataNumber
 inOnlySymbol d = record { offset = 0; number = d }

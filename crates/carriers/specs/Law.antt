@@ -3,7 +3,7 @@ use mathlib.Core.Path.{_≡_}
 use mathlib.Core.Bool.{Bool, false}
 use Prim.Native.Nat.{ℕ, _<_}
 use Rattle.carriers.specs.declared.Spot.{Spot}
-use Rattle.carriers.specs.declared.DataPlace.{DataPlace}
+use Rattle.carriers.specs.declared.DataNumber.{DataNumber}
 use Rattle.carriers.specs.declared.Address.{Address}
 
 -- a spot in a slot of so many symbols, with so many used numbers, that is no pilot
@@ -27,7 +27,7 @@ pub record SlotLaw (symbols subchannels used : ℕ) (isPilot : ℕ → ℕ → B
       → spot (address o u .subchannel) (address o u .index) ≡ record { offset = o; used = u }
 
 -- The same for a mode over bins, in words of data numbers, so many in each symbol of the slot.
-pub record NumberLaw (symbols subchannels numbers : ℕ) (place : ℕ → ℕ → DataPlace) (address : ℕ → ℕ → Address) : Type 0 where
+pub record NumberLaw (symbols subchannels numbers : ℕ) (place : ℕ → ℕ → DataNumber) (address : ℕ → ℕ → Address) : Type 0 where
   pub offset-lt : (s m : ℕ) → s < subchannels → m < 48 → place s m .offset < symbols
   pub number-lt : (s m : ℕ) → s < subchannels → m < 48 → place s m .number < numbers
   pub back : (s m : ℕ) → s < subchannels → m < 48 → address (place s m .offset) (place s m .number) ≡ record { subchannel = s; index = m }

@@ -28,8 +28,8 @@ pub struct Spot {
     pub used: usize,
 }
 
-// The same in a mode over bins, before the pilots are counted in: the symbol, counted in the slot, and the data number.
-pub struct DataPlace {
+// The same in a mode over bins, pilots not counted: the symbol, counted in the slot, and the data number.
+pub struct DataNumber {
     pub offset: usize,
     pub number: usize,
 }

@@ -51,7 +51,7 @@ ofuscOf size a s b t =
     (ask (isSubchannel (setupWith 2 size b) t) 5
     (accepted (ofuscHit size a s b t)))))))
 
--- Adjacent: two cells. Only question 3 is put, as for mode 3, whose cells are the same at every size.
+-- Adjacent: two cells. Only question 3 is put, as for mode 3, whose cells are the same at every size, and those of modes 4 to 6 (document 02, wish 2).
 unfoldable pub amcOf : (a b : ℕ) → Collisions
 amcOf a b =
     answerOf

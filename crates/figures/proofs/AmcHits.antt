@@ -6,16 +6,14 @@ use lib.Arith.{digits-mod}
 use borrow.Author.Tests.{eqb-true, eq-eqb}
 use Rattle.base.specs.Answer.{accepted}
 use Rattle.base.proofs.Chain.{same-accepted}
-use Rattle.carriers.specs.declared.DataPlace.{DataPlace}
 use Rattle.carriers.specs.Band.{binBand, usedOf}
 use Rattle.carriers.specs.Bin.{dataOfUsed}
 use Rattle.ofusc.specs.Width.{Width}
 use Rattle.ofusc.proofs.Sequence.{pos}
 use Rattle.amc.specs.declared.Shape.{Shape}
 use Rattle.amc.specs.Model.{IsShape}
-use Rattle.amc.specs.Map.{traffic, trafficPlace, dataPlace}
+use Rattle.amc.specs.Map.{traffic, trafficNumber, dataNumber}
 use Rattle.amc.proofs.Law.{traffic-lt, traffic-back, offset-lt, number-below}
-use Rattle.map.specs.declared.Setup.{Setup}
 use Rattle.map.specs.Place.{Place, placeAt, placeOf}
 use Rattle.map.specs.Mode.{shapeOf, width, subchannels, symbols, band, spotOf, setupWith}
 use Rattle.map.specs.Model.{IsAmc, amc}
@@ -36,13 +34,13 @@ module _ {mode : ℕ} (q : IsAmc mode) {n : ℕ} (w : Width n) (slot s : ℕ) wh
   -- where traffic place v of the subchannel is
   abbrev at : ℕ → Place
   at v =
-      let x = trafficPlace shape s v in
+      let x = trafficNumber shape s v in
       let y = slot * shape .symbols + x .offset in
       record { symbol = y; carrier = carrierAt n y (x .number) }
 
   placed : (cell j : ℕ) → cell < 2352 → slot < 512 → s < subchannels (setupWith mode (64 * n) cell) → j < 48
       → placeOf (setupWith mode (64 * n) cell) slot s j ≡ accepted (at (traffic cell j))
-  unfolding placeAt spotOf symbols band width dataPlace
+  unfolding placeAt spotOf symbols band width dataNumber
   placed cell j h hy hs hj =
       let t = amc-tests q in
       place-accepts (setupWith mode (64 * n) cell) slot s j (amc q w h) hy hs hj
@@ -58,7 +56,7 @@ module _ {mode : ℕ} (q : IsAmc mode) {n : ℕ} (w : Width n) (slot s : ℕ) wh
   v-back : (v : ℕ) → v < 48 → s < n * shape .symbols → v-of (at v) ≡ v
   unfolding v-of six
   v-back v h hs =
-      let x = trafficPlace shape s v in
+      let x = trafficNumber shape s v in
       let offset : (slot * shape .symbols + x .offset) % shape .symbols ≡ x .offset = digits-mod slot (offset-lt shape six s v h) in
       let number = number-at n (slot * shape .symbols + x .offset) (x .number) (pos w) (number-below shape six s v n hs) in
       ap₂ (λ (o d : ℕ). (o * shape .bins + d / 8 % shape .bins) * 8 + d % 8) offset number ∙ traffic-back shape six s v

@@ -80,7 +80,7 @@ fn lay(
 )
     requires { ⌜ Valid setup ⌝ }
     requires { ⌜ (subchannel < subchannels setup) × (length (now points) ≡ 96 * subchannels setup) × (length (now grid) ≡ 2 * gridPoints setup) ⌝ }
-    requires { ⌜ TableOf setup (now table) ⌝ }
+    requires { ⌜ TableOf setup slot (now table) ⌝ }
     ensures { λ _. ⌜ now (grid .exit) ≡ laid setup slot (now (points .entry)) subchannel (now (grid .entry)) ⌝ }
 {
     let row = rows::carrier_row(setup, slot, subchannel, table);
@@ -99,7 +99,7 @@ fn take(
 )
     requires { ⌜ Valid setup ⌝ }
     requires { ⌜ (subchannel < subchannels setup) × (length (now points) ≡ 96 * subchannels setup) × (length (now grid) ≡ 2 * gridPoints setup) ⌝ }
-    requires { ⌜ TableOf setup (now table) ⌝ }
+    requires { ⌜ TableOf setup slot (now table) ⌝ }
     ensures { λ _. ⌜ now (points .exit) ≡ taken setup slot (now (grid .entry)) subchannel (now (points .entry)) ⌝ }
 {
     let row = rows::carrier_row(setup, slot, subchannel, table);
@@ -116,7 +116,7 @@ pub fn fill(setup: Setup, slot: usize, pilot: Point, points: &[f32], grid: &mut 
         return refusal;
     }
     ground(setup, slot, pilot, grid);
-    let table = rows::table(setup);
+    let table = rows::table(setup, slot);
     let n = map::subchannels(setup);
     let mut subchannel = 0;
     while subchannel < n {
@@ -134,7 +134,7 @@ pub fn empty(setup: Setup, slot: usize, grid: &[f32], points: &mut [f32]) -> u8
     if refusal != 0 {
         return refusal;
     }
-    let table = rows::table(setup);
+    let table = rows::table(setup, slot);
     let n = map::subchannels(setup);
     let mut subchannel = 0;
     while subchannel < n {

@@ -10,7 +10,7 @@ use Rattle.carriers.specs.declared.Band.{Band}
 use Rattle.carriers.specs.Band.{binBand, puscBand, noBand}
 use Rattle.base.proofs.LeaveOut.{unskip-le}
 use Rattle.carriers.specs.declared.Spot.{Spot}
-use Rattle.carriers.specs.declared.DataPlace.{DataPlace}
+use Rattle.carriers.specs.declared.DataNumber.{DataNumber}
 use Rattle.carriers.specs.declared.Address.{Address}
 use Rattle.carriers.specs.Bin.{binPilotPlace, dataOfUsed, binSpot, inOnlySymbol}
 use Rattle.carriers.specs.Law.{NumberLaw}
@@ -139,10 +139,10 @@ module _ {c : Setup} (v : Valid c) (q : IsAmc (c .mode)) where
     pub amc-asks : IsShape shape × (c .cell < 2352) × (s < 65536) × (m < 48)
     amc-asks = (rw e (amc-shape (c .mode) q), in-amc v q .cell-lt, omega (arith, few-subchannels), hm)
 
-    place-law : NumberLaw (shapeOf (c .mode) .symbols) (width c * shapeOf (c .mode) .symbols) (48 * width c) (adjacent.dataPlace (shapeOf (c .mode)) (c .cell)) (adjacent.addressOf (shapeOf (c .mode)) (c .cell))
+    place-law : NumberLaw (shapeOf (c .mode) .symbols) (width c * shapeOf (c .mode) .symbols) (48 * width c) (adjacent.dataNumber (shapeOf (c .mode)) (c .cell)) (adjacent.addressOf (shapeOf (c .mode)) (c .cell))
     place-law = adjacent-law.law (shapeOf (c .mode)) (amc-shape (c .mode) q) (c .cell) (in-amc v q .cell-lt) (width c)
 
-    pub amc-few : (adjacent.dataPlace shape (c .cell) s m .offset < 65536) × (adjacent.dataPlace shape (c .cell) s m .number < 65536)
+    pub amc-few : (adjacent.dataNumber shape (c .cell) s m .offset < 65536) × (adjacent.dataNumber shape (c .cell) s m .number < 65536)
     amc-few =
         let hs′ = rw (← shape-subchannels c q) at hs in
         rw e (omega (arith, few-symbols, place-law .offset-lt s m hs′ hm), omega (arith, size amc-width, place-law .number-lt s m hs′ hm))
@@ -159,36 +159,9 @@ pub record Few (c : Setup) : Type 0 where
 
 pub few : {c : Setup} → Valid c → Few c
 unfolding symbols subchannels band width
-few (pusc-dl h) =
-    record {
-      symbols-pos = omega arith;
-      symbols-few = omega arith;
-      size-few = omega arith;
-      subchannels-few = omega arith;
-      left-few = omega arith;
-      half-few = omega arith;
-      used-few = omega arith;
-    }
-few (pusc-ul h) =
-    record {
-      symbols-pos = omega arith;
-      symbols-few = omega arith;
-      size-few = omega arith;
-      subchannels-few = omega arith;
-      left-few = omega arith;
-      half-few = omega arith;
-      used-few = omega arith;
-    }
-few (ofusc w h) = let b = size w .most in
-    record {
-      symbols-pos = omega arith;
-      symbols-few = omega arith;
-      size-few = omega arith;
-      subchannels-few = omega arith;
-      left-few = omega arith;
-      half-few = omega arith;
-      used-few = omega arith;
-    }
+few (pusc-dl h) = omega arith
+few (pusc-ul h) = omega arith
+few (ofusc w h) = let b = size w .most in omega arith
 few {c} (amc {mode = m} q w h) =
     let t = amc-tests q in
     let shape = amc-shape m q in
@@ -252,15 +225,15 @@ module _ {c : Setup} (v : Valid c) (y u : ℕ) (hu : u < band c .used) (np : isP
       )
 
 -- what the modes over bins put together
-module _ (c : Setup) (slot s m n : ℕ) (e : n ≡ symbols c) (x : DataPlace) (r : Spot) (f : r ≡ binSpot (slot * n) x) where
+module _ (c : Setup) (slot s m n : ℕ) (e : n ≡ symbols c) (x : DataNumber) (r : Spot) (f : r ≡ binSpot (slot * n) x) where
   pub ofusc-spot : c .mode ≡ 2 → x ≡ inOnlySymbol (spread.dataNumber (width c) (c .cell) s m) → r ≡ spotOf c slot s m
   unfolding spotOf
-  ofusc-spot q g = f ∙ ap₂ (λ (k : ℕ) (t : DataPlace). binSpot (slot * k) t) e g ∙ mode-2 _ _ _ _ _ _ q
+  ofusc-spot q g = f ∙ ap₂ (λ (k : ℕ) (t : DataNumber). binSpot (slot * k) t) e g ∙ mode-2 _ _ _ _ _ _ q
 
-  pub amc-spot : IsAmc (c .mode) → (shape : Shape) → shape ≡ shapeOf (c .mode) → x ≡ adjacent.dataPlace shape (c .cell) s m → r ≡ spotOf c slot s m
+  pub amc-spot : IsAmc (c .mode) → (shape : Shape) → shape ≡ shapeOf (c .mode) → x ≡ adjacent.dataNumber shape (c .cell) s m → r ≡ spotOf c slot s m
   unfolding spotOf
   amc-spot q shape h g =
-      f ∙ ap₂ (λ (k : ℕ) (t : DataPlace). binSpot (slot * k) t) e (g ∙ ap (λ (t : Shape). adjacent.dataPlace t (c .cell) s m) h) ∙ mode-amc _ _ _ _ _ _ q
+      f ∙ ap₂ (λ (k : ℕ) (t : DataNumber). binSpot (slot * k) t) e (g ∙ ap (λ (t : Shape). adjacent.dataNumber t (c .cell) s m) h) ∙ mode-amc _ _ _ _ _ _ q
 
 pub amc-address : (c : Setup) (y u : ℕ) (shape : Shape) → shape ≡ shapeOf (c .mode) → (o : ℕ) → o ≡ y % symbols c → (d : ℕ) → d ≡ dataOfUsed y u
     → (r : Address) → r ≡ adjacent.addressOf shape (c .cell) o d → IsAmc (c .mode) → r ≡ addressOf c y u

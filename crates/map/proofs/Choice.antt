@@ -14,29 +14,43 @@ use Rattle.map.specs.declared.Setup.{Setup}
 use Rattle.map.specs.Mode.{shape, shapeOf, byMode, width, subchannels, symbols}
 use Rattle.map.specs.Model.{IsAmc}
 
+data Adjacent : ℕ → Type 0 where
+  m3 : Adjacent 3
+  m4 : Adjacent 4
+  m5 : Adjacent 5
+  m6 : Adjacent 6
+
+adjacent : (mode : ℕ) → IsAmc mode → Adjacent mode
+adjacent zero h = absurd (omega arith)
+adjacent (suc zero) h = absurd (omega arith)
+adjacent (suc (suc zero)) h = absurd (omega arith)
+adjacent (suc (suc (suc zero))) h = m3
+adjacent (suc (suc (suc (suc zero)))) h = m4
+adjacent (suc (suc (suc (suc (suc zero))))) h = m5
+adjacent (suc (suc (suc (suc (suc (suc zero)))))) h = m6
+adjacent (suc (suc (suc (suc (suc (suc (suc mode))))))) h = absurd (omega arith)
+
 -- each of AMC's shapes has six bins in all
 pub amc-shape : (mode : ℕ) → IsAmc mode → IsShape (shapeOf mode)
 unfolding shapeOf
-amc-shape zero h = absurd (omega arith)
-amc-shape (suc zero) h = absurd (omega arith)
-amc-shape (suc (suc zero)) h = absurd (omega arith)
-amc-shape (suc (suc (suc zero))) h = refl
-amc-shape (suc (suc (suc (suc zero)))) h = refl
-amc-shape (suc (suc (suc (suc (suc zero))))) h = refl
-amc-shape (suc (suc (suc (suc (suc (suc zero)))))) h = refl
-amc-shape (suc (suc (suc (suc (suc (suc (suc mode))))))) h = absurd (omega arith)
+amc-shape mode h = six (adjacent mode h)
+  where
+    six : {mode : ℕ} → Adjacent mode → IsShape (shapeOf mode)
+    six m3 = refl
+    six m4 = refl
+    six m5 = refl
+    six m6 = refl
 
 -- and 1, 2, 3 or 6 symbols
 pub amc-symbols : (mode : ℕ) → IsAmc mode → (shapeOf mode .symbols ≡ 1 → ⊥) → (shapeOf mode .symbols ≡ 2 → ⊥) → (shapeOf mode .symbols ≡ 3 → ⊥) → shapeOf mode .symbols ≡ 6
 unfolding shapeOf
-amc-symbols zero h n₁ n₂ n₃ = absurd (omega arith)
-amc-symbols (suc zero) h n₁ n₂ n₃ = absurd (omega arith)
-amc-symbols (suc (suc zero)) h n₁ n₂ n₃ = absurd (omega arith)
-amc-symbols (suc (suc (suc zero))) h n₁ n₂ n₃ = absurd (n₁ refl)
-amc-symbols (suc (suc (suc (suc zero)))) h n₁ n₂ n₃ = absurd (n₃ refl)
-amc-symbols (suc (suc (suc (suc (suc zero))))) h n₁ n₂ n₃ = absurd (n₂ refl)
-amc-symbols (suc (suc (suc (suc (suc (suc zero)))))) h n₁ n₂ n₃ = refl
-amc-symbols (suc (suc (suc (suc (suc (suc (suc mode))))))) h n₁ n₂ n₃ = absurd (omega arith)
+amc-symbols mode h = six (adjacent mode h)
+  where
+    six : {mode : ℕ} → Adjacent mode → (shapeOf mode .symbols ≡ 1 → ⊥) → (shapeOf mode .symbols ≡ 2 → ⊥) → (shapeOf mode .symbols ≡ 3 → ⊥) → shapeOf mode .symbols ≡ 6
+    six m3 n₁ n₂ n₃ = absurd (n₁ refl)
+    six m4 n₁ n₂ n₃ = absurd (n₃ refl)
+    six m5 n₁ n₂ n₃ = absurd (n₂ refl)
+    six m6 n₁ n₂ n₃ = refl
 
 -- the tests at AMC's modes
 pub record AmcTests (mode : ℕ) : Type 0 where
@@ -77,7 +91,7 @@ mode-bins mode a₀ a₁ a other h n₀ n₁ =
     (λ e. mode-2 mode a₀ a₁ a a other (eqb-true mode 2 e))
     (λ e. mode-amc mode a₀ a₁ a a other (omega (arith, eqb-false mode 2 e)))
 
--- a column of AMC's where an unlisted mode has nothing to choose: what stands there is the same
+-- AMC's column serves an unlisted mode too where it gives the same
 pub mode-rest : {A : Type 0} (mode : ℕ) (a₀ a₁ a₂ a₃ other : A) → (7 ≤ mode → a₃ ≡ other) → (mode ≡ 0 → ⊥) → (mode ≡ 1 → ⊥) → (mode ≡ 2 → ⊥)
     → a₃ ≡ byMode mode a₀ a₁ a₂ a₃ other
 mode-rest mode a₀ a₁ a₂ a₃ other same n₀ n₁ n₂ =

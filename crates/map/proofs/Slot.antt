@@ -1,4 +1,4 @@
--- Every valid setup meets the law of a slot and the law of its band: one clause a mode. All that is said of the map above rests on these two.
+-- Every valid setup meets the law of a slot and the law of its band: one clause a case of validity. All that is said of the map above rests on these two.
 use mathlib.Core.Path.{_≡_, refl, ap, subst⁻¹}
 use Prim.Native.Nat.{ℕ, _+_, _*_, _%_, _<_}
 use native.Mathlib.Omega.{arith}

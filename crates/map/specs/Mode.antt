@@ -37,14 +37,14 @@ byMode mode dl ul spread adjacent other =
     (pick (ltb mode 7) adjacent
     other)))
 
--- N, the number of subchannels of mode 2: the size is 64N
+-- N of the modes over bins: the size is 64N
 unfoldable pub width : (setup : Setup) → ℕ
 width setup = setup .size / 64
 
 unfoldable pub cells : (setup : Setup) → ℕ
 cells setup = byMode (setup .mode) 32 70 (width setup * width setup) 2352 0
 
--- N for each symbol of AMC's slot
+-- Modes 2 and 3 have N; document 02, wish 2: modes 4, 5 and 6 have 3N, 2N and 6N, N for each symbol of the slot.
 unfoldable pub subchannels : (setup : Setup) → ℕ
 subchannels setup = byMode (setup .mode) 60 70 (width setup) (width setup * shapeOf (setup .mode) .symbols) 0
 
@@ -73,16 +73,16 @@ spotOf setup slot subchannel index =
     (pusc-dl.spotOf (setup .cell) subchannel index)
     (pusc-ul.spotOf (setup .cell) subchannel index)
     (binSpot first (inOnlySymbol (ofusc.dataNumber (width setup) (setup .cell) subchannel index)))
-    (binSpot first (amc.dataPlace (shapeOf (setup .mode)) (setup .cell) subchannel index))
+    (binSpot first (amc.dataNumber (shapeOf (setup .mode)) (setup .cell) subchannel index))
     (record { offset = 0; used = 0 })
 
 -- The reverse: whose point a used number that is no pilot holds in a symbol of the zone.
 unfoldable pub addressOf : (setup : Setup) (symbol used : ℕ) → Address
 addressOf setup symbol used =
-    let shape = shapeOf (setup .mode) in
+    let its = shapeOf (setup .mode) in
     byMode (setup .mode)
     (pusc-dl.addressOf (setup .cell) (symbol % 2) used)
     (pusc-ul.addressOf (setup .cell) (symbol % 3) used)
     (ofusc.addressOf (width setup) (setup .cell) (dataOfUsed symbol used))
-    (amc.addressOf shape (setup .cell) (symbol % shape .symbols) (dataOfUsed symbol used))
+    (amc.addressOf its (setup .cell) (symbol % its .symbols) (dataOfUsed symbol used))
     (record { subchannel = 0; index = 0 })

@@ -7,11 +7,11 @@ use Rattle.base.specs.Answer.{Answer, ask}
 use Rattle.map.specs.declared.Setup.{Setup}
 use Rattle.map.specs.Mode.{cells, subchannels, symbols}
 
--- 1 Is the mode listed?
+-- 1 Is the mode listed? Document 01 lists 0 to 3, document 02, wish 2, adds 4 to 6.
 unfoldable pub isMode : (setup : Setup) → Bool
 isMode setup = ltb (setup .mode) 7
 
--- 2 Is the size that mode's? Modes 0 and 1 have 2048, the others the four sizes.
+-- 2 Is the size that mode's? Modes 0 and 1 have 2048, modes 2 to 6 the four sizes.
 unfoldable pub isFourSizes : (size : ℕ) → Bool
 isFourSizes size = pick (eqb size 256) true (pick (eqb size 512) true (pick (eqb size 1024) true (eqb size 2048)))
 

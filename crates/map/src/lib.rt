@@ -2,7 +2,7 @@
 use amc::Shape;
 use carriers::Address;
 use carriers::Band;
-use carriers::DataPlace;
+use carriers::DataNumber;
 use carriers::Spot;
 ghost use mathlib.Core.Path.{_≡_};
 ghost use mathlib.Core.Bool.{false};
@@ -212,8 +212,8 @@ pub fn refusal(setup: Setup) -> u8
     0
 }
 
-// Where a data place lies in its slot, whose first symbol has the number `first` in the zone.
-fn bin_spot(first: usize, x: DataPlace) -> Spot
+// Where a data number of a slot lies, whose first symbol has the number `first` in the zone.
+fn bin_spot(first: usize, x: DataNumber) -> Spot
     requires { ⌜ (first < 65536) × (x .offset < 65536) × (x .number < 65536) ⌝ }
     ensures { λ r. ⌜ r ≡ binSpot first x ⌝ }
 {
@@ -223,13 +223,13 @@ fn bin_spot(first: usize, x: DataPlace) -> Spot
     }
 }
 
-// Where a point of optional FUSC lies in its slot of one symbol.
-fn ofusc_place(setup: Setup, subchannel: usize, index: usize) -> DataPlace
+// The data number of a point of optional FUSC, in its slot of one symbol.
+fn ofusc_number(setup: Setup, subchannel: usize, index: usize) -> DataNumber
     requires { ⌜ Valid setup ⌝ }
     requires { ⌜ (setup .mode ≡ 2) × (subchannel < Subchannels setup) × (index < 48) ⌝ }
     ensures { λ r. ⌜ r ≡ inOnlySymbol (ofuscNumber (WidthOf setup) (setup .cell) subchannel index) ⌝ }
 {
-    DataPlace {
+    DataNumber {
         offset: 0,
         number: ofusc::data_number(width(setup), setup.cell, subchannel, index),
     }
@@ -249,11 +249,11 @@ fn spot(setup: Setup, slot: usize, subchannel: usize, index: usize) -> Spot
     }
     let first = slot * symbols(setup);
     if setup.mode == 2 {
-        return bin_spot(first, ofusc_place(setup, subchannel, index));
+        return bin_spot(first, ofusc_number(setup, subchannel, index));
     }
     bin_spot(
         first,
-        amc::data_place(shape(setup.mode), setup.cell, subchannel, index),
+        amc::data_number(shape(setup.mode), setup.cell, subchannel, index),
     )
 }
 

@@ -1,4 +1,4 @@
--- A subchannel's row of spots, from the table and the rows of its mode.
+-- A subchannel's row of carriers, from the table and the rows of its mode.
 use mathlib.Core.Path.{_≡_, refl, sym, ap, ap₂, _∙_}
 use mathlib.Core.List.{List}
 use Prim.Native.Nat.{ℕ, _+_, _*_, _%_, _<_, _≤_}
@@ -39,31 +39,31 @@ use Rattle.ofusc.specs.Map as ofusc-map
 use Rattle.amc.specs.Map as amc-map
 
 -- the table of a mode is the setup's
-pub record TableAs (c : Setup) (n : ℕ) (f : ℕ → ℕ) : Type 0 where
+pub record TableAs (c : Setup) (slot n : ℕ) (f : ℕ → ℕ) : Type 0 where
   pub length-is : n ≡ tableLength c
-  pub entry-is : (i : ℕ) → f i ≡ tableEntry c i
+  pub entry-is : (i : ℕ) → f i ≡ tableEntry c slot i
 
-module _ {c : Setup} where
-  pub as-0 : c .mode ≡ 0 → TableAs c 188 (pusc-dl.tableEntry (c .cell))
+module _ {c : Setup} {slot : ℕ} where
+  pub as-0 : c .mode ≡ 0 → TableAs c slot 188 (pusc-dl.tableEntry (c .cell))
   unfolding tableLength tableEntry
   as-0 e = record { length-is = mode-0 _ _ _ _ _ _ e; entry-is = λ i. mode-0 _ _ _ _ _ _ e }
 
-  pub as-1 : c .mode ≡ 1 → TableAs c 76 (pusc-ul.tableEntry (c .cell))
+  pub as-1 : c .mode ≡ 1 → TableAs c slot 76 (pusc-ul.tableEntry (c .cell))
   unfolding tableLength tableEntry
   as-1 e = record { length-is = mode-1 _ _ _ _ _ _ e; entry-is = λ i. mode-1 _ _ _ _ _ _ e }
 
-  pub as-2 : c .mode ≡ 2 → TableAs c 48 (ofusc.cellNumber (width c) (c .cell))
+  pub as-2 : c .mode ≡ 2 → TableAs c slot 48 (ofusc.cellNumber (width c) (c .cell))
   unfolding tableLength tableEntry
   as-2 e = record { length-is = mode-2 _ _ _ _ _ _ e; entry-is = λ i. mode-2 _ _ _ _ _ _ e }
 
-  pub as-amc : IsAmc (c .mode) → TableAs c 144 (amc.tableEntry (shapeOf (c .mode)) (width c) (c .cell))
+  pub as-amc : IsAmc (c .mode) → TableAs c slot 48 (amc.sequenceCarrier (shapeOf (c .mode)) (width c) (slot * shapeOf (c .mode) .symbols) (c .cell) 0)
   unfolding tableLength tableEntry
   as-amc q = record { length-is = mode-amc _ _ _ _ _ _ q; entry-is = λ i. mode-amc _ _ _ _ _ _ q }
 
-  pub to-table : {n : ℕ} {f : ℕ → ℕ} (table : List ℕ) → TableAs c n f → Starts n f table → TableOf c table
+  pub to-table : {n : ℕ} {f : ℕ → ℕ} (table : List ℕ) → TableAs c slot n f → Starts n f table → TableOf c slot table
   to-table table a s = starts-as table s (a .length-is) (a .entry-is)
 
-  pub from-table : {n : ℕ} {f : ℕ → ℕ} (table : List ℕ) → TableAs c n f → TableOf c table → Starts n f table
+  pub from-table : {n : ℕ} {f : ℕ → ℕ} (table : List ℕ) → TableAs c slot n f → TableOf c slot table → Starts n f table
   from-table table a s = starts-as table s (sym (a .length-is)) (λ i. sym (a .entry-is i))
 
 -- a row of data numbers of optional FUSC: they are small, and their used numbers are the spots of a slot of one symbol
@@ -89,7 +89,7 @@ pub table-asks : {c : Setup} → Valid c → IsAmc (c .mode) → (shape : Shape)
 table-asks {c} v q shape e n f = rw (e, f) (amc-shape (c .mode) q, even-width (amc-width v q), in-amc v q .cell-lt)
 
 -- what each mode's row asks, and that it is the setup's
-module _ {c : Setup} (v : Valid c) (s : ℕ) (hs : s < subchannels c) (table : List ℕ) (t : TableOf c table) where
+module _ {c : Setup} (v : Valid c) (s : ℕ) (hs : s < subchannels c) (slot : ℕ) (table : List ℕ) (t : TableOf c slot table) where
   pub asks-0 : c .mode ≡ 0 → (c .cell < 32) × (s < 60) × Starts 188 (pusc-dl.tableEntry (c .cell)) table
   asks-0 e = let r = in-pusc-dl v e in (r .cell-lt, rw (r .subchannels-are) at hs, from-table table (as-0 e) t)
 
@@ -102,12 +102,12 @@ module _ {c : Setup} (v : Valid c) (s : ℕ) (hs : s < subchannels c) (table : L
       (rw q (bin-width v (λ z. omega arith) (λ z. omega arith)), rw q (rw (r .subchannels-are) at hs), rw q (from-table table (as-2 e) t))
 
   pub asks-amc : IsAmc (c .mode) → (shape : Shape) → shape ≡ shapeOf (c .mode) → (n : ℕ) → n ≡ width c
-      → (IsShape shape × EvenWidth n × (c .cell < 2352) × (s < n * shape .symbols)) × Starts 144 (amc.tableEntry shape n (c .cell)) table
+      → (IsShape shape × EvenWidth n × (c .cell < 2352) × (s < n * shape .symbols)) × Starts 48 (amc.sequenceCarrier shape n (slot * shape .symbols) (c .cell) 0) table
   asks-amc q shape e n f =
       let a = table-asks v q shape e n f in
       ((a .0, a .1, a .2, rw (e, f) (rw (in-amc v q .subchannels-are) at hs)), rw (e, f) (from-table table (as-amc q) t))
 
--- the size of a slot of AMC
+-- the size is 64N
 bin-size : {c : Setup} → Valid c → IsAmc (c .mode) → c .size ≡ 64 * width c
 unfolding width
 bin-size (pusc-dl h) q = absurd (omega arith)
@@ -142,12 +142,12 @@ module _ (c : Setup) (slot s : ℕ) where
   pub row-amc : Valid c → IsAmc (c .mode) → (shape : Shape) → shape ≡ shapeOf (c .mode) → (n : ℕ) → n ≡ width c
       → (row : List ℕ) → Starts 48 (amc.sequenceCarrier shape n (slot * shape .symbols) (c .cell) s) row
       → Turned (shiftOf c s) (λ m. carrierNumber (c .size) (band c) (spotOf c slot s m)) row
-  unfolding shiftOf band amc.trafficCarrier amc-map.dataPlace
+  unfolding shiftOf band amc.trafficCarrier amc-map.dataNumber
   row-amc v q shape e n f row starts m h =
       let first = slot * shape .symbols in
       let size-is : 64 * n ≡ c .size = ap (λ (x : ℕ). 64 * x) f ∙ sym (bin-size v q) in
       let band-is : binBand n ≡ band c = ap binBand f ∙ mode-amc _ _ _ _ _ _ q in
-      let spot-is = amc-spot c slot s m (shape .symbols) (ap (λ (t : Shape). t .symbols) e ∙ shape-symbols c q) (amc-map.dataPlace shape (c .cell) s m) _ refl q shape e refl in
+      let spot-is = amc-spot c slot s m (shape .symbols) (ap (λ (t : Shape). t .symbols) e ∙ shape-symbols c q) (amc-map.dataNumber shape (c .cell) s m) _ refl q shape e refl in
       starts ((m + shiftOf c s) % 48) (omega arith)
       ∙ ap (λ (by : ℕ). amc.sequenceCarrier shape n first (c .cell) s ((m + by) % 48)) (sym (mode-amc _ _ _ _ _ _ q))
       ∙ carrier-at shape n first (c .cell) s m

@@ -14,21 +14,22 @@ use Rattle.pusc_ul.specs.Model as pusc-ul
 use Rattle.ofusc.specs.Model as ofusc
 use Rattle.amc.specs.Model as amc
 
--- what the cell alone fixes, in the table of its mode: how many entries, and entry i
+-- what setup and slot fix for all subchannels, in the table of the mode: how many entries, and entry i
 unfoldable pub tableLength : (setup : Setup) → ℕ
-tableLength setup = byMode (setup .mode) 188 76 48 144 0
+tableLength setup = byMode (setup .mode) 188 76 48 48 0
 
-unfoldable pub tableEntry : (setup : Setup) (i : ℕ) → ℕ
-tableEntry setup i =
+unfoldable pub tableEntry : (setup : Setup) (slot i : ℕ) → ℕ
+tableEntry setup slot i =
+    let shape = shapeOf (setup .mode) in
     byMode (setup .mode)
     (pusc-dl.tableEntry (setup .cell) i)
     (pusc-ul.tableEntry (setup .cell) i)
     (ofusc.cellNumber (width setup) (setup .cell) i)
-    (amc.tableEntry (shapeOf (setup .mode)) (width setup) (setup .cell) i)
+    (amc.sequenceCarrier shape (width setup) (slot * shape .symbols) (setup .cell) 0 i)
     0
 
-abbrev pub TableOf : (setup : Setup) (table : List ℕ) → Type 0
-TableOf setup table = Starts (tableLength setup) (tableEntry setup) table
+abbrev pub TableOf : (setup : Setup) (slot : ℕ) (table : List ℕ) → Type 0
+TableOf setup slot table = Starts (tableLength setup) (tableEntry setup slot) table
 
 -- how far a subchannel's row is shifted round: by data place in PUSC uplink, by group in optional FUSC, by the places of P in AMC
 unfoldable pub shiftOf : (setup : Setup) (s : ℕ) → ℕ

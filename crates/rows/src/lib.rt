@@ -1,4 +1,4 @@
-// Where a subchannel's points and a symbol's pilots stand, found fast: a table for the cell, then a row of 48 carriers, and the
+// Where a subchannel's points and a symbol's pilots stand, found fast: a table for the slot, then a row of 48 carriers, and the
 // pilots as combs. The map's own definitions say what they are.
 use map::Setup;
 ghost use mathlib.Core.Path.{_≡_};
@@ -17,10 +17,10 @@ pub struct Comb {
     pub count: usize,
 }
 
-// What the cell alone fixes of the places of a slot.
-pub fn table(setup: Setup) -> [u16; 188]
+// What setup and slot fix of the places of a slot, for all its subchannels.
+pub fn table(setup: Setup, slot: usize) -> [u16; 188]
     requires { ⌜ Valid setup ⌝ }
-    ensures { λ r. ⌜ TableOf setup r ⌝ }
+    ensures { λ r. ⌜ TableOf setup slot r ⌝ }
 {
     if setup.mode == 0 {
         return pusc_dl::table(setup.cell);
@@ -31,7 +31,7 @@ pub fn table(setup: Setup) -> [u16; 188]
     if setup.mode == 2 {
         return ofusc::table(map::width(setup), setup.cell);
     }
-    amc::table(map::shape(setup.mode), map::width(setup), setup.cell)
+    amc::table(map::shape(setup.mode), map::width(setup), slot, setup.cell)
 }
 
 // The place in a subchannel's row at which index 0 stands; the others follow, going on at the row's start.
@@ -57,7 +57,7 @@ pub fn shift(setup: Setup, subchannel: usize) -> usize
 // Where the points of a subchannel of PUSC downlink or optional FUSC lie in its slot, as numbers, index 0 at place `shift`.
 fn spots(setup: Setup, slot: usize, subchannel: usize, table: &[u16; 188]) -> [u16; 48]
     requires { ⌜ Valid setup ⌝ }
-    requires { ⌜ (setup .mode < 3) × (setup .mode ≡ 1 → ⊥) × (subchannel < subchannels setup) × TableOf setup (now table) ⌝ }
+    requires { ⌜ (setup .mode < 3) × (setup .mode ≡ 1 → ⊥) × (subchannel < subchannels setup) × TableOf setup slot (now table) ⌝ }
     ensures { λ r. ⌜ Turned (shiftOf setup subchannel) (λ m. spotNumber (spotOf setup slot subchannel m)) r ⌝ }
 {
     if setup.mode == 0 {
@@ -72,7 +72,7 @@ fn spots(setup: Setup, slot: usize, subchannel: usize, table: &[u16; 188]) -> [u
 // The carriers of a subchannel's points as numbers, the size for each symbol of the slot, index 0 at place `shift`.
 pub fn carrier_row(setup: Setup, slot: usize, subchannel: usize, table: &[u16; 188]) -> [u16; 48]
     requires { ⌜ Valid setup ⌝ }
-    requires { ⌜ (subchannel < subchannels setup) × TableOf setup (now table) ⌝ }
+    requires { ⌜ (subchannel < subchannels setup) × TableOf setup slot (now table) ⌝ }
     ensures { λ r. ⌜ Turned (shiftOf setup subchannel) (λ m. carrierNumber (setup .size) (band setup) (spotOf setup slot subchannel m)) r ⌝ }
 {
     if setup.mode == 1 {

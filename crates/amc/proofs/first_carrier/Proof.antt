@@ -1,39 +1,35 @@
 -- `amc::first_carrier` meets its contract.
-use Prim.Native.Nat.{_+_, _*_, _%_}
+use Prim.Native.Nat.{_+_, _-_, _*_, _%_, _≤_}
 use native.Mathlib.Omega.{arith}
 use lib.Dec.{leb}
 use borrow.Author.Needs.{needs}
 use Rattle.base.proofs.LeaveOut.{step-fits}
+use Rattle.amc.proofs.Parts.{bins-few}
 use Rattle.amc.proofs.Row.{first-is, rows-few}
 use Rattle.amc.proofs.first_carrier.Statement.{statement}
 use Rattle.amc.proofs.first_carrier.Tie as tie
 
-mul-result-2 : tie.Need-mul-result-2
-mul-result-2 c = let x = c .before .before in omega (arith, rows-few _ _ (x .traffic-place .ensures .1 .0) (x .before .pre .1))
+-- nine used numbers a bin
+bins : tie.Need-sub-result
+bins c = omega (arith, bins-few _ (c .before .before .pre .0))
 
-add-result : tie.Need-add-result
-add-result c = let x = c .before .before in omega (arith, rows-few _ _ (x .traffic-place .ensures .1 .0) (x .before .pre .1))
-
-add-result-2 : tie.Need-add-result-2
-add-result-2 c = let x = c .before .before .before in omega (arith, rows-few _ _ (x .traffic-place .ensures .1 .0) (x .before .pre .1), x .traffic-place .ensures)
-
-add-result-3 : tie.Need-add-result-3
-add-result-3 c = let x = c .before .before .before .before in omega (arith, rows-few _ _ (x .traffic-place .ensures .1 .0) (x .before .pre .1), x .traffic-place .ensures)
+-- the rows before the symbol
+few : (c : tie.After-struct-known) → c .before .bin-symbol .result * (64 * c .before .before .args .n - 9 * c .before .before .args .shape .bins) ≤ 10240
+few c = rows-few _ _ (c .before .bin-symbol .ensures .1) (omega arith)
 
 add-result-4 : tie.Need-add-result-4
 add-result-4 c =
-    let x = c .before .before .before .before .before in
-    step-fits _ (leb (3 * ((x .before .args .first + x .traffic-place .result .offset) % 3) + 1) (x .traffic-place .result .place)) (omega (arith, rows-few _ _ (x .traffic-place .ensures .1 .0) (x .before .pre .1), x .traffic-place .ensures))
+    let s = c .before .before in
+    step-fits _ (leb (3 * ((s .args .first + c .before .bin-symbol .result) % 3) + 1) (s .args .v % 8)) (omega (arith, few c))
 
 returns : tie.Need-returns
-returns c =
-    let x = c .before .before .before .before .before in
-    let is = x .traffic-place .ensures .0 in
-    first-is _ (x .before .pre .0) _ (x .before .pre .1) _ (x .before .args .v) _ _ _ (is .0) (is .1) (is .2)
+returns c = let s = c .before .before in first-is _ (s .pre .0) _ (s .pre .1) _ (s .args .v) _ (c .before .bin-symbol .ensures .0)
 
 pub first-carrier-spec : {M : Type 1} → statement M
 first-carrier-spec =
     tie.close
     (tie.spec
-    (λ c κs. search needs) (λ c. search needs) (λ c. search needs) (λ c. search needs) (λ c. search needs) mul-result-2
-    (λ c. search needs) add-result (λ c. search needs) add-result-2 add-result-3 (λ c. search needs) add-result-4 returns)
+    (λ c κs. search needs) (λ c. search needs) (λ c. search needs) (λ c. search needs) (λ c. search needs)
+    (λ c. omega (arith, bins-few _ (c .before .before .pre .0))) (λ c. omega (arith, bins-few _ (c .before .before .pre .0)))
+    bins (λ c. omega (arith, few c)) (λ c. search needs) (λ c. omega (arith, few c)) (λ c. omega (arith, few c))
+    (λ c. omega (arith, few c)) (λ c. search needs) add-result-4 returns)

@@ -34,12 +34,12 @@ bin-spot-requires c κs =
     let s = y .before .before .before .before .before in
     let few = ofusc-few (s .pre .0) _ refl _ _ (s .pre .1 .1) (s .pre .1 .2) (c .before .if3 .taken) in (
       omega (arith, slot-few (s .pre .0) (s .args .slot) (y .symbols .result) (s .pre .1 .0) (y .symbols .ensures)),
-      rw (c .ofusc-place .ensures) (omega arith),
-      rw (c .ofusc-place .ensures) few,
+      rw (c .ofusc-number .ensures) (omega arith),
+      rw (c .ofusc-number .ensures) few,
     )
 
-data-place-requires : tie.Need-data-place-requires
-data-place-requires c κs =
+data-number-requires : tie.Need-data-number-requires
+data-number-requires c κs =
     let p = c .before .before .before .before .before .before .before .before .pre in
     amc-asks (p .0) (search (amc-mode, needs)) _ _ (p .1 .1) (p .1 .2) _ (c .shape .ensures)
 
@@ -49,8 +49,8 @@ bin-spot-requires-2 c κs =
     let s = y .before .before .before .before .before in
     let few = amc-few (s .pre .0) (search (amc-mode, needs)) _ _ (s .pre .1 .1) (s .pre .1 .2) _ (c .before .shape .ensures) in (
       omega (arith, slot-few (s .pre .0) (s .args .slot) (y .symbols .result) (s .pre .1 .0) (y .symbols .ensures)),
-      rw (c .data-place .ensures) (few .0),
-      rw (c .data-place .ensures) (few .1),
+      rw (c .data-number .ensures) (few .0),
+      rw (c .data-number .ensures) (few .1),
     )
 
 pub spot-spec : {M : Type 1} → statement M
@@ -58,5 +58,5 @@ spot-spec =
     tie.close
     (tie.spec
     spot-requires returns spot-requires-2 returns-2 (λ c κs. search needs) mul-first (λ c κs. search needs)
-    bin-spot-requires (λ c. search (ofusc-spot, needs)) (λ c κs. search needs) data-place-requires bin-spot-requires-2
+    bin-spot-requires (λ c. search (ofusc-spot, needs)) (λ c κs. search needs) data-number-requires bin-spot-requires-2
     (λ c. search (amc-spot, amc-mode, needs)))

@@ -19,6 +19,7 @@ returns-3 : tie.Need-returns-3
 unfolding subchannels
 returns-3 c = rw (c .width .ensures) (mode-2 _ _ _ _ _ _ (c .before .if3 .taken))
 
+-- N is below 2^58, whatever the size
 mul-result : tie.Need-mul-result
 unfolding width
 mul-result c =

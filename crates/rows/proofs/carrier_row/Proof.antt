@@ -9,7 +9,7 @@ use Rattle.rows.proofs.carrier_row.Tie as tie
 carrier-row-requires : tie.Need-carrier-row-requires
 carrier-row-requires c κs =
     let p = c .before .before .pre in
-    asks-1 (p .0) _ (p .1 .0) (c .before .before .args .table .now) (p .1 .1) (c .if1 .taken)
+    asks-1 (p .0) _ (p .1 .0) _ (c .before .before .args .table .now) (p .1 .1) (c .if1 .taken)
 
 returns : tie.Need-returns
 returns c =
@@ -19,7 +19,7 @@ returns c =
 carrier-row-requires-2 : tie.Need-carrier-row-requires-2
 carrier-row-requires-2 c κs =
     let s = c .before .before .before .before .before .before in
-    asks-amc (s .pre .0) _ (s .pre .1 .0) (s .args .table .now) (s .pre .1 .1) (search (listed-mode, needs)) _ (c .before .shape .ensures) _ (c .width .ensures)
+    asks-amc (s .pre .0) _ (s .pre .1 .0) _ (s .args .table .now) (s .pre .1 .1) (search (listed-mode, needs)) _ (c .before .shape .ensures) _ (c .width .ensures)
 
 returns-2 : tie.Need-returns-2
 returns-2 c =

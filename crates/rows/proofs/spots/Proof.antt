@@ -7,7 +7,7 @@ use Rattle.rows.proofs.spots.Tie as tie
 spots-requires : tie.Need-spots-requires
 spots-requires c κs =
     let p = c .before .before .pre in
-    asks-0 (p .0) _ (p .1 .2) (c .before .before .args .table .now) (p .1 .3) (c .if1 .taken)
+    asks-0 (p .0) _ (p .1 .2) _ (c .before .before .args .table .now) (p .1 .3) (c .if1 .taken)
 
 returns : tie.Need-returns
 returns c = row-0 _ _ _ (c .before .if1 .taken) (c .spots .result) (c .spots .ensures)
@@ -15,13 +15,13 @@ returns c = row-0 _ _ _ (c .before .if1 .taken) (c .spots .result) (c .spots .en
 numbers-requires : tie.Need-numbers-requires
 numbers-requires c κs =
     let s = c .before .before .before in
-    let a = asks-2 (s .pre .0) _ (s .pre .1 .2) (s .args .table .now) (s .pre .1 .3) _ (c .width .ensures) (search (only-ofusc, needs)) in
+    let a = asks-2 (s .pre .0) _ (s .pre .1 .2) _ (s .args .table .now) (s .pre .1 .3) _ (c .width .ensures) (search (only-ofusc, needs)) in
     (a .0, (a .1, a .2))
 
 used-numbers-requires : tie.Need-used-numbers-requires
 used-numbers-requires c κs =
     let s = c .before .before .before .before in
-    let a = asks-2 (s .pre .0) _ (s .pre .1 .2) (s .args .table .now) (s .pre .1 .3) _ (c .before .width .ensures) (search (only-ofusc, needs)) in
+    let a = asks-2 (s .pre .0) _ (s .pre .1 .2) _ (s .args .table .now) (s .pre .1 .3) _ (c .before .width .ensures) (search (only-ofusc, needs)) in
     row-below (c .numbers .result) _ (c .numbers .ensures) (λ m h. group-number-lt (a .0) _ _ m (a .1) h)
 
 returns-2 : tie.Need-returns-2
