@@ -53,7 +53,7 @@ void plain_tables(void) {
 
 // --- carriers --------------------------------------------------------------------------------------------------------
 
-// From here to the grids all is inline. The compiler would else call place for each point: with seven modes it is long.
+// What a point goes through is inline. The compiler would else call place for each point: with seven modes it is long.
 
 static inline uint32_t left_guards(uint32_t mode, uint32_t size) { return mode < OFUSC ? 184 : 5 * (size / 64); }
 static inline uint32_t used_numbers(uint32_t mode, uint32_t size) { return mode < OFUSC ? 1680 : 54 * (size / 64); }

@@ -68,7 +68,7 @@ enum bp_mode {
     BP_PUSC_DL = 0, /* PUSC downlink */
     BP_PUSC_UL = 1, /* PUSC uplink */
     BP_OFUSC = 2,   /* optional FUSC */
-    BP_AMC = 3,     /* AMC 6x1, the default shape */
+    BP_AMC = 3,     /* AMC 6x1, document 000's default */
     BP_AMC_2X3 = 4, /* AMC 2x3 */
     BP_AMC_3X2 = 5, /* AMC 3x2 */
     BP_AMC_1X6 = 6  /* AMC 1x6 */

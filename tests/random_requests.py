@@ -4,7 +4,7 @@
 
 Ten thousand requests a call. Every answer, every byte that is written and every byte that is not is compared (lent.py).
 Fails where one differs, and also where a refusal, a kind of carrier, a mode and size that a call has, or a mode after
-another that a plan may have never occurred.
+another that a plan may have, never occurred.
 """
 
 import random

@@ -33,6 +33,7 @@ P = """
 """.split()
 
 MODES = range(7)
+UNLISTED = len(MODES)  # the first number that is no mode
 PUSC_DL, PUSC_UL, OFUSC, AMC, AMC_2X3, AMC_3X2, AMC_1X6 = MODES
 
 # The slot of each AMC mode (document 02, wish 2): how many bins a subchannel is wide, how many symbols a slot is long.

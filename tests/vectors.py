@@ -2,6 +2,7 @@
 
     python3 tests/vectors.py map           writes crates/map_vectors/stdin and stdout
     python3 tests/vectors.py collisions    writes crates/collision_vectors/stdin and stdout
+    python3 tests/vectors.py plans         writes crates/plan_vectors/stdin and stdout
     python3 tests/vectors.py --check       fails where a stored file differs from the reference
 
 One request a line, numbers in base ten; the answer repeats the request, then a colon:
@@ -29,7 +30,6 @@ ROOT = os.path.dirname(os.path.dirname(os.path.abspath(__file__)))
 LARGEST = 2**64 - 1
 INPUT_ROOM = 262144  # what a vector program reads
 SETUPS = [(mode, size) for mode in ref.MODES for size in ref.sizes(mode)]
-UNLISTED = len(ref.MODES)  # the first number that is no mode
 
 
 # --- the map ----------------------------------------------------------------------------------
@@ -105,7 +105,7 @@ def slot_cells(mode, size):
 def symbol_cells(mode, size):
     """(cell, symbol) of the whole symbols: every kind of symbol of the mode. AMC has the zone's last
     three symbols, at every second size the three before them: each size has every pilot's place,
-    and two have it at every offset in the slot."""
+    and two sizes together have it at every offset in the slot."""
     n = ref.n_of(size)
     if mode in ref.SHAPES:
         end = 512 * ref.SLOT_LENGTH[mode] - 3 * (ref.BIN_SIZES.index(size) % 2)
@@ -120,13 +120,13 @@ def symbol_cells(mode, size):
 def good_place(mode, size):
     """One accepted request, with the first number of each field that is not."""
     good = [mode, size, 3, 7, 2, 11]
-    limits = [UNLISTED, size + 1, ref.cells(mode, size), 512, ref.subchannels(mode, size), 48]
+    limits = [ref.UNLISTED, size + 1, ref.cells(mode, size), 512, ref.subchannels(mode, size), 48]
     return good, limits
 
 
 def good_locate(mode, size):
     good = [mode, size, 3, 7, size // 2 + 5]
-    limits = [UNLISTED, size + 1, ref.cells(mode, size), 512 * ref.SLOT_LENGTH[mode], size]
+    limits = [ref.UNLISTED, size + 1, ref.cells(mode, size), 512 * ref.SLOT_LENGTH[mode], size]
     return good, limits
 
 
@@ -171,7 +171,7 @@ def edges(mode, size):
 
 def size_edges():
     """Sizes that are no mode's, those that are another mode's only, and all of them where the mode is not listed."""
-    for mode in (*ref.MODES, UNLISTED, 2**32 - 1):
+    for mode in (*ref.MODES, ref.UNLISTED, 2**32 - 1):
         for size in (0, 1, 64, 128, 255, 256, 257, 512, 1023, 1024, 1536, 2047, 2048, 2049, 4096, LARGEST):
             yield ("p", mode, size, 0, 0, 0, 0, 1)
             yield ("l", mode, size, 0, 0, 0, 1)
@@ -375,7 +375,7 @@ def limit_plans():
         yield 1, size, good
         yield 1, size, [(1, 9999, 0)]
     for size in ref.BIN_SIZES:
-        for mode in (*ref.MODES, UNLISTED, 127, 128):
+        for mode in (*ref.MODES, ref.UNLISTED, 127, 128):
             for cell in (0, 31, 32, 255, 256, 1023, 1024, 2351, 2352):
                 for slots in (0, 1, 512, 513):
                     if mode not in ref.PLAN_MODES and cell not in (0, 2352):
@@ -397,7 +397,7 @@ def limit_plans():
 def ordered_plans():
     """(count, size, zones): at each size every mode first, and every mode after every other; what may not follow AMC also
     without slots, where 13 is met before 14."""
-    modes = (*ref.MODES, UNLISTED)
+    modes = (*ref.MODES, ref.UNLISTED)
     for size in ref.BIN_SIZES:
         for mode in modes:
             yield 1, size, [(mode, 1, 1)]

@@ -14,7 +14,6 @@ import reference as ref
 LARGEST = 2**32 - 1
 KINDS = {ref.GUARD: 0, ref.DC: 1, ref.PILOT: 2, ref.DATA: 3}
 SETUPS = [(mode, size) for mode in ref.MODES for size in ref.sizes(mode)]
-UNLISTED = len(ref.MODES)  # the first number that is no mode
 
 
 def wrong(dice, good, limit):
@@ -43,7 +42,7 @@ def locate_row(fields):
 
 
 def place_rows(dice, mode, size):
-    limits = [UNLISTED, 2049, ref.cells(mode, size), 512, ref.subchannels(mode, size), 48]
+    limits = [ref.UNLISTED, 2049, ref.cells(mode, size), 512, ref.subchannels(mode, size), 48]
     for _ in range(300):
         good = [mode, size] + [dice.randrange(limit) for limit in limits[2:]]
         yield place_row(good)
@@ -52,7 +51,7 @@ def place_rows(dice, mode, size):
 
 def locate_rows(dice, mode, size):
     """A few cells and symbols, many carriers of each, DC and the edges of the band among them."""
-    limits = [UNLISTED, 2049, ref.cells(mode, size), 512 * ref.SLOT_LENGTH[mode], size]
+    limits = [ref.UNLISTED, 2049, ref.cells(mode, size), 512 * ref.SLOT_LENGTH[mode], size]
     left, used = ref.left_guards(mode, size), ref.used_numbers(mode, size)
     edges = [0, left - 1, left, size // 2 - 1, size // 2, size // 2 + 1, left + used, left + used + 1, size - 1]
     for _ in range(6):
@@ -99,7 +98,7 @@ def amc_rows(dice):
 def length_rows():
     """Every mode and size that is listed, those beside, and some that are cut to a listed one."""
     sizes = [size + off for size in ref.BIN_SIZES for off in (0, -1, 1, 2**16, 2**31)] + [0, 64, 128, 4096, LARGEST]
-    for mode in [*ref.MODES, UNLISTED, UNLISTED + 1, 2**8, 2**16 + 2, 2**31, 2**31 + 6, LARGEST]:
+    for mode in [*ref.MODES, ref.UNLISTED, ref.UNLISTED + 1, 2**8, 2**16 + 2, 2**31, 2**31 + 6, LARGEST]:
         for size in sizes:
             yield [mode, size, ref.points_len(mode, size), ref.grid_len(mode, size)]
 

@@ -51,7 +51,7 @@ def lengths_rows(dice, mode, size):
     good = [mode, size, ref.cells(mode, size) - 1, 511, points, grid]
     for _ in range(3):
         lengths = [wrong_length(dice, points, grid), wrong_length(dice, grid, points)]
-        for fields in wrong_sets(good, [table.UNLISTED, 128, ref.cells(mode, size), 512] + lengths):
+        for fields in wrong_sets(good, [ref.UNLISTED, 128, ref.cells(mode, size), 512] + lengths):
             yield fields + [ref.buffers_refusal(*fields)]
 
 
@@ -59,7 +59,7 @@ def unseen_rows(dice, mode, size):
     symbols, grid = 512 * ref.SLOT_LENGTH[mode], ref.grid_floats(mode, size)
     good = [mode, size, ref.cells(mode, size) - 1, symbols - 1, dice.randrange(size), grid]
     length = wrong_length(dice, grid, 96 * ref.subchannels(mode, size))
-    for fields in wrong_sets(good, [table.UNLISTED, 128, ref.cells(mode, size), symbols, size, length]):
+    for fields in wrong_sets(good, [ref.UNLISTED, 128, ref.cells(mode, size), symbols, size, length]):
         yield fields + [ref.look_refusal(*fields[:4], fields[5], fields[4])]
 
 

@@ -42,7 +42,7 @@ unfolding setFrom tabulate amcOf answerOf amcHit question.isCell mode.cells amc.
 adjacent = refl
 
 pub known : Known
-unfolding tabulate skip placeOf placeAt mode.width mode.cells mode.subchannels mode.symbols mode.band mode.spotOf question.isMode question.isFourSizes question.isSize question.isCell question.isSlot question.isSubchannel question.isIndex band.carrierOf bin.binPilotPlace bin.usedOfData dl.groupUsed dl.spotOf group.groupIn group.groupSize group.ofSize group.baseOf group.groupData cluster.unrenumber cluster.firstPilot cluster.secondPilot cluster.clusterPlace ul.spotOf tile.tileOf tile.placeSymbol tile.placeTile tile.placeCarrier ofusc.groupOf ofusc.term ofusc.mask ofusc.dataNumber field.modulus field.coefficient field.product field.remainder field.times field.power field.p1 field.p2
+unfolding tabulate skip placeOf placeAt mode.shapeOf mode.width mode.cells mode.subchannels mode.symbols mode.band mode.spotOf question.isMode question.isFourSizes question.isSize question.isCell question.isSlot question.isSubchannel question.isIndex band.carrierOf bin.binPilotPlace bin.usedOfData dl.groupUsed dl.spotOf group.groupIn group.groupSize group.ofSize group.baseOf group.groupData cluster.unrenumber cluster.firstPilot cluster.secondPilot cluster.clusterPlace ul.spotOf tile.tileOf tile.placeSymbol tile.placeTile tile.placeCarrier ofusc.groupOf ofusc.term ofusc.mask ofusc.dataNumber field.modulus field.coefficient field.product field.remainder field.times field.power field.p1 field.p2 amc.off amc.zeroRule amc.elementOf amc.traffic amc.trafficNumber amc.dataNumber element.add element.times element.sequence
 known =
     record {
       line-1 = (refl, refl);
@@ -57,4 +57,8 @@ known =
       line-10 = any-cell;
       line-11 = (any-first-cell 0 (omega arith), first-refusals .0);
       line-11-twin = any-first-cell 5 (omega arith);
+      amc-6x1 = refl;
+      amc-2x3 = (refl, refl);
+      amc-3x2 = refl;
+      amc-1x6 = (refl, refl);
     }

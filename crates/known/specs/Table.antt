@@ -75,3 +75,8 @@ pub record Known : Type 0 where
   pub line-11 : (planOf (1 ∷ 0x80 ∷ 0x10 ∷ 0 ∷ 0 ∷ 0x0C ∷ []) ≡ accepted (planWith 1 2048 (zone 0 0 12 ∷ []))) × (planOf (1 ∷ 0x80 ∷ 0x10 ∷ 2 ∷ 0 ∷ 0x0C ∷ []) ≡ refused 14)
   -- Document 02, wish 1: its twin with cell 5, 01 80 10 00 05 0C (hex), is read.
   pub line-11-twin : planOf (1 ∷ 0x80 ∷ 0x10 ∷ 0 ∷ 5 ∷ 0x0C ∷ []) ≡ accepted (planWith 1 2048 (zone 0 5 12 ∷ []))
+  -- Not starred: points of AMC's shapes, worked out by hand from document 02, wish 2. Cell 0 has E = P, so its index 2 is at v = 33 and its index 41 at v = 47; cell 629 has its index 14 under the zero rule, at v = 12.
+  pub amc-6x1 : placeOf (setupWith 3 256 0) 0 3 2 ≡ at 0 221
+  pub amc-2x3 : (placeOf (setupWith 4 256 0) 0 5 2 ≡ at 2 111) × (placeOf (setupWith 4 2048 629) 511 95 14 ≡ at 1533 1885)
+  pub amc-3x2 : placeOf (setupWith 5 256 0) 1 7 2 ≡ at 3 221
+  pub amc-1x6 : (placeOf (setupWith 6 512 0) 1 47 2 ≡ at 10 465) × (placeOf (setupWith 6 512 0) 511 0 41 ≡ at 3071 48)
