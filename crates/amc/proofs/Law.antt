@@ -16,7 +16,7 @@ use Rattle.amc.specs.Map.{off, zeroRule, sumOf, elementOf, traffic, inde
 use Rattle.amc.specs.Model.{IsShape}
 use Rattle.amc.proofs.Digit.{Proper, number-lt, digits-proper, digits-number, add-proper, subtract-proper, subtract-add, add-subtract, added-differs, subtracted-differs}
 use Rattle.amc.proofs.Tables.{powers, position-lt, at-position}
-use Rattle.amc.proofs.Parts.{bins-pos, symbols-six}
+use Rattle.amc.proofs.Parts.{bins-pos, symbols-six, rest-six}
 use Rattle.amc.proofs.ZeroRule.{sum-back, rule-nonzero, rule-proper, rule-back, sum-not-off, sum-proper}
 
 module _ (cell : ℕ) (range : cell < 2352) where
@@ -147,6 +147,10 @@ module _ (shape : Shape) (six : IsShape shape) where
   -- a symbol and a bin of a subchannel as a traffic place
   pub traffic-below : (o d : ℕ) → o < t → (o * b + d / 8 % b) * 8 + d % 8 < 48
   traffic-below o d h = omega (arith, rw (symbols-six shape six) at (digits-lt h (rest-lt (d / 8))))
+
+  -- as the code puts it together
+  pub index-below : (o d q : ℕ) → o < t → q ≡ d / 8 / b → (o * b + (d / 8 - q * b)) * 8 + d % 8 < 48
+  index-below o d q h e = rw (rest-six shape six (d / 8) q e) (traffic-below o d h)
 
   module _ (a v : ℕ) where
     abbrev its : DataNumber

@@ -1,7 +1,7 @@
 -- A slot's shape: what follows of its two numbers from their product alone.
 use mathlib.Core.Path.{_≡_, sym, ap, _∙_}
-use Prim.Native.Nat.{ℕ, _+_, _-_, _*_, _/_, _%_, _<_, _≤_}
-use native.Mathlib.Nat.{mul-comm, mul-left-comm, mul-le-mul, pos-of-ne-zero, mul-div-mul-right, div-add-mod', div-le-self}
+use Prim.Native.Nat.{ℕ, _-_, _*_, _/_, _%_, _<_, _≤_}
+use native.Mathlib.Nat.{mul-comm, mul-le-mul, pos-of-ne-zero, mul-div-mul-right, mod-eq-sub-div-mul, div-mul-le-self, div-le-self}
 use native.Mathlib.Omega.{arith}
 use Rattle.amc.specs.declared.Shape.{Shape}
 use Rattle.amc.specs.Model.{IsShape}
@@ -33,19 +33,12 @@ module _ (shape : Shape) (six : IsShape shape) where
   pub quotient-few : (w : ℕ) → w < 6 → w / shape .bins < 6
   quotient-few w h = omega (arith, div-le-self w (shape .bins))
 
-  -- A subchannel has eight places a bin in each symbol. Take those of the q runs before it off x, and put those of p others before it.
-  run-is : (q : ℕ) → q * (8 * shape .bins) ≡ 8 * (q * shape .bins)
-  run-is q = mul-left-comm q 8 (shape .bins)
+  -- the bin in its symbol, as the code finds it
+  pub rest-six : (w q : ℕ) → q ≡ w / shape .bins → w - q * shape .bins ≡ w % shape .bins
+  rest-six w q e = ap (λ (x : ℕ). w - x * shape .bins) e ∙ sym (mod-eq-sub-div-mul w (shape .bins))
 
-  module _ (x q : ℕ) (e : q ≡ x / 8 / shape .bins) where
-    parts : q * shape .bins + x / 8 % shape .bins ≡ x / 8
-    parts = ap (λ (k : ℕ). k * shape .bins + x / 8 % shape .bins) e ∙ div-add-mod' (x / 8) (shape .bins)
+  pub taken-le : (w q : ℕ) → q ≡ w / shape .bins → q * shape .bins ≤ w
+  taken-le w q e = rw e (div-mul-le-self w (shape .bins))
 
-    pub run-le : q * (8 * shape .bins) ≤ x
-    run-le = omega (arith, run-is q, parts)
-
-    pub run-moved : (p : ℕ) → p * (8 * shape .bins) + (x - q * (8 * shape .bins)) ≡ (p * shape .bins + x / 8 % shape .bins) * 8 + x % 8
-    run-moved p = omega (arith, run-is p, run-is q, parts)
-
-  pub before-few : (a : ℕ) → a < 65536 → a * (8 * shape .bins) ≤ 3145728
-  before-few a h = mul-le-mul {n₁ = a} {m₁ = 8 * shape .bins} {n₂ = 65536} {m₂ = 48} (omega arith) (omega (arith, bins-few))
+  pub before-few : (a : ℕ) → a < 65536 → a * shape .bins ≤ 393216
+  before-few a h = mul-le-mul {n₁ = a} {m₁ = shape .bins} {n₂ = 65536} {m₂ = 6} (omega arith) bins-few

@@ -199,17 +199,17 @@ fn bin_symbol(shape: Shape, w: u16) -> u16
     w * shape.symbols as u16 / 6
 }
 
-// The symbol and the data number of a point; a subchannel has `run` data numbers in each symbol.
+// The symbol and the data number of a point.
 pub fn data_number(shape: Shape, cell: usize, subchannel: usize, index: usize) -> DataNumber
     requires { ⌜ IsShape shape × (cell < 2352) × (subchannel < 65536) × (index < 48) ⌝ }
     ensures { λ r. ⌜ r ≡ dataNumber shape cell subchannel index ⌝ }
 {
     let v = traffic(cell, index);
     let offset = wide16(bin_symbol(shape, v / 8));
-    let run = 8 * shape.bins;
+    let bin = wide16(v / 8) - offset * shape.bins;
     DataNumber {
         offset: offset,
-        number: subchannel * run + (wide16(v) - offset * run),
+        number: (subchannel * shape.bins + bin) * 8 + wide16(v % 8),
     }
 }
 
@@ -219,10 +219,10 @@ pub fn address(shape: Shape, cell: usize, offset: usize, d: usize) -> Address
     ensures { λ r. ⌜ r ≡ addressOf shape cell offset d ⌝ }
 {
     let subchannel = d / 8 * shape.symbols / 6;
-    let run = 8 * shape.bins;
+    let bin = d / 8 - subchannel * shape.bins;
     Address {
         subchannel: subchannel,
-        index: index(cell, offset * run + (d - subchannel * run)),
+        index: index(cell, (offset * shape.bins + bin) * 8 + d % 8),
     }
 }
 
