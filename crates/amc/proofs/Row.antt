@@ -1,19 +1,15 @@
 -- A row of carriers by the places of P.
 use mathlib.Core.Bool.{Bool}
-use mathlib.Core.List.{List}
 use mathlib.Core.Path.{_≡_, refl, sym, ap, ap₂, _∙_, subst}
 use Prim.Native.Nat.{ℕ, _+_, _-_, _*_, _/_, _%_, _<_, _≤_}
-use native.Mathlib.Nat.{pos-of-ne-zero, mod-lt, mod-add-mod, mul-assoc, mul-left-comm, mul-right-comm, mul-sub, mul-le-mul, mul-le-mul-left, add-mul, mul-add-mod-self-right, div-add-mod', mul-div-left, div-lt-iff-lt-mul}
+use native.Mathlib.Nat.{pos-of-ne-zero, mod-lt, mul-assoc, mul-left-comm, mul-right-comm, mul-sub, mul-le-mul, mul-le-mul-left, add-mul, mul-add-mod-self-right, div-add-mod', mul-div-left, div-lt-iff-lt-mul}
 use native.Mathlib.Omega.{arith}
 use lib.Arith.{digits-lt}
-use lib.Dec.{eqb, leb, ltb}
-use lib.ListN.{length, getD, set, replicate, length-set, length-replicate}
-use lib.Seq.{getD-set-same, getD-set-other}
+use lib.Dec.{leb}
 use mir.Val.{boolByte}
-use borrow.Author.Tests.{eqb-true, eqb-false, leb-true, leb-false, le-leb, lt-leb, ltb-true, ltb-false}
+use borrow.Author.Tests.{leb-true, leb-false, le-leb, lt-leb}
 use Rattle.base.specs.Choice.{pick}
 use Rattle.base.specs.Steps.{entry, skip}
-use Rattle.base.specs.Model.{Starts}
 use Rattle.base.proofs.Test.{cases}
 use Rattle.base.proofs.LeaveOut.{skip-lt, skip-step}
 use Rattle.carriers.specs.Band.{binBand, carrierOf}

@@ -1,7 +1,7 @@
 -- How a row of carriers is found fast. No reader needs this to know what the calls do.
 use mathlib.Core.Path.{_≡_}
-use Prim.Native.Nat.{ℕ, _+_, _-_, _*_, _/_, _%_, _<_, _≤_}
-use lib.Dec.{leb, ltb}
+use Prim.Native.Nat.{ℕ, _+_, _-_, _*_, _%_, _<_, _≤_}
+use lib.Dec.{leb}
 use Rattle.base.specs.Choice.{pick}
 use Rattle.carriers.specs.Band.{binBand}
 use Rattle.carriers.specs.Bin.{binSpot}

@@ -4,8 +4,8 @@ use Prim.Native.Nat.{ℕ, _*_, _<_, _≤_}
 use native.Mathlib.Nat.{mul-le-mul}
 use native.Mathlib.Omega.{arith}
 use borrow.Author.Tests.{lt-ltb, le-ltb, eq-eqb, ne-eqb, ltb-true, eqb-true}
-use Rattle.base.specs.Answer.{Answer, accepted, refused, refusalOf}
-use Rattle.base.proofs.Chain.{numbered, no-first, no-question, question, number-yes, number-is, number-none}
+use Rattle.base.specs.Answer.{Answer, refused, refusalOf}
+use Rattle.base.proofs.Chain.{numbered, no-first, no-question, question, number-yes}
 use Rattle.map.specs.declared.Setup.{Setup}
 use Rattle.map.specs.Mode.{subchannels, symbols}
 use Rattle.map.specs.Question.{isMode, isSize, isCell, isSlot}

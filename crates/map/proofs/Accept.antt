@@ -1,11 +1,11 @@
 -- Questions 1, 2 and 3 let pass just the valid setups.
 use mathlib.Core.Path.{_≡_, refl, ap, subst⁻¹, _∙_}
-use mathlib.Core.Bool.{Bool, true, false}
+use mathlib.Core.Bool.{true, false}
 use Prim.Native.Nat.{ℕ, zero, suc, _*_, _/_, _<_, _≤_}
 use native.Mathlib.Omega.{arith}
 use lib.Dec.{eqb, ltb}
 use borrow.Author.Tests.{ltb-true, eqb-true, ne-eqb, lt-ltb, le-ltb}
-use Rattle.base.specs.Answer.{Answer, accepted, refused, ask, refusalOf}
+use Rattle.base.specs.Answer.{Answer, refused}
 use Rattle.base.proofs.Test.{cases}
 use Rattle.base.proofs.Chain.{numbered, no-first, no-question, question, number-yes}
 use Rattle.ofusc.specs.Width.{Width, n4, n8, n16, n32}
