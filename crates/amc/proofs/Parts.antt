@@ -1,26 +1,43 @@
 -- A slot's shape: what follows of its two numbers from their product alone.
 use mathlib.Core.Path.{_≡_, sym, ap, _∙_}
-use Prim.Native.Nat.{ℕ, _-_, _*_, _/_, _%_, _<_, _≤_}
+use Prim.Native.Nat.{ℕ, zero, suc, _-_, _*_, _/_, _%_, _<_, _≤_}
 use native.Mathlib.Nat.{mul-comm, mul-le-mul, pos-of-ne-zero, mul-div-mul-right, mod-eq-sub-div-mul, div-mul-le-self, div-le-self}
 use native.Mathlib.Omega.{arith}
 use Rattle.amc.specs.declared.Shape.{Shape}
 use Rattle.amc.specs.Model.{IsShape}
 
-module _ (shape : Shape) (six : IsShape shape) where
-  pub bins-pos : 0 < shape .bins
-  bins-pos = pos-of-ne-zero (λ e. let z : 0 * shape .symbols ≡ 6 = rw e at six in omega arith)
+-- one of two numbers whose product is six
+part-pos : (x y : ℕ) → x * y ≡ 6 → 0 < x
+part-pos x y six = pos-of-ne-zero (λ e. let z : 0 * y ≡ 6 = rw e at six in omega arith)
 
+part-few : (x y : ℕ) → x * y ≡ 6 → x ≤ 6
+part-few x y six = omega (arith, six, mul-le-mul {n₁ = x} {m₁ = 1} {n₂ = x} {m₂ = y} (omega arith) (part-pos y x (mul-comm y x ∙ six)))
+
+-- more than three leave but one
+part-six : (x y : ℕ) → x * y ≡ 6 → 3 < x → x ≡ 6
+part-six x zero six h = absurd (omega arith)
+part-six x (suc zero) six h = omega arith
+part-six x (suc (suc y)) six h = absurd (omega (arith, six, mul-le-mul {n₁ = x} {m₁ = 2} {n₂ = x} {m₂ = suc (suc y)} (omega arith) (omega arith)))
+
+module _ (shape : Shape) (six : IsShape shape) where
   pub symbols-six : shape .symbols * shape .bins ≡ 6
   symbols-six = mul-comm (shape .symbols) (shape .bins) ∙ six
 
+  pub bins-pos : 0 < shape .bins
+  bins-pos = part-pos (shape .bins) (shape .symbols) six
+
   pub symbols-pos : 0 < shape .symbols
-  symbols-pos = pos-of-ne-zero (λ e. let z : 0 * shape .bins ≡ 6 = rw e at symbols-six in omega arith)
+  symbols-pos = part-pos (shape .symbols) (shape .bins) symbols-six
 
   pub bins-few : shape .bins ≤ 6
-  bins-few = omega (arith, six, mul-le-mul {n₁ = shape .bins} {m₁ = 1} {n₂ = shape .bins} {m₂ = shape .symbols} (omega arith) symbols-pos)
+  bins-few = part-few (shape .bins) (shape .symbols) six
 
   pub symbols-few : shape .symbols ≤ 6
-  symbols-few = omega (arith, symbols-six, mul-le-mul {n₁ = shape .symbols} {m₁ = 1} {n₂ = shape .symbols} {m₂ = shape .bins} (omega arith) bins-pos)
+  symbols-few = part-few (shape .symbols) (shape .bins) symbols-six
+
+  -- there are 1, 2, 3 or 6 symbols
+  pub symbols-are : (shape .symbols ≡ 1 → ⊥) → (shape .symbols ≡ 2 → ⊥) → (shape .symbols ≡ 3 → ⊥) → shape .symbols ≡ 6
+  symbols-are n₁ n₂ n₃ = part-six (shape .symbols) (shape .bins) symbols-six (omega (arith, symbols-pos))
 
   -- a quotient by the bins is one by six
   pub by-six : (w : ℕ) → w * shape .symbols / 6 ≡ w / shape .bins

@@ -30,7 +30,7 @@ pub record Figures : Type 0 where
   -- Document 01: "One cell may be given twice: spread then has 48 for the same subchannel, otherwise 0".
   pub f-one-cell : {n a s t : ℕ} → Pair n a s a t
       → (s ≡ t → ofuscOf (64 * n) a s a t .count ≡ 48) × ((s ≡ t → ⊥) → ofuscOf (64 * n) a s a t .count ≡ 0)
-  -- Adjacent mode, AMC, in every shape (document 02, wish 2): "whatever the size, slot and subchannel, mark j of their meeting is set exactly when both place index j on the same carrier of the same symbol.
+  -- Adjacent mode, AMC, in every shape (document 02, wish 2): "whatever the size, slot and subchannel, mark j of their meeting is set exactly when both place index j on the same carrier of the same symbol."
   pub g-mark : (a b : ℕ) → a < 2352 → b < 2352 → (mode : ℕ) → 3 ≤ mode → mode < 7 → {n : ℕ} → Width n
       → (slot s j : ℕ) → slot < 512 → s < subchannels (setupWith mode (64 * n) a) → j < 48
       → Marked (amcOf a b .hits) j ↔ SamePlace (placeOf (setupWith mode (64 * n) a) slot s j) (placeOf (setupWith mode (64 * n) b) slot s j)

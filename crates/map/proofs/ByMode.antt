@@ -20,11 +20,11 @@ use Rattle.pusc_dl.proofs.Tables.{pilot-parity}
 use Rattle.pusc_ul.specs.Tile.{isTilePilot}
 use Rattle.amc.specs.declared.Shape.{Shape}
 use Rattle.amc.specs.Model.{IsShape}
-use Rattle.amc.proofs.Parts.{symbols-pos, symbols-few}
+use Rattle.amc.proofs.Parts.{symbols-pos, symbols-few, symbols-are}
 use Rattle.map.specs.declared.Setup.{Setup}
 use Rattle.map.specs.Mode.{shapeOf, width, cells, subchannels, symbols, band, isPilot, spotOf, addressOf}
 use Rattle.map.specs.Model.{IsAmc, Valid, pusc-dl, pusc-ul, ofusc, amc}
-use Rattle.map.proofs.Choice.{amc-shape, amc-symbols, amc-tests, mode-0, mode-1, mode-2, mode-amc, last-mode}
+use Rattle.map.proofs.Choice.{amc-shape, amc-tests, mode-0, mode-1, mode-2, mode-amc, last-mode}
 use Rattle.map.proofs.Accept.{width-is}
 use Rattle.ofusc.specs.Map as spread
 use Rattle.ofusc.proofs.Law as spread-law
@@ -62,7 +62,7 @@ six-symbols (pusc-ul h) n₁ n₂ n₃ = absurd (n₃ refl)
 six-symbols (ofusc w h) n₁ n₂ n₃ = absurd (n₁ refl)
 six-symbols {c} (amc {mode = m} q w h) n₁ n₂ n₃ =
     let e = shape-symbols c q in
-    sym e ∙ amc-symbols m q (λ z. n₁ (sym e ∙ z)) (λ z. n₂ (sym e ∙ z)) (λ z. n₃ (sym e ∙ z))
+    sym e ∙ symbols-are (shapeOf m) (amc-shape m q) (λ z. n₁ (sym e ∙ z)) (λ z. n₂ (sym e ∙ z)) (λ z. n₃ (sym e ∙ z))
 
 -- a quotient by a slot's symbols, their number being known
 pub by-symbols : (y n k m : ℕ) → n ≡ k → n ≡ m → y / m ≡ y / k

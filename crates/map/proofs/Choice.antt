@@ -14,43 +14,17 @@ use Rattle.map.specs.declared.Setup.{Setup}
 use Rattle.map.specs.Mode.{shape, shapeOf, byMode, width, subchannels, symbols}
 use Rattle.map.specs.Model.{IsAmc}
 
-data Adjacent : ℕ → Type 0 where
-  m3 : Adjacent 3
-  m4 : Adjacent 4
-  m5 : Adjacent 5
-  m6 : Adjacent 6
-
-adjacent : (mode : ℕ) → IsAmc mode → Adjacent mode
-adjacent zero h = absurd (omega arith)
-adjacent (suc zero) h = absurd (omega arith)
-adjacent (suc (suc zero)) h = absurd (omega arith)
-adjacent (suc (suc (suc zero))) h = m3
-adjacent (suc (suc (suc (suc zero)))) h = m4
-adjacent (suc (suc (suc (suc (suc zero))))) h = m5
-adjacent (suc (suc (suc (suc (suc (suc zero)))))) h = m6
-adjacent (suc (suc (suc (suc (suc (suc (suc mode))))))) h = absurd (omega arith)
-
 -- each of AMC's shapes has six bins in all
 pub amc-shape : (mode : ℕ) → IsAmc mode → IsShape (shapeOf mode)
 unfolding shapeOf
-amc-shape mode h = six (adjacent mode h)
-  where
-    six : {mode : ℕ} → Adjacent mode → IsShape (shapeOf mode)
-    six m3 = refl
-    six m4 = refl
-    six m5 = refl
-    six m6 = refl
-
--- and 1, 2, 3 or 6 symbols
-pub amc-symbols : (mode : ℕ) → IsAmc mode → (shapeOf mode .symbols ≡ 1 → ⊥) → (shapeOf mode .symbols ≡ 2 → ⊥) → (shapeOf mode .symbols ≡ 3 → ⊥) → shapeOf mode .symbols ≡ 6
-unfolding shapeOf
-amc-symbols mode h = six (adjacent mode h)
-  where
-    six : {mode : ℕ} → Adjacent mode → (shapeOf mode .symbols ≡ 1 → ⊥) → (shapeOf mode .symbols ≡ 2 → ⊥) → (shapeOf mode .symbols ≡ 3 → ⊥) → shapeOf mode .symbols ≡ 6
-    six m3 n₁ n₂ n₃ = absurd (n₁ refl)
-    six m4 n₁ n₂ n₃ = absurd (n₃ refl)
-    six m5 n₁ n₂ n₃ = absurd (n₂ refl)
-    six m6 n₁ n₂ n₃ = refl
+amc-shape zero h = absurd (omega arith)
+amc-shape (suc zero) h = absurd (omega arith)
+amc-shape (suc (suc zero)) h = absurd (omega arith)
+amc-shape (suc (suc (suc zero))) h = refl
+amc-shape (suc (suc (suc (suc zero)))) h = refl
+amc-shape (suc (suc (suc (suc (suc zero))))) h = refl
+amc-shape (suc (suc (suc (suc (suc (suc zero)))))) h = refl
+amc-shape (suc (suc (suc (suc (suc (suc (suc mode))))))) h = absurd (omega arith)
 
 -- the tests at AMC's modes
 pub record AmcTests (mode : ℕ) : Type 0 where
@@ -99,26 +73,27 @@ mode-rest mode a₀ a₁ a₂ a₃ other same n₀ n₁ n₂ =
     (λ e. mode-amc mode a₀ a₁ a₂ a₃ other (omega (arith, ltb-true mode 7 e)))
     (λ e. let l = ltb-false mode 7 e in same l ∙ mode-other mode a₀ a₁ a₂ a₃ other l)
 
--- an unlisted mode has no shape
-pub no-shape : (mode : ℕ) → 7 ≤ mode → shapeOf mode ≡ shape 0 0
+-- no other mode has a shape
+pub no-shape : (mode : ℕ) → (IsAmc mode → ⊥) → shapeOf mode ≡ shape 0 0
 unfolding shapeOf
-no-shape mode h = rw (ne-eqb mode 3 (λ e. omega arith), ne-eqb mode 4 (λ e. omega arith), ne-eqb mode 5 (λ e. omega arith), ne-eqb mode 6 (λ e. omega arith))
+no-shape mode n =
+    let other : (k : ℕ) → IsAmc k → eqb mode k ≡ false = λ k q. ne-eqb mode k (λ e. n (rw e q)) in
+    rw (other 3 (omega arith), other 4 (omega arith), other 5 (omega arith), other 6 (omega arith))
 
 -- whatever the mode, a shape has few symbols
 pub shape-few : (mode : ℕ) → shapeOf mode .symbols ≤ 6
-unfolding shapeOf
 shape-few mode =
     cases (ltb mode 7)
-    (λ e. cases (ltb mode 3) (λ f. below mode (ltb-true mode 3 f)) (λ f. symbols-few (shapeOf mode) (amc-shape mode (omega (arith, ltb-true mode 7 e, ltb-false mode 3 f)))))
-    (λ e. rw (no-shape mode (ltb-false mode 7 e)) (omega arith))
+    (λ e. cases (ltb mode 3) (λ f. none (λ q. omega (arith, ltb-true mode 3 f))) (λ f. symbols-few (shapeOf mode) (amc-shape mode (omega (arith, ltb-true mode 7 e, ltb-false mode 3 f)))))
+    (λ e. none (λ q. omega (arith, ltb-false mode 7 e)))
   where
-    below : (mode : ℕ) → mode < 3 → shapeOf mode .symbols ≤ 6
-    below mode h = rw (ne-eqb mode 3 (λ e. omega arith), ne-eqb mode 4 (λ e. omega arith), ne-eqb mode 5 (λ e. omega arith), ne-eqb mode 6 (λ e. omega arith)) (omega arith)
+    none : (IsAmc mode → ⊥) → shapeOf mode .symbols ≤ 6
+    none n = rw (no-shape mode n) (omega arith)
 
 -- symbols and subchannels of a mode that is none of 0, 1 and 2, by its shape
 module _ (c : Setup) (s : Shape) (e : s ≡ shapeOf (c .mode)) (n₀ : c .mode ≡ 0 → ⊥) (n₁ : c .mode ≡ 1 → ⊥) (n₂ : c .mode ≡ 2 → ⊥) where
   no-symbols : 7 ≤ c .mode → shapeOf (c .mode) .symbols ≡ 0
-  no-symbols l = ap (λ (t : Shape). t .symbols) (no-shape (c .mode) l)
+  no-symbols l = ap (λ (t : Shape). t .symbols) (no-shape (c .mode) (λ q. omega arith))
 
   pub rest-symbols : s .symbols ≡ symbols c
   unfolding symbols
