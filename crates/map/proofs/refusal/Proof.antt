@@ -1,13 +1,14 @@
 -- `map::refusal` meets its contract.
 use borrow.Author.Tests.{not-true, not-false}
 use mathlib.Core.Path.{_∙_, sym}
+use native.Mathlib.Omega.{arith}
 use Rattle.map.proofs.Accept.{number-1, number-2, number-3, number-0, size-most}
 use borrow.Author.Needs.{needs}
 use Rattle.map.proofs.refusal.Statement.{statement}
 use Rattle.map.proofs.refusal.Tie as tie
 
 returns : tie.Need-returns
-returns c = search (number-1, needs)
+returns c = number-1 _ (omega (arith, c .if1 .taken))
 
 returns-2 : tie.Need-returns-2
 returns-2 c = number-2 _ (c .before .before .if1 .left) (sym (c .before .is-size .ensures) ∙ not-true _ (c .if2 .taken))

@@ -1,4 +1,5 @@
 -- `plan::is_amc` meets its contract.
+use native.Mathlib.Omega.{arith}
 use borrow.Author.Tests.{lt-leb, le-leb}
 use Rattle.plan.specs.Zone.{isAmc}
 use Rattle.plan.proofs.is_amc.Statement.{statement}
@@ -7,4 +8,4 @@ use Rattle.plan.proofs.is_amc.Tie as tie
 pub is-amc-spec : {M : Type 1} → statement M
 unfolding isAmc
 is-amc-spec =
-    tie.close (tie.spec (λ c. rw (lt-leb 3 _ (c .if1 .taken))) (λ c. rw (le-leb 3 _ (c .if1 .left))))
+    tie.close (tie.spec (λ c. rw (lt-leb 3 (c .before .args .mode) (omega (arith, c .if1 .taken)))) (λ c. rw (le-leb 3 _ (c .if1 .left))))
