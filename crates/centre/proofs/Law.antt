@@ -1,0 +1,81 @@
+-- THE LAW OF THE CENTRE holds at every even size, where as many carriers lie below DC as from DC on.
+use mathlib.Core.Path.{_≡_, refl, sym, ap, _∙_}
+use mathlib.Core.Bool.{Bool, true, false}
+use Prim.Native.Nat.{ℕ, zero, suc, _+_, _-_, _*_, _/_, _≤_, _<_}
+use native.Mathlib.Omega.{arith}
+use lib.Dec.{T, ltb}
+use lib.IntN.{ℤ, pos, negsuc, negℤ, natAbs, _+ℤ_, _-ℤ_, -ℤ-+ℤ-cancel, +ℤ-negℤ-cancel}
+use lib.Signed.{ltZ, mag, nonNeg, pos-natAbs}
+use mir.Syntax.{w32}
+use mir.Val.{SFits, toZ, ofZ}
+use mir.ValLaws.{toZ-pos, toZ-ofZ}
+use borrow.Author.Tests.{lt-ltb, le-ltb, ltb-true, ltb-false}
+use Rattle.base.specs.Choice.{pick}
+use Rattle.base.proofs.Test.{cases, true-false}
+use Rattle.centre.specs.Centre.{fromDc, inRange, columnOf}
+use Rattle.centre.specs.Law.{CentreLaw}
+
+-- from -h to h-1
+abbrev around : ℕ → ℤ → Bool
+around h z = pick (ltZ z (negℤ (pos h))) false (ltZ z (pos h))
+
+-- that is one bound
+around-mag : (h : ℕ) (z : ℤ) → around h z ≡ true → mag z < h
+around-mag h z e = by-sign h z (both (ltZ z (negℤ (pos h))) (ltZ z (pos h)) e)
+  where
+    both : (a b : Bool) → pick a false b ≡ true → (a ≡ false) × (b ≡ true)
+    both true b e = absurd (true-false (sym e))
+    both false b e = (refl, e)
+
+    by-sign : (h : ℕ) (z : ℤ) → (ltZ z (negℤ (pos h)) ≡ false) × (ltZ z (pos h) ≡ true) → mag z < h
+    by-sign h (pos n) q = ltb-true n h (q .1)
+    by-sign zero (negsuc n) q = absurd (true-false (q .0))
+    by-sign (suc h) (negsuc n) q = omega (arith, ltb-false h n (q .0))
+
+mag-around : (h : ℕ) (z : ℤ) → mag z < h → around h z ≡ true
+mag-around zero z l = absurd (omega arith)
+mag-around (suc h) (pos n) l = lt-ltb n (suc h) l
+mag-around (suc h) (negsuc n) l = rw (le-ltb h n (omega arith))
+
+-- differences and sums are no larger than their parts
+difference-mag : (k h : ℕ) → (mag (pos k -ℤ pos h) ≤ k + h) × (k < 2 * h → mag (pos k -ℤ pos h) < h)
+difference-mag k zero = (omega arith, λ l. absurd (omega arith))
+difference-mag k (suc h) =
+    cases (ltb k (suc h))
+    (λ t. rw t (omega (arith, ltb-true k (suc h) t), λ l. omega (arith, ltb-true k (suc h) t)))
+    (λ t. rw t (omega arith, λ l. omega arith))
+
+pub sum-mag : (z : ℤ) (h : ℕ) → mag (z +ℤ pos h) ≤ mag z + h
+sum-mag (pos n) h = omega arith
+sum-mag (negsuc n) h = cases (ltb h (suc n)) (λ t. rw t (omega arith)) (λ t. rw t (omega arith))
+
+-- a number from -h on is not negative together with h
+pub sum-nonNeg : (z : ℤ) (h : ℕ) → mag z < h → T (nonNeg (z +ℤ pos h)) × (natAbs (z +ℤ pos h) < 2 * h)
+sum-nonNeg (pos n) h l = (tt, omega arith)
+sum-nonNeg (negsuc n) h l = rw (le-ltb h (suc n) (omega arith)) (tt, omega arith)
+
+-- the machine's difference of two small numbers is their difference
+module _ {a b : ℕ} (la : a ≤ 65536) (lb : b ≤ 65536) where
+  same : toZ w32 a -ℤ toZ w32 b ≡ pos a -ℤ pos b
+  same = rw (toZ-pos w32 a (omega arith), toZ-pos w32 b (omega arith))
+
+  pub difference-fits : SFits w32 (toZ w32 a -ℤ toZ w32 b)
+  difference-fits = rw same (record { sfits = omega (arith, difference-mag a b .0) })
+
+  pub difference-is : toZ w32 (ofZ w32 (toZ w32 a -ℤ toZ w32 b)) ≡ pos a -ℤ pos b
+  difference-is = toZ-ofZ w32 _ difference-fits ∙ same
+
+pub in-range-mag : (size : ℕ) (z : ℤ) → inRange size z ≡ true → mag z < size / 2
+unfolding inRange
+in-range-mag size z e = around-mag (size / 2) z e
+
+pub centre-law : (size : ℕ) → 2 * (size / 2) ≡ size → CentreLaw size
+unfolding inRange fromDc columnOf
+centre-law size even =
+    let h = size / 2 in
+    record {
+      in-range = λ k l. mag-around h (pos k -ℤ pos h) (difference-mag k h .1 (omega arith));
+      back = λ k. ap natAbs (-ℤ-+ℤ-cancel (pos k) (pos h));
+      column-lt = λ z e. omega (arith, sum-nonNeg z h (around-mag h z e) .1);
+      forth = λ z e. ap (λ (x : ℤ). x -ℤ pos h) (pos-natAbs (z +ℤ pos h) (sum-nonNeg z h (around-mag h z e) .0)) ∙ +ℤ-negℤ-cancel z (pos h);
+    }

@@ -1,0 +1,28 @@
+-- `centre::column` meets its contract.
+use mathlib.Core.Path.{_∙_}
+use native.Mathlib.Omega.{arith}
+use Prim.Native.Nat.{_/_}
+use mir.Syntax.{w32}
+use mir.ValLaws.{toZ-pos, toZ-ofZ}
+use borrow.Author.Needs.{needs}
+use Rattle.centre.specs.Centre.{columnOf}
+use Rattle.centre.proofs.Law.{in-range-mag, sum-mag, sum-nonNeg}
+use Rattle.centre.proofs.column.Statement.{statement}
+use Rattle.centre.proofs.column.Tie as tie
+
+add-result : tie.Need-add-result
+add-result c =
+    rw (toZ-ofZ w32 (c .args .carrier) (c .fits .carrier), toZ-pos w32 (c .args .size / 2) (omega arith))
+    (record { sfits = omega (arith, sum-mag (c .args .carrier) (c .args .size / 2), in-range-mag (c .args .size) (c .args .carrier) (c .pre .1)) })
+
+cast-result-2 : tie.Need-cast-result-2
+cast-result-2 c = let q = sum-nonNeg (c .args .carrier) (c .args .size / 2) (in-range-mag (c .args .size) (c .args .carrier) (c .pre .1)) in
+    rw (toZ-ofZ w32 _ (add-result c), toZ-ofZ w32 (c .args .carrier) (c .fits .carrier), toZ-pos w32 (c .args .size / 2) (omega arith))
+    (q .0, record { fits = omega arith })
+
+returns : tie.Need-returns
+unfolding columnOf
+returns c = rw (toZ-ofZ w32 _ (add-result c), toZ-ofZ w32 (c .args .carrier) (c .fits .carrier), toZ-pos w32 (c .args .size / 2) (omega arith))
+
+pub column-spec : {M : Type 1} → statement M
+column-spec = tie.close (tie.spec (λ c. search needs) add-result cast-result-2 returns)
