@@ -2,6 +2,7 @@
 use mathlib.Core.Path.{_≡_, sym, ap, _∙_}
 use mathlib.Core.List.{List}
 use Prim.Native.Nat.{ℕ, _<_}
+use lib.IntN.{ℤ}
 use lib.Ieee.{Float}
 use Rattle.base.specs.Answer.{Answer}
 use Rattle.map.specs.declared.Setup.{Setup}
@@ -13,11 +14,11 @@ use Rattle.grid.specs.Grid.{Sight, lookOf, seen}
 use Rattle.grid.proofs.Looked.{look-point}
 use Rattle.capi.specs.Grid.{lookOut}
 
-module _ (setup : Setup) (symbol : ℕ) (grid : List Float) (carrier : ℕ) (r : Seen) (e : seen r ≡ lookOf setup symbol grid carrier) where
+module _ (setup : Setup) (symbol : ℕ) (grid : List Float) (carrier : ℤ) (r : Seen) (e : seen r ≡ lookOf setup symbol grid carrier) where
   -- an address that is told is small
   pub seen-small : (p : Point) (slot s m : ℕ) → r ≡ Data p slot s m → (slot < 512) × (s < 192) × (m < 48)
   seen-small p slot s m h = point-small setup symbol carrier slot s m (look-point setup symbol carrier grid p slot s m (sym (ap seen h) ∙ e))
 
   -- the outcome of a variant v is that of the call where the answer is v
-  pub seen-out : (kind : ℕ) (pair : List Float) (slot s m : ℕ) (v : Seen) → r ≡ v → lookOut (seen v) kind pair slot s m ≡ lookOut (lookOf setup symbol grid carrier) kind pair slot s m
-  seen-out kind pair slot s m v h = ap (λ (a : Answer Sight). lookOut a kind pair slot s m) (sym (ap seen h) ∙ e)
+  pub seen-out : (j : ℤ) → carrier ≡ j → (kind : ℕ) (pair : List Float) (slot s m : ℕ) (v : Seen) → r ≡ v → lookOut (seen v) kind pair slot s m ≡ lookOut (lookOf setup symbol grid j) kind pair slot s m
+  seen-out j same kind pair slot s m v h = ap (λ (a : Answer Sight). lookOut a kind pair slot s m) (sym (ap seen h) ∙ e ∙ ap (lookOf setup symbol grid) same)

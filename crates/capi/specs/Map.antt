@@ -1,15 +1,16 @@
 -- The outcome of `bp_place` and `bp_locate`: the returned number and every out parameter as it is then.
 use Prim.Native.Nat.{ℕ}
+use lib.IntN.{ℤ}
 use Rattle.base.specs.Answer.{Answer, accepted, refused}
 use Rattle.map.specs.Place.{Place, Content, guard, dc, pilot, point}
 
 pub record PlaceOut : Type 0 where
   pub refusal : ℕ
   pub symbol : ℕ
-  pub carrier : ℕ
+  pub carrier : ℤ
 
 -- 0 and the place, or the refusal's number and both parameters as they were
-unfoldable pub placeOut : (answer : Answer Place) (symbol carrier : ℕ) → PlaceOut
+unfoldable pub placeOut : (answer : Answer Place) (symbol : ℕ) (carrier : ℤ) → PlaceOut
 placeOut (accepted place) symbol carrier = record { refusal = 0; symbol = place .symbol; carrier = place .carrier }
 placeOut (refused number) symbol carrier = record { refusal = number; symbol = symbol; carrier = carrier }
 

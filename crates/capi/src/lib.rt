@@ -41,7 +41,7 @@ pub extern "C" fn bp_place(
     subchannel: u32,
     index: u32,
     symbol: &mut u32,
-    carrier: &mut u32,
+    carrier: &mut i32,
 ) -> u32
     ensures { λ r. ⌜ record { refusal = r; symbol = now (symbol .exit); carrier = now (carrier .exit) } ≡ placeOut (placeOf (record { mode = mode; size = size; cell = cell }) slot subchannel index) (now (symbol .entry)) (now (carrier .entry)) ⌝ }
 {
@@ -57,7 +57,7 @@ pub extern "C" fn bp_place(
             carrier: k,
         } => {
             *symbol = y as u32;
-            *carrier = k as u32;
+            *carrier = k;
             0
         }
         Placed::Refused(number) => number as u32,
@@ -70,7 +70,7 @@ pub extern "C" fn bp_locate(
     size: u32,
     cell: u32,
     symbol: u32,
-    carrier: u32,
+    carrier: i32,
     kind: &mut u32,
     slot: &mut u32,
     subchannel: &mut u32,
@@ -78,7 +78,7 @@ pub extern "C" fn bp_locate(
 ) -> u32
     ensures { λ r. ⌜ record { refusal = r; kind = now (kind .exit); slot = now (slot .exit); subchannel = now (subchannel .exit); index = now (index .exit) } ≡ locateOut (locateOf (record { mode = mode; size = size; cell = cell }) symbol carrier) (now (kind .entry)) (now (slot .entry)) (now (subchannel .entry)) (now (index .entry)) ⌝ }
 {
-    let answer = map::locate(setup(mode, size, cell), symbol as usize, carrier as usize);
+    let answer = map::locate(setup(mode, size, cell), symbol as usize, carrier);
     match answer {
         Located::Guard => {
             *kind = 0;
@@ -219,7 +219,7 @@ pub extern "C" fn bp_look(
     cell: u32,
     symbol: u32,
     grid: &[f32],
-    carrier: u32,
+    carrier: i32,
     kind: &mut u32,
     point: &mut [f32; 2],
     slot: &mut u32,
@@ -228,12 +228,7 @@ pub extern "C" fn bp_look(
 ) -> u32
     ensures { λ r. ⌜ record { refusal = r; kind = now (kind .exit); point = now (point .exit); slot = now (slot .exit); subchannel = now (subchannel .exit); index = now (index .exit) } ≡ lookOut (lookOf (record { mode = mode; size = size; cell = cell }) symbol (now (grid .entry)) carrier) (now (kind .entry)) (now (point .entry)) (now (slot .entry)) (now (subchannel .entry)) (now (index .entry)) ⌝ }
 {
-    let answer = grid::look(
-        setup(mode, size, cell),
-        symbol as usize,
-        grid,
-        carrier as usize,
-    );
+    let answer = grid::look(setup(mode, size, cell), symbol as usize, grid, carrier);
     match answer {
         Seen::Nothing => {
             *kind = 0;

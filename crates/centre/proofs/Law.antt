@@ -4,7 +4,7 @@ use mathlib.Core.Bool.{Bool, true, false}
 use Prim.Native.Nat.{ℕ, zero, suc, _+_, _-_, _*_, _/_, _≤_, _<_}
 use native.Mathlib.Omega.{arith}
 use lib.Dec.{T, ltb}
-use lib.IntN.{ℤ, pos, negsuc, negℤ, natAbs, _+ℤ_, _-ℤ_, -ℤ-+ℤ-cancel, +ℤ-negℤ-cancel}
+use lib.IntN.{ℤ, pos, negsuc, negℤ, natAbs, _+ℤ_, _-ℤ_, +ℤ-invr, -ℤ-+ℤ-cancel, +ℤ-negℤ-cancel}
 use lib.Signed.{ltZ, mag, nonNeg, pos-natAbs}
 use mir.Syntax.{w32}
 use mir.Val.{SFits, toZ, ofZ}
@@ -12,7 +12,7 @@ use mir.ValLaws.{toZ-pos, toZ-ofZ}
 use borrow.Author.Tests.{lt-ltb, le-ltb, ltb-true, ltb-false}
 use Rattle.base.specs.Choice.{pick}
 use Rattle.base.proofs.Test.{cases, true-false}
-use Rattle.centre.specs.Centre.{fromDc, inRange, columnOf}
+use Rattle.centre.specs.Centre.{fromDc, inRange, onRow}
 use Rattle.centre.specs.Law.{CentreLaw}
 
 -- from -h to h-1
@@ -65,17 +65,27 @@ module _ {a b : ℕ} (la : a ≤ 65536) (lb : b ≤ 65536) where
   pub difference-is : toZ w32 (ofZ w32 (toZ w32 a -ℤ toZ w32 b)) ≡ pos a -ℤ pos b
   difference-is = toZ-ofZ w32 _ difference-fits ∙ same
 
+-- what the machine holds of a column's carrier is that carrier
+pub number-read : (size column : ℕ) → (size ≤ 65536) × (column < size) → toZ w32 (ofZ w32 (fromDc size column)) ≡ fromDc size column
+unfolding fromDc
+number-read size column few = toZ-ofZ w32 _ (record { sfits = omega (arith, difference-mag column (size / 2) .0) })
+
 pub in-range-mag : (size : ℕ) (z : ℤ) → inRange size z ≡ true → mag z < size / 2
 unfolding inRange
 in-range-mag size z e = around-mag (size / 2) z e
 
 pub centre-law : (size : ℕ) → 2 * (size / 2) ≡ size → CentreLaw size
-unfolding inRange fromDc columnOf
+unfolding inRange fromDc onRow
 centre-law size even =
     let h = size / 2 in
     record {
+      middle = +ℤ-invr (pos h);
       in-range = λ k l. mag-around h (pos k -ℤ pos h) (difference-mag k h .1 (omega arith));
       back = λ k. ap natAbs (-ℤ-+ℤ-cancel (pos k) (pos h));
       column-lt = λ z e. omega (arith, sum-nonNeg z h (around-mag h z e) .1);
       forth = λ z e. ap (λ (x : ℤ). x -ℤ pos h) (pos-natAbs (z +ℤ pos h) (sum-nonNeg z h (around-mag h z e) .0)) ∙ +ℤ-negℤ-cancel z (pos h);
     }
+
+-- so different columns have different carriers
+pub one-column : {size : ℕ} → CentreLaw size → (j k : ℕ) → fromDc size j ≡ fromDc size k → j ≡ k
+one-column {size} l j k e = sym (l .back j) ∙ ap (onRow size) e ∙ l .back k

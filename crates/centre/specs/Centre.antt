@@ -13,6 +13,6 @@ fromDc size column = pos column -ℤ pos (size / 2)
 unfoldable pub inRange : (size : ℕ) (carrier : ℤ) → Bool
 inRange size carrier = pick (ltZ carrier (negℤ (pos (size / 2)))) false (ltZ carrier (pos (size / 2)))
 
--- The reverse: the column of a carrier in that range.
-unfoldable pub columnOf : (size : ℕ) (carrier : ℤ) → ℕ
-columnOf size carrier = natAbs (carrier +ℤ pos (size / 2))
+-- The reverse: where on its row a carrier of that range stands.
+unfoldable pub onRow : (size : ℕ) (carrier : ℤ) → ℕ
+onRow size carrier = natAbs (carrier +ℤ pos (size / 2))

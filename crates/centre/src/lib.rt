@@ -2,7 +2,7 @@
 ghost use mathlib.Core.Path.{_≡_};
 ghost use mathlib.Core.Bool.{true};
 ghost use Prim.Native.Nat.{_≤_, _<_};
-ghost use Rattle.centre.specs.Centre.{fromDc, inRange, columnOf};
+ghost use Rattle.centre.specs.Centre.{fromDc, inRange, onRow};
 
 // The number of the carrier in a column.
 pub fn from_dc(size: usize, column: usize) -> i32
@@ -27,7 +27,7 @@ pub fn in_range(size: usize, carrier: i32) -> bool
 // The column of a carrier.
 pub fn column(size: usize, carrier: i32) -> usize
     requires { ⌜ (size ≤ 65536) × (inRange size carrier ≡ true) ⌝ }
-    ensures { λ r. ⌜ r ≡ columnOf size carrier ⌝ }
+    ensures { λ r. ⌜ r ≡ onRow size carrier ⌝ }
 {
     (carrier + (size / 2) as i32) as usize
 }

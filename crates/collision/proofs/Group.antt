@@ -5,6 +5,7 @@ use native.Mathlib.Omega.{arith}
 use lib.Arith.{digits-lt}
 use lib.Bits.{bitXor}
 use lib.Dec.{lit<, eqb}
+use lib.IntN.{ℤ}
 use borrow.Author.Tests.{eqb-true, eqb-false, eq-eqb, ne-eqb}
 use Rattle.base.proofs.Test.{cases}
 use Rattle.base.proofs.Perm.{rotation}
@@ -12,15 +13,16 @@ use Rattle.carriers.specs.Band.{binBand, carrierOf, usedOf}
 use Rattle.carriers.specs.Bin.{usedOfData, dataOfUsed}
 use Rattle.carriers.proofs.Guards.{bin-band, used-carrier}
 use Rattle.carriers.proofs.Bin.{data-used, used-lt}
+use Rattle.centre.specs.Centre.{fromDc, onRow}
+use Rattle.centre.proofs.Law.{centre-law}
 use Rattle.ofusc.specs.Width.{Width}
 use Rattle.ofusc.specs.Map.{groupOf, mask, dataNumber}
 use Rattle.ofusc.specs.Model.{cellNumber, groupNumber}
 use Rattle.ofusc.proofs.Sequence.{pos, sum-lt, mask-lt}
 use Rattle.ofusc.proofs.Row.{with-subchannel}
 use Rattle.map.specs.Mode.{width, symbols, band, spotOf, setupWith}
-use Rattle.map.specs.Place.{placeAt}
 use Rattle.map.proofs.Accept.{width-is}
-use Rattle.collision.specs.Collision.{indexIn, carrierIn, ofuscHit}
+use Rattle.collision.specs.Collision.{indexIn, columnIn, ofuscHit}
 
 -- two tests agree where the one equation holds just when the other does
 pub same-test : (p q x y : ℕ) → (p ≡ q → x ≡ y) → (x ≡ y → p ≡ q) → eqb p q ≡ eqb x y
@@ -29,17 +31,24 @@ same-test p q x y f g =
     (λ e. eq-eqb p q (g (eqb-true x y e)) ∙ sym e)
     (λ e. ne-eqb p q (λ h. eqb-false x y e (f h)) ∙ sym e)
 
--- the carrier of data number d in symbol y
-abbrev pub carrierAt : ℕ → ℕ → ℕ → ℕ
-carrierAt n y d = carrierOf (binBand n) (usedOfData y d)
+-- the carrier of data number d in symbol y, and its column
+abbrev columnAt : ℕ → ℕ → ℕ → ℕ
+columnAt n y d = carrierOf (binBand n) (usedOfData y d)
+
+abbrev pub carrierAt : ℕ → ℕ → ℕ → ℤ
+carrierAt n y d = fromDc (64 * n) (columnAt n y d)
 
 -- it has no other data number
-pub number-at : (n y d : ℕ) → 0 < n → d < 48 * n → dataOfUsed y (usedOf (binBand n) (carrierAt n y d)) ≡ d
-number-at n y d p h = ap (dataOfUsed y) (used-carrier (binBand n) (64 * n) (bin-band n p) (usedOfData y d) (used-lt y d n h)) ∙ data-used y d
+abbrev pub numberOf : ℕ → ℕ → ℤ → ℕ
+numberOf n y carrier = dataOfUsed y (usedOf (binBand n) (onRow (64 * n) carrier))
+
+pub number-at : (n y d : ℕ) → 0 < n → d < 48 * n → numberOf n y (carrierAt n y d) ≡ d
+number-at n y d p h =
+    ap (λ (column : ℕ). dataOfUsed y (usedOf (binBand n) column)) (centre-law (64 * n) (omega arith) .back (columnAt n y d))
+    ∙ ap (dataOfUsed y) (used-carrier (binBand n) (64 * n) (bin-band n p) (usedOfData y d) (used-lt y d n h)) ∙ data-used y d
 
 pub same-number : (n y d e : ℕ) → 0 < n → d < 48 * n → e < 48 * n → carrierAt n y d ≡ carrierAt n y e → d ≡ e
-same-number n y d e p hd he q =
-    sym (number-at n y d p hd) ∙ ap (λ (x : ℕ). dataOfUsed y (usedOf (binBand n) x)) q ∙ number-at n y e p he
+same-number n y d e p hd he q = sym (number-at n y d p hd) ∙ ap (numberOf n y) q ∙ number-at n y e p he
 
 -- the only symbol of a slot
 pub one-symbol : (slot : ℕ) → slot * 1 + 0 ≡ slot
@@ -62,9 +71,9 @@ module _ {n : ℕ} (w : Width n) (k : ℕ) (h : k < 48) where
   unfolding dataNumber
   number-in cell s = ap (λ (g : ℕ). g * n + bitXor s (mask n cell g)) (group-in s k h)
 
-  carrier-in : (cell slot s : ℕ) → carrierIn (setupWith 2 (64 * n) cell) slot s k ≡ carrierAt n slot (k * n + element cell s)
-  unfolding carrierIn placeAt spotOf symbols width band
-  carrier-in cell slot s = rw (width-is n, number-in cell s, one-symbol slot)
+  column-in : (cell slot s : ℕ) → columnIn (setupWith 2 (64 * n) cell) slot s k ≡ columnAt n slot (k * n + element cell s)
+  unfolding columnIn spotOf symbols width band
+  column-in cell slot s = rw (width-is n, number-in cell s, one-symbol slot)
 
   -- the carriers of a group are different
   pub same-element : (slot x y : ℕ) → x < n → y < n → carrierAt n slot (k * n + x) ≡ carrierAt n slot (k * n + y) → x ≡ y
@@ -76,10 +85,10 @@ module _ {n : ℕ} (w : Width n) (k : ℕ) (h : k < 48) where
   pub hit-is : (a s b t : ℕ) → s < n → t < n → ofuscHit (64 * n) a s b t k ≡ eqb (element a s) (element b t)
   unfolding ofuscHit
   hit-is a s b t hs ht =
-      ap₂ eqb (carrier-in a 0 s) (carrier-in b 0 t)
+      ap₂ eqb (column-in a 0 s) (column-in b 0 t)
       ∙ same-test _ _ _ _
-      (same-element 0 (element a s) (element b t) (element-lt a s hs) (element-lt b t ht))
-      (ap (λ (x : ℕ). carrierAt n 0 (k * n + x)))
+      (λ e. same-element 0 (element a s) (element b t) (element-lt a s hs) (element-lt b t ht) (ap (fromDc (64 * n)) e))
+      (ap (λ (x : ℕ). columnAt n 0 (k * n + x)))
 
   -- so it is enough to compare the data numbers
   pub number-hit : (a s b t : ℕ) → s < n → t < n → eqb (bitXor (cellNumber n a k) s) (bitXor (cellNumber n b k) t) ≡ ofuscHit (64 * n) a s b t k

@@ -7,11 +7,11 @@ use Rattle.base.specs.Choice.{pick}
 use Rattle.base.specs.Answer.{Answer, accepted, refused, ask}
 use Rattle.base.specs.Steps.{unrotate}
 use Rattle.base.specs.Tabulate.{tabulate}
+use Rattle.carriers.specs.Band.{carrierOf}
 use Rattle.amc.specs.Map.{traffic}
 use Rattle.map.specs.declared.Setup.{Setup}
-use Rattle.map.specs.Mode.{spotOf, setupWith}
+use Rattle.map.specs.Mode.{band, spotOf, setupWith}
 use Rattle.map.specs.Question.{isFourSizes, isCell, isSubchannel}
-use Rattle.map.specs.Place.{placeAt}
 use Rattle.collision.specs.declared.Collisions.{Collisions}
 
 -- how many marks are set
@@ -23,13 +23,13 @@ countOf (hit ∷ hits) = pick hit 1 0 + countOf hits
 unfoldable pub indexIn : (s k : ℕ) → ℕ
 indexIn s k = unrotate 48 (23 * s) k
 
--- the carrier of that point, in the symbol of a slot
-unfoldable pub carrierIn : (setup : Setup) (slot s k : ℕ) → ℕ
-carrierIn setup slot s k = placeAt setup slot (spotOf setup slot s (indexIn s k)) .carrier
+-- the carrier of that point, in the symbol of a slot, by its column on the row: two carriers are the same just where their columns are
+unfoldable pub columnIn : (setup : Setup) (slot s k : ℕ) → ℕ
+columnIn setup slot s k = carrierOf (band setup) (spotOf setup slot s (indexIn s k) .used)
 
 -- Spread: the group is marked exactly when both subchannels have the same carrier there. The answer is the same for every symbol, so symbol 0 is looked at.
 unfoldable pub ofuscHit : (size a s b t k : ℕ) → Bool
-ofuscHit size a s b t k = eqb (carrierIn (setupWith 2 size a) 0 s k) (carrierIn (setupWith 2 size b) 0 t k)
+ofuscHit size a s b t k = eqb (columnIn (setupWith 2 size a) 0 s k) (columnIn (setupWith 2 size b) 0 t k)
 
 -- Adjacent: 48 marks, one an index, set exactly when both cells give the same v.
 unfoldable pub amcHit : (a b j : ℕ) → Bool

@@ -6,22 +6,20 @@ use lib.Arith.{digits-mod}
 use borrow.Author.Tests.{eqb-true, eq-eqb}
 use Rattle.base.specs.Answer.{accepted}
 use Rattle.base.proofs.Chain.{same-accepted}
-use Rattle.carriers.specs.Band.{binBand, usedOf}
-use Rattle.carriers.specs.Bin.{dataOfUsed}
 use Rattle.ofusc.specs.Width.{Width}
 use Rattle.ofusc.proofs.Sequence.{pos}
 use Rattle.amc.specs.declared.Shape.{Shape}
 use Rattle.amc.specs.Model.{IsShape}
 use Rattle.amc.specs.Map.{traffic, trafficNumber, dataNumber}
 use Rattle.amc.proofs.Law.{traffic-lt, traffic-back, offset-lt, number-below}
-use Rattle.map.specs.Place.{Place, placeAt, placeOf}
+use Rattle.map.specs.Place.{Place, usedCarrier, placeAt, placeOf}
 use Rattle.map.specs.Mode.{shapeOf, width, subchannels, symbols, band, spotOf, setupWith}
 use Rattle.map.specs.Model.{IsAmc, amc}
 use Rattle.map.proofs.Accept.{width-is}
 use Rattle.map.proofs.Choice.{amc-shape, amc-tests}
 use Rattle.map.proofs.Law.{place-accepts}
 use Rattle.collision.specs.Collision.{amcHit}
-use Rattle.collision.proofs.Group.{carrierAt, number-at}
+use Rattle.collision.proofs.Group.{carrierAt, numberOf, number-at}
 use Rattle.figures.specs.Word.{SamePlace}
 
 module _ {mode : ℕ} (q : IsAmc mode) {n : ℕ} (w : Width n) (slot s : ℕ) where
@@ -40,7 +38,7 @@ module _ {mode : ℕ} (q : IsAmc mode) {n : ℕ} (w : Width n) (slot s : ℕ) wh
 
   placed : (cell j : ℕ) → cell < 2352 → slot < 512 → s < subchannels (setupWith mode (64 * n) cell) → j < 48
       → placeOf (setupWith mode (64 * n) cell) slot s j ≡ accepted (at (traffic cell j))
-  unfolding placeAt spotOf symbols band width dataNumber
+  unfolding usedCarrier placeAt spotOf symbols band width dataNumber
   placed cell j h hy hs hj =
       let t = amc-tests q in
       place-accepts (setupWith mode (64 * n) cell) slot s j (amc q w h) hy hs hj
@@ -50,7 +48,7 @@ module _ {mode : ℕ} (q : IsAmc mode) {n : ℕ} (w : Width n) (slot s : ℕ) wh
   v-of : Place → ℕ
   v-of p =
       let o = p .symbol % shape .symbols in
-      let d = dataOfUsed (p .symbol) (usedOf (binBand n) (p .carrier)) in
+      let d = numberOf n (p .symbol) (p .carrier) in
       (o * shape .bins + d / 8 % shape .bins) * 8 + d % 8
 
   v-back : (v : ℕ) → v < 48 → s < n * shape .symbols → v-of (at v) ≡ v

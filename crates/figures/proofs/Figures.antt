@@ -19,11 +19,11 @@ use Rattle.amc.specs.Element.{add, sequence, times as product′}
 use Rattle.amc.specs.Map.{off, zeroRule, elementOf, traffic}
 use Rattle.map.specs.Mode.{width, cells, subchannels, symbols, band, spotOf, setupWith}
 use Rattle.map.specs.Question.{isFourSizes, isCell, isSubchannel}
-use Rattle.map.specs.Place.{Place, placeAt, placeOf}
+use Rattle.map.specs.Place.{Place, placeOf}
 use Rattle.map.proofs.Accept.{width-is}
 use Rattle.map.proofs.Law.{placing}
 use Rattle.map.proofs.ByMode.{in-ofusc}
-use Rattle.collision.specs.Collision.{countOf, indexIn, carrierIn, ofuscHit, amcHit, answerOf, ofuscOf, amcOf}
+use Rattle.collision.specs.Collision.{countOf, indexIn, columnIn, ofuscHit, amcHit, answerOf, ofuscOf, amcOf}
 use Rattle.figures.specs.Word.{Pair, InGroup, Marked, Reached, most}
 use Rattle.figures.specs.Figures.{Figures}
 use Rattle.figures.proofs.Count.{count-all, count-rows, sum-same}
@@ -66,7 +66,7 @@ rows-count {n} {a} {s} {b} {t} p other =
     )
 
 d-reached : {n : ℕ} → Width n → Reached n
-unfolding ofuscOf answerOf isFourSizes isCell isSubchannel cells subchannels symbols width ofuscHit carrierIn indexIn placeAt spotOf band carrierOf skip usedOfData binPilotPlace dataNumber groupOf mask term p1 p2 power times remainder product coefficient modulus tabulate countOf most
+unfolding ofuscOf answerOf isFourSizes isCell isSubchannel cells subchannels symbols width ofuscHit columnIn indexIn spotOf band carrierOf skip usedOfData binPilotPlace dataNumber groupOf mask term p1 p2 power times remainder product coefficient modulus tabulate countOf most
 d-reached n4 = record { a = 10; s = 0; b = 4; t = 2; row = 0; allowed = record { width = n4; first = omega arith; second = omega arith }; within = omega arith; different = λ e. omega arith; in-row = refl; in-all = refl }
 d-reached n8 = record { a = 32; s = 0; b = 45; t = 7; row = 0; allowed = record { width = n8; first = omega arith; second = omega arith }; within = omega arith; different = λ e. omega arith; in-row = refl; in-all = refl }
 d-reached n16 = record { a = 0; s = 2; b = 244; t = 0; row = 0; allowed = record { width = n16; first = omega arith; second = omega arith }; within = omega arith; different = λ e. omega arith; in-row = refl; in-all = refl }

@@ -11,7 +11,7 @@ use Rattle.ofusc.specs.Map.{groupOf, dataNumber}
 use Rattle.ofusc.proofs.Sequence.{pos}
 use Rattle.ofusc.proofs.Law.{group-digit, law}
 use Rattle.map.specs.Mode.{width, symbols, subchannels, band, spotOf, setupWith}
-use Rattle.map.specs.Place.{Place, placeAt, placeOf}
+use Rattle.map.specs.Place.{Place, usedCarrier, placeAt, placeOf}
 use Rattle.map.specs.Model.{ofusc}
 use Rattle.map.proofs.Accept.{width-is}
 use Rattle.map.proofs.Law.{place-accepts}
@@ -25,7 +25,7 @@ at n y d = record { symbol = y; carrier = carrierAt n y d }
 
 module _ {n : ℕ} (w : Width n) (cell slot s m : ℕ) (hy : slot < 512) (hs : s < n) (hm : m < 48) where
   pub ofusc-placed : cell < n * n → placeOf (setupWith 2 (64 * n) cell) slot s m ≡ accepted (at n slot (dataNumber n cell s m))
-  unfolding placeAt spotOf symbols subchannels band width
+  unfolding usedCarrier placeAt spotOf symbols subchannels band width
   ofusc-placed h =
       place-accepts (setupWith 2 (64 * n) cell) slot s m (ofusc w h) hy (rw (width-is n) hs) hm
       ∙ rw (width-is n, one-symbol slot)

@@ -4,11 +4,13 @@ use mathlib.Core.Bool.{Bool, true, false}
 use mathlib.Core.List.{List}
 use Prim.Native.Nat.{ℕ, zero, suc, _+_, _-_, _*_, _<_, _≤_}
 use lib.Dec.{eqb}
+use lib.IntN.{ℤ}
 use lib.ListN.{getD, take, drop}
 use Rattle.base.specs.Choice.{pick}
 use Rattle.base.specs.Answer.{Answer, accepted}
 use Rattle.carriers.specs.Band.{binBand, carrierOf}
 use Rattle.carriers.specs.Bin.{usedOfData}
+use Rattle.centre.specs.Centre.{fromDc}
 use Rattle.ofusc.specs.Width.{Width}
 use Rattle.map.specs.Place.{Place}
 use Rattle.collision.specs.Collision.{countOf, ofuscOf}
@@ -25,11 +27,11 @@ pub record Pair (n a s b t : ℕ) : Type 0 where
   pub second : Allowed n b t
 
 -- Document 01, "Meetings": group k of a symbol is its data numbers N·k to N·k+N-1. A carrier of symbol y lies there:
-pub record InGroup (n y k carrier : ℕ) : Type 0 where
+pub record InGroup (n y k : ℕ) (carrier : ℤ) : Type 0 where
   pub data-number : ℕ
   pub from : k * n ≤ data-number
   pub below : data-number < k * n + n
-  pub lies : carrier ≡ carrierOf (binBand n) (usedOfData y data-number)
+  pub lies : carrier ≡ fromDc (64 * n) (carrierOf (binBand n) (usedOfData y data-number))
 
 -- mark k is set
 abbrev pub Marked : (hits : List Bool) (k : ℕ) → Type 0

@@ -5,9 +5,11 @@ use Prim.Native.Nat.{ℕ, _+_, _*_, _/_, _%_, _<_}
 use native.Mathlib.Nat.{mod-lt, div-add-mod'}
 use native.Mathlib.Omega.{arith}
 use lib.ListN.{length}
+use lib.IntN.{ℤ}
 use lib.Ieee.{Float}
 use Rattle.base.specs.Answer.{Answer, accepted, refused, refusalOf}
 use Rattle.base.proofs.Chain.{number-is}
+use Rattle.centre.specs.Centre.{onRow}
 use Rattle.map.specs.declared.Setup.{Setup}
 use Rattle.map.specs.Mode.{subchannels, symbols}
 use Rattle.map.specs.Law.{Passes}
@@ -70,21 +72,24 @@ module _ (setup : Setup) (slot : ℕ) (p : Point) (points old grid : List Float)
       ∙ ap (λ (x : List Float). record { refusal = 0; buffer = x }) (sym (by-points points (48 * subchannels setup) _ (accepts .points-long ∙ omega arith) back))
 
   -- what is in the filled grid where a carrier of the slot holds w
-  module _ (w : Content) (symbol carrier : ℕ) (own : symbol / symbols setup ≡ slot) (a : locateOf setup symbol carrier ≡ accepted w) where
+  module _ (w : Content) (symbol : ℕ) (carrier : ℤ) (own : symbol / symbols setup ≡ slot) (a : locateOf setup symbol carrier ≡ accepted w) where
     abbrev row : ℕ
     row = symbol % symbols setup
 
-    point-there : pointAt grid (position setup row carrier) ≡ held p points w
+    abbrev column : ℕ
+    column = onRow (setup .size) carrier
+
+    point-there : pointAt grid (position setup row column) ≡ held p points w
     point-there =
         let q = locating setup symbol carrier a in
         let r : slot * symbols setup + row ≡ symbol = ap (λ (t : ℕ). t * symbols setup + row) (sym own) ∙ div-add-mod' symbol (symbols setup) in
-        holds (position setup row carrier) (position-lt setup row carrier (q .carrier-below) (mod-lt symbol (few (accepts .valid) .symbols-pos)))
-        ∙ ap (held p points) (rw (row-position setup row carrier (q .carrier-below), column-position setup row carrier (q .carrier-below), r) (q .content-is))
+        holds (position setup row column) (position-lt setup row column (q .column-lt) (mod-lt symbol (few (accepts .valid) .symbols-pos)))
+        ∙ ap (held p points) (rw (row-position setup row column (q .column-lt), column-position setup row column (q .column-lt), r) (q .content-is))
 
     looked : lookOf setup symbol grid carrier ≡ accepted (sight (held p points w) w)
     unfolding sightOf
     looked =
-        sym (look-done setup symbol carrier (accepted w) (sym a) 0 refl grid refl (gridPoints setup) refl long _ refl (held p points w) (sym point-there) _ refl)
+        sym (look-done setup symbol carrier (accepted w) carrier (sym a) refl 0 refl grid refl (gridPoints setup) refl long _ refl _ refl (held p points w) (sym point-there) _ refl)
 
   law : FilledGrid setup slot p points grid
   unfolding sight held

@@ -15,12 +15,14 @@ use Rattle.carriers.specs.Band.{carrierOf}
 use Rattle.carriers.specs.Model.{carrierNumber}
 use Rattle.carriers.specs.Law.{DataSpot}
 use Rattle.carriers.proofs.Guards.{carrier-lt}
+use Rattle.centre.specs.Centre.{fromDc}
+use Rattle.centre.proofs.Law.{one-column}
 use Rattle.map.specs.declared.Setup.{Setup}
 use Rattle.map.specs.Mode.{subchannels, symbols, band, isPilot, spotOf}
-use Rattle.map.specs.Place.{point, Place, placeAt}
+use Rattle.map.specs.Place.{point, Place, usedCarrier, placeAt}
 use Rattle.map.specs.Model.{Valid}
-use Rattle.map.proofs.Slot.{slot-law, band-law}
-use Rattle.map.proofs.Law.{content-placed, locate-accepts, placed-where-located, placing}
+use Rattle.map.proofs.Slot.{slot-law, band-law, centred}
+use Rattle.map.proofs.Law.{content-placed, locate-column, placed-where-located, placing}
 use Rattle.lengths.specs.Length.{gridPoints}
 use Rattle.grid.specs.Row.{position, usedPosition, rowOf, columnOf}
 use Rattle.grid.specs.Grid.{contentAt, standsAt, pointNumber}
@@ -128,13 +130,13 @@ module _ (setup : Setup) (v : Valid setup) (slot : ℕ) (hs : slot < 512) (n : �
   at-place = div-add-mod' n (setup .size)
 
   pub point-stands : (a s m : ℕ) → contentAt setup slot n ≡ point a s m → Stands setup slot n s m
-  unfolding standsAt usedPosition placeAt
+  unfolding standsAt usedPosition placeAt usedCarrier
   point-stands a s m e =
-      let l = locate-accepts setup (slot * symbols setup + rowOf setup n) (columnOf setup n) v (digits-lt hs row-lt) column-lt in
-      let q = placing setup a s m (placed-where-located setup (slot * symbols setup + rowOf setup n) (columnOf setup n) a s m (l ∙ ap accepted e)) in
+      let l = locate-column setup (slot * symbols setup + rowOf setup n) (columnOf setup n) v (digits-lt hs row-lt) column-lt in
+      let q = placing setup a s m (placed-where-located setup (slot * symbols setup + rowOf setup n) (fromDc (setup .size) (columnOf setup n)) a s m (l ∙ ap accepted e)) in
       let o = slot-law v a .lies s m (q .subchannel-lt) (q .index-lt) .offset-lt in
       let y : a * symbols setup + spotOf setup a s m .offset ≡ slot * symbols setup + rowOf setup n = ap (λ (p : Place). p .symbol) (q .place-is) in
-      let k : carrierOf (band setup) (spotOf setup a s m .used) ≡ columnOf setup n = ap (λ (p : Place). p .carrier) (q .place-is) in
+      let k : carrierOf (band setup) (spotOf setup a s m .used) ≡ columnOf setup n = one-column (centred v .0) _ _ (ap (λ (p : Place). p .carrier) (q .place-is)) in
       let same-slot : a ≡ slot = sym (digits-div a o) ∙ ap (λ (t : ℕ). t / symbols setup) y ∙ digits-div slot row-lt in
       let same-row : spotOf setup a s m .offset ≡ rowOf setup n = sym (digits-mod a o) ∙ ap (λ (t : ℕ). t % symbols setup) y ∙ digits-mod slot row-lt in
       let s-is : pointNumber s m / 48 ≡ s = let h = q .index-lt in omega arith in

@@ -2,8 +2,10 @@
 use mathlib.Core.List.{List}
 use Prim.Native.Nat.{ℕ, _+_, _*_, _/_, _%_}
 use lib.ListN.{length}
+use lib.IntN.{ℤ}
 use lib.Ieee.{Float}
 use Rattle.base.specs.Answer.{Answer, accepted, refused}
+use Rattle.centre.specs.Centre.{onRow}
 use Rattle.map.specs.declared.Setup.{Setup}
 use Rattle.map.specs.Mode.{subchannels, symbols, spotOf}
 use Rattle.map.specs.Place.{Content, guard, dc, pilot, point, contentOf}
@@ -13,7 +15,7 @@ use Rattle.lengths.specs.Length.{gridPoints}
 use Rattle.lengths.specs.Question.{askSlot, askLook}
 use Rattle.grid.specs.declared.Seen.{Seen}
 use Rattle.grid.specs.declared.Seen.the-variants.{Nothing, Pilot, Data, Refused}
-use Rattle.grid.specs.Row.{position, usedPosition, rowOf, columnOf}
+use Rattle.grid.specs.Row.{usedPosition, carrierPosition, rowOf, columnOf}
 
 -- the answer of a call with a buffer, and the buffer as it is then
 pub record Outcome : Type 0 where
@@ -79,10 +81,10 @@ sight p pilot = pilot-with p
 sight p (point slot subchannel index) = data-with p slot subchannel index
 
 -- Look takes mode, size, cell, a zone's symbol, its slot's filled grid and a carrier, and reads the point from the grid. Questions 1, 2, 3, 4, 7, 9.
-unfoldable pub lookOf : (setup : Setup) (symbol : ℕ) (grid : List Float) (carrier : ℕ) → Answer Sight
+unfoldable pub lookOf : (setup : Setup) (symbol : ℕ) (grid : List Float) (carrier : ℤ) → Answer Sight
 lookOf setup symbol grid carrier =
     askLook setup symbol carrier (length grid)
-    (accepted (sight (pointAt grid (position setup (symbol % symbols setup) carrier)) (contentOf setup symbol carrier)))
+    (accepted (sight (pointAt grid (carrierPosition setup (symbol % symbols setup) carrier)) (contentOf setup symbol (onRow (setup .size) carrier))))
 
 -- What an answer of `look` says: document 01's values, or its number.
 abbrev pub seen : (answer : Seen) → Answer Sight

@@ -3,6 +3,7 @@ use mathlib.Core.Path.{_≡_}
 use mathlib.Core.List.{List}
 use Prim.Native.Nat.{ℕ, _/_, _%_, _<_}
 use lib.ListN.{length}
+use lib.IntN.{ℤ}
 use lib.Ieee.{Float}
 use Rattle.base.specs.Answer.{accepted}
 use Rattle.map.specs.declared.Setup.{Setup}
@@ -12,7 +13,7 @@ use Rattle.map.specs.Law.{Passes}
 use Rattle.points.specs.declared.Point.{Point}
 use Rattle.points.specs.Points.{zeroPoint, pointAt}
 use Rattle.lengths.specs.Length.{pointsLength, gridLength}
-use Rattle.grid.specs.Row.{position}
+use Rattle.grid.specs.Row.{carrierPosition}
 use Rattle.grid.specs.Grid.{pointNumber, fillOf, emptyOf, lookOf, pilot-with, data-with}
 
 -- what holds of a grid that a fill of a slot with these points and the pilot point p has left
@@ -25,13 +26,13 @@ pub record FilledGrid (setup : Setup) (slot : ℕ) (p : Point) (points grid : Li
   pub look-at-point : (subchannel index : ℕ) (place : Place) → placeOf setup slot subchannel index ≡ accepted place
       → lookOf setup (place .symbol) grid (place .carrier) ≡ accepted (data-with (pointAt points (pointNumber subchannel index)) slot subchannel index)
   -- Looking at a pilot, in a symbol of the slot, shows the pilot point.
-  pub look-at-pilot : (symbol carrier : ℕ) → symbol / symbols setup ≡ slot → locateOf setup symbol carrier ≡ accepted pilot
+  pub look-at-pilot : (symbol : ℕ) (carrier : ℤ) → symbol / symbols setup ≡ slot → locateOf setup symbol carrier ≡ accepted pilot
       → lookOf setup symbol grid carrier ≡ accepted (pilot-with p)
   -- Guards and DC, in a symbol of the slot, hold 0.0.
-  pub zero-on-guards : (symbol carrier : ℕ) → symbol / symbols setup ≡ slot → locateOf setup symbol carrier ≡ accepted guard
-      → pointAt grid (position setup (symbol % symbols setup) carrier) ≡ zeroPoint
-  pub zero-on-dc : (symbol carrier : ℕ) → symbol / symbols setup ≡ slot → locateOf setup symbol carrier ≡ accepted dc
-      → pointAt grid (position setup (symbol % symbols setup) carrier) ≡ zeroPoint
+  pub zero-on-guards : (symbol : ℕ) (carrier : ℤ) → symbol / symbols setup ≡ slot → locateOf setup symbol carrier ≡ accepted guard
+      → pointAt grid (carrierPosition setup (symbol % symbols setup) carrier) ≡ zeroPoint
+  pub zero-on-dc : (symbol : ℕ) (carrier : ℤ) → symbol / symbols setup ≡ slot → locateOf setup symbol carrier ≡ accepted dc
+      → pointAt grid (carrierPosition setup (symbol % symbols setup) carrier) ≡ zeroPoint
 
 pub record GridLaw : Type 0 where
   -- Every accepted fill leaves such a grid, whatever its buffer held.

@@ -1,12 +1,18 @@
 -- Where a carrier stands in a slot's grid. Document 01, "Grids": symbol after symbol, each by rising carrier, a point a carrier.
 use Prim.Native.Nat.{ℕ, _+_, _*_, _/_, _%_}
+use lib.IntN.{ℤ}
 use Rattle.carriers.specs.Band.{carrierOf}
+use Rattle.centre.specs.Centre.{onRow}
 use Rattle.map.specs.declared.Setup.{Setup}
 use Rattle.map.specs.Mode.{band}
 
--- where a carrier of a row stands in the grid, row r being symbol r of the slot
-unfoldable pub position : (setup : Setup) (row carrier : ℕ) → ℕ
-position setup row carrier = row * setup .size + carrier
+-- where a column of a row stands in the grid, row r being symbol r of the slot
+unfoldable pub position : (setup : Setup) (row column : ℕ) → ℕ
+position setup row column = row * setup .size + column
+
+-- a carrier's
+abbrev pub carrierPosition : (setup : Setup) (row : ℕ) (carrier : ℤ) → ℕ
+carrierPosition setup row carrier = position setup row (onRow (setup .size) carrier)
 
 -- a used number's
 unfoldable pub usedPosition : (setup : Setup) (row used : ℕ) → ℕ
@@ -16,6 +22,6 @@ usedPosition setup row used = position setup row (carrierOf (band setup) used)
 unfoldable pub rowOf : (setup : Setup) (n : ℕ) → ℕ
 rowOf setup n = n / setup .size
 
--- The reverse: its carrier.
+-- The reverse: its column.
 unfoldable pub columnOf : (setup : Setup) (n : ℕ) → ℕ
 columnOf setup n = n % setup .size

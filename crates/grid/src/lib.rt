@@ -183,17 +183,17 @@ fn refusal_of(found: Located) -> u8
     }
 }
 
-// Where a carrier of a zone's symbol stands in its slot's grid.
-fn carrier_position(setup: Setup, symbol: usize, carrier: usize) -> usize
+// Where a column of a zone's symbol stands in its slot's grid.
+fn column_position(setup: Setup, symbol: usize, column: usize) -> usize
     requires { ⌜ Valid setup ⌝ }
-    requires { ⌜ carrier < setup .size ⌝ }
-    ensures { λ r. ⌜ (r ≡ position setup (symbol % symbols setup) carrier) × (r < gridPoints setup) ⌝ }
+    requires { ⌜ column < setup .size ⌝ }
+    ensures { λ r. ⌜ (r ≡ position setup (symbol % symbols setup) column) × (r < gridPoints setup) ⌝ }
 {
-    map::offset_of(setup, symbol) * setup.size + carrier
+    map::offset_of(setup, symbol) * setup.size + column
 }
 
 // The point on a carrier of a zone's symbol, and whose it is; or the first refusal of 1, 2, 3, 4, 7, 9.
-pub fn look(setup: Setup, symbol: usize, grid: &[f32], carrier: usize) -> Seen
+pub fn look(setup: Setup, symbol: usize, grid: &[f32], carrier: i32) -> Seen
     ensures { λ r. ⌜ seen r ≡ lookOf setup symbol (now (grid .entry)) carrier ⌝ }
 {
     let found = map::locate(setup, symbol, carrier);
@@ -204,8 +204,9 @@ pub fn look(setup: Setup, symbol: usize, grid: &[f32], carrier: usize) -> Seen
     if grid.len() != 2 * lengths::grid_points(setup) {
         return Seen::Refused(9);
     }
+    let column = centre::column(setup.size, carrier);
     sight(
         found,
-        points::point_at(grid, carrier_position(setup, symbol, carrier)),
+        points::point_at(grid, column_position(setup, symbol, column)),
     )
 }

@@ -5,8 +5,9 @@ use native.Mathlib.Omega.{arith}
 use borrow.Author.Tests.{lt-ltb}
 use Rattle.base.specs.Steps.{skip, unskip}
 use Rattle.base.specs.Tabulate.{tabulate}
-use Rattle.map.specs.Place.{placeOf, locateOf, placeAt, contentOf, dataAt}
-use Rattle.collision.specs.Collision.{countOf, indexIn, carrierIn, ofuscHit, amcHit, answerOf, ofuscOf, amcOf}
+use Rattle.centre.specs.Centre.{fromDc, inRange, onRow}
+use Rattle.map.specs.Place.{usedCarrier, placeOf, locateOf, placeAt, contentOf, dataAt}
+use Rattle.collision.specs.Collision.{countOf, indexIn, columnIn, ofuscHit, amcHit, answerOf, ofuscOf, amcOf}
 use Rattle.plan.proofs.Points.{any-first-cell, first-refusals}
 use Rattle.known.specs.Table.{Known, AnyCell, setFrom, groups, indices}
 use Rattle.carriers.specs.Band as band
@@ -24,17 +25,17 @@ use Rattle.map.specs.Mode as mode
 use Rattle.map.specs.Question as question
 
 any-cell : (cell : ℕ) → cell < 32 → AnyCell cell
-unfolding skip unskip locateOf contentOf dataAt mode.cells mode.symbols mode.band mode.isPilot question.isMode question.isSize question.isCell question.isSymbol question.isCarrier band.usedOf band.isGuard band.isDc cluster.isClusterPilot cluster.firstPilot cluster.secondPilot
+unfolding skip unskip inRange onRow locateOf contentOf dataAt mode.cells mode.symbols mode.band mode.isPilot question.isMode question.isSize question.isCell question.isSymbol question.isCarrier band.usedOf band.isGuard band.isDc cluster.isClusterPilot cluster.firstPilot cluster.secondPilot
 any-cell cell h =
     let e = lt-ltb cell 32 h in
     record { data-in-symbol-0 = rw e; pilot-in-symbol-1 = rw e; guard-below = λ y l. rw (e, lt-ltb y 1024 l); dc-in-the-middle = λ y l. rw (e, lt-ltb y 1024 l) }
 
 counts : (ofuscOf 1024 0 6 17 0 .count ≡ 7) × (ofuscOf 1024 0 2 244 0 .count ≡ 8)
-unfolding countOf tabulate skip ofuscOf answerOf ofuscHit carrierIn indexIn placeAt question.isFourSizes question.isCell question.isSubchannel mode.width mode.cells mode.subchannels mode.symbols mode.band mode.spotOf band.carrierOf bin.binPilotPlace bin.usedOfData ofusc.groupOf ofusc.term ofusc.mask ofusc.dataNumber field.modulus field.coefficient field.product field.remainder field.times field.power field.p1 field.p2
+unfolding countOf tabulate skip ofuscOf answerOf ofuscHit columnIn indexIn question.isFourSizes question.isCell question.isSubchannel mode.width mode.cells mode.subchannels mode.symbols mode.band mode.spotOf band.carrierOf bin.binPilotPlace bin.usedOfData ofusc.groupOf ofusc.term ofusc.mask ofusc.dataNumber field.modulus field.coefficient field.product field.remainder field.times field.power field.p1 field.p2
 counts = (refl, refl)
 
 at-2048 : setFrom 0 (ofuscOf 2048 0 2 1010 0 .hits) ≡ groups
-unfolding setFrom tabulate skip ofuscOf answerOf ofuscHit carrierIn indexIn placeAt question.isFourSizes question.isCell question.isSubchannel mode.width mode.cells mode.subchannels mode.symbols mode.band mode.spotOf band.carrierOf bin.binPilotPlace bin.usedOfData ofusc.groupOf ofusc.term ofusc.mask ofusc.dataNumber field.modulus field.coefficient field.product field.remainder field.times field.power field.p1 field.p2
+unfolding setFrom tabulate skip ofuscOf answerOf ofuscHit columnIn indexIn question.isFourSizes question.isCell question.isSubchannel mode.width mode.cells mode.subchannels mode.symbols mode.band mode.spotOf band.carrierOf bin.binPilotPlace bin.usedOfData ofusc.groupOf ofusc.term ofusc.mask ofusc.dataNumber field.modulus field.coefficient field.product field.remainder field.times field.power field.p1 field.p2
 at-2048 = refl
 
 adjacent : setFrom 0 (amcOf 48 176 .hits) ≡ indices
@@ -42,7 +43,7 @@ unfolding setFrom tabulate amcOf answerOf amcHit question.isCell mode.cells amc.
 adjacent = refl
 
 pub known : Known
-unfolding tabulate skip placeOf placeAt mode.shapeOf mode.width mode.cells mode.subchannels mode.symbols mode.band mode.spotOf question.isMode question.isFourSizes question.isSize question.isCell question.isSlot question.isSubchannel question.isIndex band.carrierOf bin.binPilotPlace bin.usedOfData dl.groupUsed dl.spotOf group.groupIn group.groupSize group.ofSize group.baseOf group.groupData cluster.unrenumber cluster.firstPilot cluster.secondPilot cluster.clusterPlace ul.spotOf tile.tileOf tile.placeSymbol tile.placeTile tile.placeCarrier ofusc.groupOf ofusc.term ofusc.mask ofusc.dataNumber field.modulus field.coefficient field.product field.remainder field.times field.power field.p1 field.p2 amc.off amc.zeroRule amc.elementOf amc.traffic amc.trafficNumber amc.dataNumber element.add element.times element.sequence
+unfolding tabulate skip fromDc placeOf usedCarrier placeAt mode.shapeOf mode.width mode.cells mode.subchannels mode.symbols mode.band mode.spotOf question.isMode question.isFourSizes question.isSize question.isCell question.isSlot question.isSubchannel question.isIndex band.carrierOf bin.binPilotPlace bin.usedOfData dl.groupUsed dl.spotOf group.groupIn group.groupSize group.ofSize group.baseOf group.groupData cluster.unrenumber cluster.firstPilot cluster.secondPilot cluster.clusterPlace ul.spotOf tile.tileOf tile.placeSymbol tile.placeTile tile.placeCarrier ofusc.groupOf ofusc.term ofusc.mask ofusc.dataNumber field.modulus field.coefficient field.product field.remainder field.times field.power field.p1 field.p2 amc.off amc.zeroRule amc.elementOf amc.traffic amc.trafficNumber amc.dataNumber element.add element.times element.sequence
 known =
     record {
       line-1 = (refl, refl);

@@ -1,8 +1,9 @@
--- Document 01, "Known points": the starred lines, in its order, as one statement. A line's number is its place among the eleven. What document 02 adds stands behind the line that it belongs to. Its proof is `known`.
+-- Document 01, "Known points": the starred lines, in its order, as one statement. A line's number is its place among the eleven. What document 02 adds stands behind the line that it belongs to. Its wish 3: carriers are restated less half the size, so document 01's own number stands in the comment. Its proof is `known`.
 use mathlib.Core.Path.{_≡_}
 use mathlib.Core.Bool.{Bool, true, false}
 use mathlib.Core.List.{List, [], _∷_}
 use Prim.Native.Nat.{ℕ, suc, _<_}
+use lib.IntN.{ℤ, pos, negℤ}
 use Rattle.base.specs.Answer.{Answer, accepted, refused}
 use Rattle.base.specs.Tabulate.{tabulate}
 use Rattle.pusc_ul.specs.Tile.{tileOf}
@@ -12,7 +13,11 @@ use Rattle.collision.specs.Collision.{ofuscOf, amcOf}
 use Rattle.plan.specs.declared.Zone.{Zone}
 use Rattle.plan.specs.Read.{planWith, planOf}
 
-abbrev pub at : (symbol carrier : ℕ) → Answer Place
+-- a carrier below DC
+abbrev pub minus : (k : ℕ) → ℤ
+minus k = negℤ (pos k)
+
+abbrev pub at : (symbol : ℕ) (carrier : ℤ) → Answer Place
 at symbol carrier = accepted (record { symbol = symbol; carrier = carrier })
 
 abbrev pub isPoint : (answer : Answer Content) → Bool
@@ -45,16 +50,16 @@ zone mode cell slots = record { mode = mode; cell = cell; slots = slots }
 
 -- what a carrier holds under any PUSC downlink cell
 pub record AnyCell (cell : ℕ) : Type 0 where
-  pub data-in-symbol-0 : isPoint (locateOf (setupWith 0 2048 cell) 0 184) ≡ true
-  pub pilot-in-symbol-1 : locateOf (setupWith 0 2048 cell) 1 184 ≡ accepted pilot
-  pub guard-below : (symbol : ℕ) → symbol < 1024 → locateOf (setupWith 0 2048 cell) symbol 183 ≡ accepted guard
-  pub dc-in-the-middle : (symbol : ℕ) → symbol < 1024 → locateOf (setupWith 0 2048 cell) symbol 1024 ≡ accepted dc
+  pub data-in-symbol-0 : isPoint (locateOf (setupWith 0 2048 cell) 0 (minus 840)) ≡ true
+  pub pilot-in-symbol-1 : locateOf (setupWith 0 2048 cell) 1 (minus 840) ≡ accepted pilot
+  pub guard-below : (symbol : ℕ) → symbol < 1024 → locateOf (setupWith 0 2048 cell) symbol (minus 841) ≡ accepted guard
+  pub dc-in-the-middle : (symbol : ℕ) → symbol < 1024 → locateOf (setupWith 0 2048 cell) symbol (pos 0) ≡ accepted dc
 
 pub record Known : Type 0 where
   -- Spread 1024, cell 0, subchannel 3, index 5: carrier 553 in slot 0, 552 in slot 1.
-  pub line-1 : (placeOf (setupWith 2 1024 0) 0 3 5 ≡ at 0 553) × (placeOf (setupWith 2 1024 0) 1 3 5 ≡ at 1 552)
+  pub line-1 : (placeOf (setupWith 2 1024 0) 0 3 5 ≡ at 0 (pos 41)) × (placeOf (setupWith 2 1024 0) 1 3 5 ≡ at 1 (pos 40))
   -- Spread 1024, cell 17, subchannel 0, index 0, slot 0: carrier 87.
-  pub line-2 : placeOf (setupWith 2 1024 17) 0 0 0 ≡ at 0 87
+  pub line-2 : placeOf (setupWith 2 1024 17) 0 0 0 ≡ at 0 (minus 425)
   -- Meeting at 1024, cell 0 subchannel 6, cell 17 subchannel 0: 7.
   pub line-3 : ofuscOf 1024 0 6 17 0 .count ≡ 7
   -- Meeting at 1024, cell 0 subchannel 2, cell 244 subchannel 0: 8.
@@ -64,9 +69,9 @@ pub record Known : Type 0 where
   -- Adjacent, cells 48 and 176: indices 8, 24, 32.
   pub line-6 : setFrom 0 (amcOf 48 176 .hits) ≡ indices
   -- Down, cell 0, subchannel 1, slot 0: index 11 on symbol 0 carrier 1862, index 35 on symbol 1 carrier 1861.
-  pub line-7 : (placeOf (setupWith 0 2048 0) 0 1 11 ≡ at 0 1862) × (placeOf (setupWith 0 2048 0) 0 1 35 ≡ at 1 1861)
+  pub line-7 : (placeOf (setupWith 0 2048 0) 0 1 11 ≡ at 0 (pos 838)) × (placeOf (setupWith 0 2048 0) 0 1 35 ≡ at 1 (pos 837))
   -- Up, cell 0, subchannel 1, index 0, slot 0: symbol 1, carrier 377.
-  pub line-8 : placeOf (setupWith 1 2048 0) 0 1 0 ≡ at 1 377
+  pub line-8 : placeOf (setupWith 1 2048 0) 0 1 0 ≡ at 1 (minus 647)
   -- Up, cell 0, subchannel 5: tiles 1, 83, 166, 256, 324, 380.
   pub line-9 : tabulate 6 (tileOf 0 5) ≡ tiles
   -- Down, any cell, carrier 184: data in symbol 0, pilot in symbol 1; 183 guard, 1024 DC.
@@ -76,7 +81,7 @@ pub record Known : Type 0 where
   -- Document 02, wish 1: its twin with cell 5, 01 80 10 00 05 0C (hex), is read.
   pub line-11-twin : planOf (1 ∷ 0x80 ∷ 0x10 ∷ 0 ∷ 5 ∷ 0x0C ∷ []) ≡ accepted (planWith 1 2048 (zone 0 5 12 ∷ []))
   -- Not starred: points of AMC's shapes, worked out by hand from document 02, wish 2. Cell 0 has E = P, so its index 2 is at v = 33 and its index 41 at v = 47; cell 629 has its index 14 under the zero rule, at v = 12.
-  pub amc-6x1 : placeOf (setupWith 3 256 0) 0 3 2 ≡ at 0 221
-  pub amc-2x3 : (placeOf (setupWith 4 256 0) 0 5 2 ≡ at 2 111) × (placeOf (setupWith 4 2048 629) 511 95 14 ≡ at 1533 1885)
-  pub amc-3x2 : placeOf (setupWith 5 256 0) 1 7 2 ≡ at 3 221
-  pub amc-1x6 : (placeOf (setupWith 6 512 0) 1 47 2 ≡ at 10 465) × (placeOf (setupWith 6 512 0) 511 0 41 ≡ at 3071 48)
+  pub amc-6x1 : placeOf (setupWith 3 256 0) 0 3 2 ≡ at 0 (pos 93)
+  pub amc-2x3 : (placeOf (setupWith 4 256 0) 0 5 2 ≡ at 2 (minus 17)) × (placeOf (setupWith 4 2048 629) 511 95 14 ≡ at 1533 (pos 861))
+  pub amc-3x2 : placeOf (setupWith 5 256 0) 1 7 2 ≡ at 3 (pos 93)
+  pub amc-1x6 : (placeOf (setupWith 6 512 0) 1 47 2 ≡ at 10 (pos 209)) × (placeOf (setupWith 6 512 0) 511 0 41 ≡ at 3071 (minus 208))

@@ -2,10 +2,11 @@
 use mathlib.Core.Bool.{Bool}
 use Prim.Native.Nat.{ℕ, _*_}
 use lib.Dec.{eqb}
+use lib.IntN.{ℤ}
 use Rattle.base.specs.Answer.{Answer, ask}
 use Rattle.map.specs.declared.Setup.{Setup}
 use Rattle.map.specs.Mode.{subchannels}
-use Rattle.map.specs.Question.{askSetup, isSlot, isSymbol, isCarrier}
+use Rattle.map.specs.Question.{askSetup, isSlot, askCarrier}
 use Rattle.lengths.specs.Length.{gridPoints}
 
 -- 8 Are the points just 96 floats for each subchannel?
@@ -25,9 +26,8 @@ askSlot setup slot points grid rest =
     (ask (isGrid setup grid) 9 rest)))
 
 -- the questions of look: 1, 2, 3, 4, 7, 9
-abbrev pub askLook : {A : Type 0} → (setup : Setup) (symbol carrier grid : ℕ) (rest : Answer A) → Answer A
+abbrev pub askLook : {A : Type 0} → (setup : Setup) (symbol : ℕ) (carrier : ℤ) (grid : ℕ) (rest : Answer A) → Answer A
 askLook setup symbol carrier grid rest =
     askSetup setup
-    (ask (isSymbol setup symbol) 4
-    (ask (isCarrier setup carrier) 7
-    (ask (isGrid setup grid) 9 rest)))
+    (askCarrier setup symbol carrier
+    (ask (isGrid setup grid) 9 rest))

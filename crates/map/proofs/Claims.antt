@@ -4,36 +4,41 @@ use mathlib.Core.Bool.{true, false}
 use Prim.Native.Nat.{ℕ, _+_, _*_, _/_, _<_}
 use native.Mathlib.Omega.{arith}
 use lib.Arith.{digits-div, digits-lt}
+use lib.IntN.{ℤ, pos}
 use Rattle.base.specs.Answer.{accepted}
-use Rattle.carriers.specs.Band.{carrierOf, usedOf, isGuard, isDc}
+use Rattle.carriers.specs.Band.{carrierOf, usedOf}
 use Rattle.carriers.proofs.Guards.{carrier-lt, carrier-no-guard, carrier-no-dc, used-carrier}
+use Rattle.centre.specs.Centre.{onRow}
 use Rattle.map.specs.declared.Setup.{Setup}
 use Rattle.map.specs.Mode.{symbols, band, isPilot, spotOf, addressOf}
-use Rattle.map.specs.Place.{Place, pilot, placeAt, placeOf, contentOf, locateOf}
+use Rattle.map.specs.Place.{Place, dc, pilot, usedCarrier, placeAt, placeOf, contentOf, locateOf}
 use Rattle.map.specs.Model.{Valid}
 use Rattle.map.specs.Law.{Passes, PlacedAt, HoldsData, JustOnePoint, MapLaw}
-use Rattle.map.proofs.Slot.{slot-law, band-law}
-use Rattle.map.proofs.Law.{setup-asked, placing, place-accepts, locate-accepts, located-where-placed, placed-where-located, one-address, in-own-slot, data-placed, pilot-content}
+use Rattle.map.proofs.Slot.{slot-law, band-law, centred}
+use Rattle.map.proofs.Law.{setup-asked, placing, place-accepts, locate-accepts, locate-column, located-where-placed, placed-where-located, one-address, in-own-slot, data-placed, dc-content, pilot-content}
 
 passed : (setup : Setup) → Passes setup → Valid setup
 passed setup e = setup-asked setup _ e .0
 
 -- a data carrier of a symbol of the slot has its point, and no other
-module _ (setup : Setup) (v : Valid setup) (slot offset carrier : ℕ) (hs : slot < 512) (ho : offset < symbols setup) where
+module _ (setup : Setup) (v : Valid setup) (slot offset : ℕ) (carrier : ℤ) (hs : slot < 512) (ho : offset < symbols setup) where
   abbrev y : ℕ
   y = slot * symbols setup + offset
 
   point-there : HoldsData setup y carrier → JustOnePoint setup slot y carrier
+  unfolding usedCarrier
   point-there d =
       let b = band-law v in
       let u = d .used in
-      let used-is : usedOf (band setup) carrier ≡ u = ap (usedOf (band setup)) (sym (d .carrier-is)) ∙ used-carrier (band setup) (setup .size) b u (d .used-below) in
-      let g : isGuard (band setup) (setup .size) carrier ≡ false = ap (isGuard (band setup) (setup .size)) (sym (d .carrier-is)) ∙ carrier-no-guard (band setup) (setup .size) b u (d .used-below) in
-      let c : isDc (band setup) carrier ≡ false = ap (isDc (band setup)) (sym (d .carrier-is)) ∙ carrier-no-dc (band setup) (setup .size) b u (d .used-below) in
-      let np : isPilot setup y (usedOf (band setup) carrier) ≡ false = ap (isPilot setup y) used-is ∙ d .no-pilot in
-      let a = addressOf setup y (usedOf (band setup) carrier) in
+      let column = carrierOf (band setup) u in
+      let used-is = used-carrier (band setup) (setup .size) b u (d .used-below) in
+      let g = carrier-no-guard (band setup) (setup .size) b u (d .used-below) in
+      let c = carrier-no-dc (band setup) (setup .size) b u (d .used-below) in
+      let np : isPilot setup y (usedOf (band setup) column) ≡ false = ap (isPilot setup y) used-is ∙ d .no-pilot in
+      let a = addressOf setup y (usedOf (band setup) column) in
       let placed : PlacedAt setup slot (a .subchannel) (a .index) y carrier =
-      ap (λ (n : ℕ). placeOf setup n (a .subchannel) (a .index)) (sym (digits-div slot ho)) ∙ data-placed setup v y carrier g c np (digits-lt hs ho) in
+      ap (λ (n : ℕ). placeOf setup n (a .subchannel) (a .index)) (sym (digits-div slot ho)) ∙ data-placed setup v y column g c np (digits-lt hs ho)
+      ∙ ap (λ (k : ℤ). accepted (record { symbol = y; carrier = k })) (d .carrier-is) in
       record {
         subchannel = a .subchannel;
         index = a .index;
@@ -55,7 +60,16 @@ module _ (setup : Setup) (v : Valid setup) (slot offset carrier : ℕ) (hs : slo
         no-pilot = subst (λ (t : ℕ). isPilot setup t (x .used) ≡ false) (ap (λ (p : Place). p .symbol) (q .place-is)) (l .no-pilot);
       }
 
+-- DC stands in the middle of the row
+dc-there : (setup : Setup) → Valid setup → (y : ℕ) → y < 512 * symbols setup → locateOf setup y (pos 0) ≡ accepted dc
+dc-there setup v y h =
+    let q = centred v in
+    let below : setup .size / 2 < setup .size = omega (arith, band-law v) in
+    ap (locateOf setup y) (sym (q .0 .middle)) ∙ locate-column setup y (setup .size / 2) v h below
+    ∙ ap accepted (ap (contentOf setup y) (sym (q .1)) ∙ dc-content setup v y)
+
 pub map-law : MapLaw
+unfolding usedCarrier
 map-law =
     record {
       just-one-point = λ setup slot offset carrier e hs ho.
@@ -67,7 +81,8 @@ map-law =
       in-own-slot = λ setup slot s m y k e. in-own-slot setup slot s m e;
       pilot-found = λ setup y u e hy hu p.
           let v = passed setup e in
-          locate-accepts setup y _ v hy (carrier-lt (band setup) (setup .size) (band-law v) u hu) ∙ ap accepted (pilot-content setup v y u hu p);
+          locate-column setup y _ v hy (carrier-lt (band setup) (setup .size) (band-law v) u hu) ∙ ap accepted (pilot-content setup v y u hu p);
+      dc-at-0 = λ setup y e hy. dc-there setup (passed setup e) y hy;
       place-accepts = λ setup slot s m e h₄ h₅ h₆. (placeAt setup slot (spotOf setup slot s m), place-accepts setup slot s m (passed setup e) h₄ h₅ h₆);
-      locate-accepts = λ setup y k e h₄ h₇. (contentOf setup y k, locate-accepts setup y k (passed setup e) h₄ h₇);
+      locate-accepts = λ setup y k e h₄ h₇. (contentOf setup y (onRow (setup .size) k), locate-accepts setup y k (passed setup e) h₄ h₇);
     }

@@ -1,27 +1,31 @@
 -- THE LAW OF THE MAP, for every mode, size and cell that the questions let pass. It rests on the law of a slot, and on no mode's text.
-use mathlib.Core.Path.{_≡_, sym, ap, _∙_, subst}
+use mathlib.Core.Path.{_≡_, refl, sym, ap, _∙_, subst}
 use mathlib.Core.Bool.{true, false}
-use Prim.Native.Nat.{ℕ, _+_, _*_, _/_, _%_, _<_}
+use Prim.Native.Nat.{ℕ, _+_, _-_, _*_, _/_, _%_, _<_}
 use native.Mathlib.Nat.{mod-lt, div-add-mod', div-lt-iff-lt-mul}
 use native.Mathlib.Omega.{arith}
 use lib.Arith.{digits-div, digits-lt}
-use borrow.Author.Tests.{lt-ltb, ltb-true}
-use Rattle.base.specs.Answer.{Answer, accepted}
+use lib.IntN.{ℤ}
+use lib.Signed.{mag}
+use borrow.Author.Tests.{lt-ltb, le-ltb, lt-leb, eq-eqb, ltb-true}
+use Rattle.base.specs.Answer.{Answer, accepted, refusalOf}
 use Rattle.base.proofs.Test.{cases}
-use Rattle.base.proofs.Chain.{ask-yes, same-accepted}
+use Rattle.base.proofs.Chain.{ask-yes, same-accepted, numbered, no-question, question}
 use Rattle.carriers.specs.declared.Spot.{Spot}
 use Rattle.carriers.specs.declared.Address.{Address}
 use Rattle.carriers.specs.Band.{carrierOf, usedOf, isGuard, isDc}
 use Rattle.carriers.specs.Law.{PointOf}
+use Rattle.centre.specs.Centre.{fromDc, inRange, onRow}
+use Rattle.centre.proofs.Law.{in-range-mag}
 use Rattle.carriers.proofs.Guards.{carrier-lt, carrier-no-guard, carrier-no-dc, used-carrier, used-lt, carrier-used}
 use Rattle.map.specs.declared.Setup.{Setup}
 use Rattle.map.specs.Mode.{subchannels, symbols, band, isPilot, spotOf, addressOf}
-use Rattle.map.specs.Question.{askSetup, isMode, isSize, isCell, isSlot, isSymbol, isSubchannel, isIndex, isCarrier}
-use Rattle.map.specs.Place.{Place, Content, pilot, point, placeAt, placeOf, dataAt, contentOf, locateOf}
+use Rattle.map.specs.Question.{askSetup, isMode, isSize, isCell, isSlot, isSymbol, isSubchannel, isIndex, isCarrier, askCarrier}
+use Rattle.map.specs.Place.{Place, Content, dc, pilot, point, usedCarrier, placeAt, placeOf, dataAt, contentOf, locateOf}
 use Rattle.map.specs.Model.{Valid}
 use Rattle.map.proofs.Accept.{valid, passes}
 use Rattle.map.proofs.ByMode.{few}
-use Rattle.map.proofs.Slot.{LawOf, slot-law, band-law}
+use Rattle.map.proofs.Slot.{LawOf, slot-law, band-law, centred}
 
 -- what an accepted setup is
 pub setup-asked : {A : Type 0} (c : Setup) (rest : Answer A) {a : A} → askSetup c rest ≡ accepted a → Valid c × (rest ≡ accepted a)
@@ -39,11 +43,13 @@ pub record Placing (c : Setup) (slot s m : ℕ) (p : Place) : Type 0 where
   pub index-lt : m < 48
   pub place-is : placeAt c slot (spotOf c slot s m) ≡ p
 
-pub record Locating (c : Setup) (y k : ℕ) (w : Content) : Type 0 where
+pub record Locating (c : Setup) (y : ℕ) (k : ℤ) (w : Content) : Type 0 where
   pub is-valid : Valid c
   pub symbol-lt : y < 512 * symbols c
-  pub carrier-below : k < c .size
-  pub content-is : contentOf c y k ≡ w
+  pub in-range : inRange (c .size) k ≡ true
+  pub column-lt : onRow (c .size) k < c .size
+  pub column-is : fromDc (c .size) (onRow (c .size) k) ≡ k
+  pub content-is : contentOf c y (onRow (c .size) k) ≡ w
 
 pub placing : (c : Setup) (slot s m : ℕ) {p : Place} → placeOf c slot s m ≡ accepted p → Placing c slot s m p
 unfolding placeOf isSlot isSubchannel isIndex
@@ -60,16 +66,19 @@ placing c slot s m e =
       place-is = same-accepted (q₆ .1);
     }
 
-pub locating : (c : Setup) (y k : ℕ) {w : Content} → locateOf c y k ≡ accepted w → Locating c y k w
+pub locating : (c : Setup) (y : ℕ) (k : ℤ) {w : Content} → locateOf c y k ≡ accepted w → Locating c y k w
 unfolding locateOf isSymbol isCarrier
 locating c y k e =
     let q = setup-asked c _ e in
     let q₄ = ask-yes (isSymbol c y) 4 _ (q .1) in
     let q₇ = ask-yes (isCarrier c k) 7 _ (q₄ .1) in
+    let l = centred (q .0) .0 in
     record {
       is-valid = q .0;
       symbol-lt = ltb-true y (512 * symbols c) (q₄ .0);
-      carrier-below = ltb-true k (c .size) (q₇ .0);
+      in-range = q₇ .0;
+      column-lt = l .column-lt k (q₇ .0);
+      column-is = l .forth k (q₇ .0);
       content-is = same-accepted (q₇ .1);
     }
 
@@ -79,9 +88,25 @@ pub place-accepts : (c : Setup) (slot s m : ℕ) → Valid c → slot < 512 → 
 unfolding placeOf isSlot isSubchannel isIndex
 place-accepts c slot s m v h₄ h₅ h₆ = passes v ∙ rw (lt-ltb _ _ h₄, lt-ltb _ _ h₅, lt-ltb _ _ h₆)
 
-pub locate-accepts : (c : Setup) (y k : ℕ) → Valid c → y < 512 * symbols c → k < c .size → locateOf c y k ≡ accepted (contentOf c y k)
-unfolding locateOf isSymbol isCarrier
-locate-accepts c y k v h₄ h₇ = passes v ∙ rw (lt-ltb _ _ h₄, lt-ltb _ _ h₇)
+pub locate-accepts : (c : Setup) (y : ℕ) (k : ℤ) → Valid c → y < 512 * symbols c → isCarrier c k ≡ true → locateOf c y k ≡ accepted (contentOf c y (onRow (c .size) k))
+unfolding locateOf isSymbol
+locate-accepts c y k v h₄ h₇ = passes v ∙ rw (lt-ltb _ _ h₄, h₇)
+
+-- the same by the column
+pub locate-column : (c : Setup) (y column : ℕ) → Valid c → y < 512 * symbols c → column < c .size → locateOf c y (fromDc (c .size) column) ≡ accepted (contentOf c y column)
+unfolding isCarrier
+locate-column c y column v h₄ h =
+    let l = centred v .0 in
+    locate-accepts c y (fromDc (c .size) column) v h₄ (l .in-range column h) ∙ ap (λ (k : ℕ). accepted (contentOf c y k)) (l .back column)
+
+-- the questions of a symbol and a carrier as a number, whatever comes after them
+module _ (c : Setup) (y : ℕ) (k : ℤ) where
+  pub carrier-number : ℕ
+  carrier-number = refusalOf (askSetup {A = Unit {0}} c (askCarrier c y k (accepted tt)))
+
+  pub carrier-numbered : {A : Type 0} (rest : Answer A) → askSetup c (askCarrier c y k rest) ≡ numbered carrier-number rest
+  unfolding carrier-number
+  carrier-numbered rest = question (isMode c) 0 (question (isSize c) 1 (question (isCell c) 2 (question (isSymbol c y) 3 (question (isCarrier c k) 6 no-question)))) .is
 
 symbols-pos : {c : Setup} → Valid c → 0 < symbols c
 symbols-pos v = few v .symbols-pos
@@ -133,22 +158,22 @@ module _ (c : Setup) (v : Valid c) (y k : ℕ)
   unfolding contentOf dataAt
   data-content = rw (g, d, np)
 
-  pub data-placed : y < 512 * symbols c → placeOf c (y / symbols c) (a .subchannel) (a .index) ≡ accepted (record { symbol = y; carrier = k })
-  unfolding placeAt
+  pub data-placed : y < 512 * symbols c → placeOf c (y / symbols c) (a .subchannel) (a .index) ≡ accepted (record { symbol = y; carrier = fromDc (c .size) k })
+  unfolding placeAt usedCarrier
   data-placed h =
       place-accepts c (y / symbols c) (a .subchannel) (a .index) v (div-lt-iff-lt-mul (symbols-pos v) .1 h) (in-slot .0 .subchannel-lt) (in-slot .0 .index-lt)
       ∙ ap (λ (t : Spot). accepted (placeAt c (y / symbols c) t)) (in-slot .1)
-      ∙ (λ i. accepted (record { symbol = div-add-mod' y (symbols c) i; carrier = carrier-used (band c) (c .size) (band-law v) k g d i }))
+      ∙ (λ i. accepted (record { symbol = div-add-mod' y (symbols c) i; carrier = fromDc (c .size) (carrier-used (band c) (c .size) (band-law v) k g d i) }))
 
 -- LOCATE FINDS WHAT PLACE PLACED. Where a request to place is accepted, the carrier holds that point and no other.
 pub located-where-placed : (c : Setup) (slot s m : ℕ) {p : Place} → placeOf c slot s m ≡ accepted p
     → locateOf c (p .symbol) (p .carrier) ≡ accepted (point slot s m)
-unfolding placeAt
+unfolding placeAt usedCarrier
 located-where-placed c slot s m {p} e =
     let q = placing c slot s m e in
     let h = slot-law (q .is-valid) slot .lies s m (q .subchannel-lt) (q .index-lt) in
     ap (λ (t : Place). locateOf c (t .symbol) (t .carrier)) (sym (q .place-is))
-    ∙ locate-accepts c _ _ (q .is-valid) (digits-lt (q .slot-lt) (h .offset-lt))
+    ∙ locate-column c _ _ (q .is-valid) (digits-lt (q .slot-lt) (h .offset-lt))
     (carrier-lt (band c) (c .size) (band-law (q .is-valid)) (spotOf c slot s m .used) (h .used-lt))
     ∙ ap accepted (content-placed c (q .is-valid) slot s m (q .subchannel-lt) (q .index-lt))
 
@@ -166,13 +191,14 @@ point-carrier c y k e =
     (λ p. (g, d, p))))
 
 -- PLACE PUTS A POINT WHERE LOCATE FOUND IT. Where a carrier holds data, it is the place of the address that `locate` gives.
-pub placed-where-located : (c : Setup) (y k slot s m : ℕ) → locateOf c y k ≡ accepted (point slot s m)
+pub placed-where-located : (c : Setup) (y : ℕ) (k : ℤ) (slot s m : ℕ) → locateOf c y k ≡ accepted (point slot s m)
     → placeOf c slot s m ≡ accepted (record { symbol = y; carrier = k })
 placed-where-located c y k slot s m e =
     let q = locating c y k e in
-    let n = point-carrier c y k (q .content-is) in
-    let h = sym (data-content c (q .is-valid) y k (n .0) (n .1) (n .2)) ∙ q .content-is in
-    cc (data-placed c (q .is-valid) y k (n .0) (n .1) (n .2) (q .symbol-lt))
+    let column = onRow (c .size) k in
+    let n = point-carrier c y column (q .content-is) in
+    let h = sym (data-content c (q .is-valid) y column (n .0) (n .1) (n .2)) ∙ q .content-is in
+    cc (data-placed c (q .is-valid) y column (n .0) (n .1) (n .2) (q .symbol-lt), q .column-is)
 
 -- So different addresses have different places: each data subcarrier belongs to just one slot, subchannel and index.
 pub one-address : (c : Setup) (slot s m slot′ s′ m′ : ℕ) {p : Place} → placeOf c slot s m ≡ accepted p → placeOf c slot′ s′ m′ ≡ accepted p
@@ -190,15 +216,22 @@ in-own-slot c slot s m e =
     ∙ digits-div slot (slot-law (q .is-valid) slot .lies s m (q .subchannel-lt) (q .index-lt) .offset-lt)
 
 -- the numbers of an accepted answer are small
-pub place-small : (c : Setup) (slot s m : ℕ) {p : Place} → placeOf c slot s m ≡ accepted p → (p .symbol < 3072) × (p .carrier < 2048)
-place-small c slot s m e =
+pub place-small : (c : Setup) (slot s m : ℕ) {p : Place} → placeOf c slot s m ≡ accepted p → (p .symbol < 3072) × (mag (p .carrier) < 1024)
+place-small c slot s m {p} e =
     let q = locating c _ _ (located-where-placed c slot s m e) in
-    omega (arith, q .symbol-lt, q .carrier-below, few (q .is-valid))
+    omega (arith, q .symbol-lt, in-range-mag (c .size) (p .carrier) (q .in-range), few (q .is-valid))
 
-pub point-small : (c : Setup) (y k slot s m : ℕ) → locateOf c y k ≡ accepted (point slot s m) → (slot < 512) × (s < 192) × (m < 48)
+pub point-small : (c : Setup) (y : ℕ) (k : ℤ) (slot s m : ℕ) → locateOf c y k ≡ accepted (point slot s m) → (slot < 512) × (s < 192) × (m < 48)
 point-small c y k slot s m e =
     let q = placing c slot s m (placed-where-located c y k slot s m e) in
     omega (arith, q .slot-lt, q .subchannel-lt, q .index-lt, few (q .is-valid))
+
+-- DC holds DC
+pub dc-content : (c : Setup) → Valid c → (y : ℕ) → contentOf c y (band c .dc) ≡ dc
+unfolding contentOf isGuard isDc
+dc-content c v y =
+    let b = band-law v in
+    rw (le-ltb (band c .dc) (band c .left) (omega (arith, b)), lt-leb (c .size - band c .right) (band c .dc) (omega (arith, b)), eq-eqb (band c .dc) (band c .dc) refl)
 
 -- a pilot's carrier holds the pilot, and a carrier that holds a pilot is a pilot's
 pub pilot-content : (c : Setup) → Valid c → (y u : ℕ) → u < band c .used → isPilot c y u ≡ true → contentOf c y (carrierOf (band c) u) ≡ pilot

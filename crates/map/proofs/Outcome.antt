@@ -1,21 +1,28 @@
 -- What placing and locating come to at each of their returns.
 use mathlib.Core.Path.{_≡_, sym, ap, _∙_, subst}
-use mathlib.Core.Bool.{Bool, true, false}
+use mathlib.Core.Bool.{Bool, true, false, not}
 use Prim.Native.Nat.{ℕ, _*_, _/_, _<_, _≤_}
-use borrow.Author.Tests.{lt-ltb, le-ltb}
+use native.Mathlib.Omega.{arith}
+use lib.IntN.{ℤ}
+use mir.Syntax.{w32}
+use mir.Val.{SFits, toZ, ofZ}
+use mir.ValLaws.{toZ-ofZ}
+use borrow.Author.Tests.{lt-ltb, le-ltb, not-true, not-false}
 use Rattle.base.specs.Answer.{Answer, accepted, refused}
 use Rattle.carriers.specs.declared.Address.{Address}
 use Rattle.carriers.specs.declared.Band.{Band}
-use Rattle.carriers.specs.Band.{usedOf, isGuard, isDc}
+use Rattle.carriers.specs.Band.{carrierOf, usedOf, isGuard, isDc}
 use Rattle.carriers.specs.declared.Spot.{Spot}
-use Rattle.carriers.proofs.Guards.{used-left, used-lt}
+use Rattle.carriers.proofs.Guards.{carrier-lt, used-left, used-lt}
+use Rattle.centre.specs.Centre.{inRange, onRow}
 use Rattle.map.specs.declared.Setup.{Setup}
 use Rattle.map.specs.Mode.{subchannels, symbols, band, isPilot, spotOf, addressOf}
 use Rattle.map.specs.Question.{askSetup, isSlot, isSymbol, isSubchannel, isIndex, isCarrier}
 use Rattle.map.specs.Model.{setupRefusal, Valid}
 use Rattle.map.specs.Place.{Place, Content, guard, dc, pilot, point, placeAt, placeOf, dataAt, contentOf, locateOf}
 use Rattle.map.proofs.Accept.{refused-number, number-valid, passes}
-use Rattle.map.proofs.Slot.{slot-law, band-law}
+use Rattle.map.proofs.ByMode.{few}
+use Rattle.map.proofs.Slot.{slot-law, band-law, centred}
 use Rattle.map.proofs.Law.{place-accepts, locate-accepts}
 
 pub now-valid : (c : Setup) (k : ℕ) → k ≡ setupRefusal c → k ≡ 0 → Valid c
@@ -49,7 +56,14 @@ module _ (c : Setup) (slot s m : ℕ) where
     pub place-done : slot < 512 → (x : Spot) → x ≡ spotOf c slot s m → (a : Answer Place) → a ≡ accepted (placeAt c slot x) → a ≡ placeOf c slot s m
     place-done h x f a g = g ∙ ap (λ t. accepted (placeAt c slot t)) f ∙ sym (place-accepts c slot s m (now-valid c k e z) h subchannel-in hm)
 
-module _ (c : Setup) (y k : ℕ) where
+-- what counting from DC asks, and what it gives
+pub size-few : {c : Setup} → Valid c → c .size ≤ 65536
+size-few v = omega (arith, few v)
+
+pub column-below : {c : Setup} → Valid c → (b : Band) → b ≡ band c → (u : ℕ) → u < band c .used → (column : ℕ) → column ≡ carrierOf b u → column < c .size
+column-below {c} v b e u h column f = rw (f, e) (carrier-lt (band c) (c .size) (band-law v) u h)
+
+module _ (c : Setup) (y : ℕ) (k : ℤ) where
   pub locate-setup : (r : ℕ) → r ≡ setupRefusal c → (r ≡ 0 → ⊥) → refused r ≡ locateOf c y k
   unfolding locateOf
   locate-setup r e ne = refuses c r _ e ne
@@ -58,12 +72,28 @@ module _ (c : Setup) (y k : ℕ) where
   unfolding locateOf isSymbol
   locate-4 v n e l = rw (le-ltb y (512 * symbols c) (subst (λ (x : ℕ). 512 * x ≤ y) e l)) (sym (passes v))
 
-  pub locate-7 : Valid c → (n : ℕ) → n ≡ symbols c → y < 512 * n → c .size ≤ k → refused 7 ≡ locateOf c y k
-  unfolding locateOf isSymbol isCarrier
-  locate-7 v n e l g = rw (lt-ltb y (512 * symbols c) (subst (λ (x : ℕ). y < 512 * x) e l), le-ltb k (c .size) g) (sym (passes v))
+  -- the range is asked of what the machine reads, which is the carrier
+  module _ (fits : SFits w32 k) (t : Bool) (g : t ≡ inRange (c .size) (toZ w32 (ofZ w32 k))) where
+    asked : t ≡ isCarrier c k
+    unfolding isCarrier
+    asked = g ∙ ap (inRange (c .size)) (toZ-ofZ w32 k fits)
 
-  pub locate-done : Valid c → (n : ℕ) → n ≡ symbols c → y < 512 * n → k < c .size → (a : Answer Content) → a ≡ accepted (contentOf c y k) → a ≡ locateOf c y k
-  locate-done v n e l g a f = f ∙ sym (locate-accepts c y k v (subst (λ (x : ℕ). y < 512 * x) e l) g)
+    pub locate-7 : Valid c → (n : ℕ) → n ≡ symbols c → y < 512 * n → not t ≡ true → refused 7 ≡ locateOf c y k
+    unfolding locateOf isSymbol
+    locate-7 v n e l no′ = rw (lt-ltb y (512 * symbols c) (subst (λ (x : ℕ). y < 512 * x) e l), sym asked ∙ not-true _ no′) (sym (passes v))
+
+    module _ (yes′ : not t ≡ false) where
+      pub carrier-in : inRange (c .size) (toZ w32 (ofZ w32 k)) ≡ true
+      carrier-in = sym g ∙ not-false _ yes′
+
+      module _ (column : ℕ) (f : column ≡ onRow (c .size) (toZ w32 (ofZ w32 k))) where
+        pub column-in : Valid c → column < c .size
+        column-in v = rw f (centred v .0 .column-lt _ carrier-in)
+
+        pub locate-done : Valid c → (n : ℕ) → n ≡ symbols c → y < 512 * n → (a : Answer Content) → a ≡ accepted (contentOf c y column) → a ≡ locateOf c y k
+        locate-done v n e l a h =
+            h ∙ ap (λ (x : ℕ). accepted (contentOf c y x)) (f ∙ ap (onRow (c .size)) (toZ-ofZ w32 k fits))
+            ∙ sym (locate-accepts c y k v (subst (λ (x : ℕ). y < 512 * x) e l) (sym asked ∙ not-false _ yes′))
 
 -- the answers of a carrier of an accepted symbol, test by test
 module _ (c : Setup) (y k : ℕ) (b : Band) (e : b ≡ band c) where

@@ -1,6 +1,6 @@
--- Every valid setup meets the law of a slot and the law of its band: one clause a case of validity. All that is said of the map above rests on these two.
+-- Every valid setup meets the law of a slot, the law of its band and the law of the centre: one clause a case of validity. All that is said of the map above rests on these three.
 use mathlib.Core.Path.{_≡_, refl, ap, subst⁻¹}
-use Prim.Native.Nat.{ℕ, _+_, _*_, _%_, _<_}
+use Prim.Native.Nat.{ℕ, _+_, _*_, _/_, _%_, _<_}
 use native.Mathlib.Omega.{arith}
 use lib.Arith.{digits-mod}
 use Rattle.carriers.specs.Bin.{isBinPilot, dataOfUsed, binSpot, inOnlySymbol}
@@ -8,6 +8,8 @@ use Rattle.carriers.specs.Law.{SlotLaw}
 use Rattle.carriers.proofs.Guards.{BandLaw, pusc-band, bin-band}
 use Rattle.carriers.proofs.Bin.{bin-law}
 use Rattle.carriers.proofs.Relabel.{relabel}
+use Rattle.centre.specs.Law.{CentreLaw}
+use Rattle.centre.proofs.Law.{centre-law}
 use Rattle.pusc_dl.proofs.Tables.{pilot-parity}
 use Rattle.pusc_ul.specs.Tile.{isTilePilot}
 use Rattle.ofusc.proofs.Sequence.{pos}
@@ -69,3 +71,11 @@ band-law (pusc-dl h) = pusc-band
 band-law (pusc-ul h) = pusc-band
 band-law (ofusc {n = n} w h) = rw (width-is n) (bin-band n (pos w))
 band-law (amc {n = n} q w h) = let t = amc-tests q in rw (t .not-0, t .not-1, t .not-2, t .listed, width-is n) (bin-band n (pos w))
+
+-- every size is even, and DC stands in its middle
+pub centred : {c : Setup} → Valid c → CentreLaw (c .size) × (band c .dc ≡ c .size / 2)
+unfolding band width
+centred (pusc-dl h) = (centre-law 2048 refl, refl)
+centred (pusc-ul h) = (centre-law 2048 refl, refl)
+centred (ofusc {n = n} w h) = (centre-law (64 * n) (omega arith), rw (width-is n) (omega arith))
+centred (amc {n = n} q w h) = let t = amc-tests q in (centre-law (64 * n) (omega arith), rw (t .not-0, t .not-1, t .not-2, t .listed, width-is n) (omega arith))

@@ -1,26 +1,32 @@
 -- Placing and its reverse.
 use Prim.Native.Nat.{ℕ, _+_, _*_, _/_}
+use lib.IntN.{ℤ}
 use Rattle.base.specs.Choice.{pick}
 use Rattle.base.specs.Answer.{Answer, accepted, refused, ask}
 use Rattle.carriers.specs.declared.Spot.{Spot}
 use Rattle.carriers.specs.declared.Address.{Address}
 use Rattle.carriers.specs.Band.{carrierOf, usedOf, isGuard, isDc}
+use Rattle.centre.specs.Centre.{fromDc, onRow}
 use Rattle.map.specs.declared.Setup.{Setup}
 use Rattle.map.specs.declared.Placed.{Placed}
 use Rattle.map.specs.declared.Placed.the-variants.{At, Refused}
 use Rattle.map.specs.declared.Located.{Located}
 use Rattle.map.specs.declared.Located.the-variants.{Guard, Dc, Pilot, Data, Refused as RefusedToLocate}
 use Rattle.map.specs.Mode.{symbols, band, isPilot, spotOf, addressOf}
-use Rattle.map.specs.Question.{askSetup, isSlot, isSymbol, isSubchannel, isIndex, isCarrier}
+use Rattle.map.specs.Question.{askSetup, isSlot, isSubchannel, isIndex, askCarrier}
 
 -- a symbol of the zone and a carrier
 pub record Place : Type 0 where
   pub symbol : ℕ
-  pub carrier : ℕ
+  pub carrier : ℤ
+
+-- Document 02, wish 3: the place of a used number becomes a signed offset, with DC at 0. Document 01's formula for it, `carrierOf`, gives the column on the symbol's row.
+unfoldable pub usedCarrier : (setup : Setup) (used : ℕ) → ℤ
+usedCarrier setup used = fromDc (setup .size) (carrierOf (band setup) used)
 
 -- Document 01, "Modes and their ranges": a symbol's number in its zone is slot times slot length plus the offset in the slot.
 unfoldable pub placeAt : (setup : Setup) (slot : ℕ) (spot : Spot) → Place
-placeAt setup slot spot = record { symbol = slot * symbols setup + spot .offset; carrier = carrierOf (band setup) (spot .used) }
+placeAt setup slot spot = record { symbol = slot * symbols setup + spot .offset; carrier = usedCarrier setup (spot .used) }
 
 -- Document 01, "Grids": placing takes mode, size, cell, slot, subchannel and index and gives the zone's symbol and the carrier. Questions 1, 2, 3, 4, 5, 6.
 unfoldable pub placeOf : (setup : Setup) (slot subchannel index : ℕ) → Answer Place
@@ -45,22 +51,21 @@ pub data Content : Type 0 where
 unfoldable pub dataAt : (setup : Setup) (symbol : ℕ) (address : Address) → Content
 dataAt setup symbol address = point (symbol / symbols setup) (address .subchannel) (address .index)
 
--- guard and DC by the carrier, pilot by its used number in the symbol; else the point that lies there
-unfoldable pub contentOf : (setup : Setup) (symbol carrier : ℕ) → Content
-contentOf setup symbol carrier =
-    let used = usedOf (band setup) carrier in
-    pick (isGuard (band setup) (setup .size) carrier) guard
-    (pick (isDc (band setup) carrier) dc
+-- what stands in a column of a symbol's row: guard and DC by the column, pilot by its used number in the symbol; else the point that lies there
+unfoldable pub contentOf : (setup : Setup) (symbol column : ℕ) → Content
+contentOf setup symbol column =
+    let used = usedOf (band setup) column in
+    pick (isGuard (band setup) (setup .size) column) guard
+    (pick (isDc (band setup) column) dc
     (pick (isPilot setup symbol used) pilot
     (dataAt setup symbol (addressOf setup symbol used))))
 
 -- Document 01, "Grids": its reverse takes mode, size, cell, the zone's symbol and a carrier and gives guard, DC, pilot or the data address (slot, subchannel, index). Questions 1, 2, 3, 4, 7.
-unfoldable pub locateOf : (setup : Setup) (symbol carrier : ℕ) → Answer Content
+unfoldable pub locateOf : (setup : Setup) (symbol : ℕ) (carrier : ℤ) → Answer Content
 locateOf setup symbol carrier =
     askSetup setup
-    (ask (isSymbol setup symbol) 4
-    (ask (isCarrier setup carrier) 7
-    (accepted (contentOf setup symbol carrier))))
+    (askCarrier setup symbol carrier
+    (accepted (contentOf setup symbol (onRow (setup .size) carrier))))
 
 -- What an answer of `locate` says.
 abbrev pub located : (answer : Located) → Answer Content

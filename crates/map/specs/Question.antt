@@ -2,8 +2,10 @@
 use mathlib.Core.Bool.{Bool, true, false}
 use Prim.Native.Nat.{ℕ, _*_}
 use lib.Dec.{eqb, ltb}
+use lib.IntN.{ℤ}
 use Rattle.base.specs.Choice.{pick}
 use Rattle.base.specs.Answer.{Answer, ask}
+use Rattle.centre.specs.Centre.{inRange}
 use Rattle.map.specs.declared.Setup.{Setup}
 use Rattle.map.specs.Mode.{cells, subchannels, symbols}
 
@@ -37,9 +39,9 @@ isSubchannel setup subchannel = ltb subchannel (subchannels setup)
 unfoldable pub isIndex : (index : ℕ) → Bool
 isIndex index = ltb index 48
 
--- 7 Is the carrier below the size?
-unfoldable pub isCarrier : (setup : Setup) (carrier : ℕ) → Bool
-isCarrier setup carrier = ltb carrier (setup .size)
+-- 7 Is the carrier from -size/2 to size/2 - 1? Document 02, wish 3: question 7 is now about that range.
+unfoldable pub isCarrier : (setup : Setup) (carrier : ℤ) → Bool
+isCarrier setup carrier = inRange (setup .size) carrier
 
 -- the questions that every call with mode, size and cell puts first
 abbrev pub askSetup : {A : Type 0} (setup : Setup) (rest : Answer A) → Answer A
@@ -47,3 +49,9 @@ askSetup setup rest =
     ask (isMode setup) 1
     (ask (isSize setup) 2
     (ask (isCell setup) 3 rest))
+
+-- the questions of a symbol of the zone and a carrier, which come after these
+abbrev pub askCarrier : {A : Type 0} (setup : Setup) (symbol : ℕ) (carrier : ℤ) (rest : Answer A) → Answer A
+askCarrier setup symbol carrier rest =
+    ask (isSymbol setup symbol) 4
+    (ask (isCarrier setup carrier) 7 rest)

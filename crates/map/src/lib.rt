@@ -24,7 +24,7 @@ pub struct Setup {
 
 // Where a point is placed, or the first refusal.
 pub enum Placed {
-    At { symbol: usize, carrier: usize },
+    At { symbol: usize, carrier: i32 },
     Refused(u8),
 }
 
@@ -296,9 +296,10 @@ fn at(setup: Setup, slot: usize, x: Spot) -> Placed
     requires { ⌜ (slot < 512) × (x .offset < Symbols setup) × (x .used < BandOf setup .used) ⌝ }
     ensures { λ r. ⌜ placed r ≡ accepted (placeAt setup slot x) ⌝ }
 {
+    let column = carriers::carrier(band(setup), x.used);
     Placed::At {
         symbol: slot * symbols(setup) + x.offset,
-        carrier: carriers::carrier(band(setup), x.used),
+        carrier: centre::from_dc(setup.size, column),
     }
 }
 
@@ -322,20 +323,20 @@ pub fn place(setup: Setup, slot: usize, subchannel: usize, index: usize) -> Plac
     at(setup, slot, spot(setup, slot, subchannel, index))
 }
 
-// What a carrier of an accepted symbol holds.
-fn content(setup: Setup, symbol: usize, carrier: usize) -> Located
+// What stands in a column of an accepted symbol's row.
+fn content(setup: Setup, symbol: usize, column: usize) -> Located
     requires { ⌜ Valid setup ⌝ }
-    requires { ⌜ carrier < setup .size ⌝ }
-    ensures { λ r. ⌜ located r ≡ accepted (contentOf setup symbol carrier) ⌝ }
+    requires { ⌜ column < setup .size ⌝ }
+    ensures { λ r. ⌜ located r ≡ accepted (contentOf setup symbol column) ⌝ }
 {
     let b = band(setup);
-    if carriers::is_guard(b, setup.size, carrier) {
+    if carriers::is_guard(b, setup.size, column) {
         return Located::Guard;
     }
-    if carriers::is_dc(b, carrier) {
+    if carriers::is_dc(b, column) {
         return Located::Dc;
     }
-    let used = carriers::used(b, carrier);
+    let used = carriers::used(b, column);
     if is_pilot(setup, symbol, used) {
         return Located::Pilot;
     }
@@ -348,7 +349,7 @@ fn content(setup: Setup, symbol: usize, carrier: usize) -> Located
 }
 
 // What a carrier holds in a symbol of the zone, or the first refusal of 1, 2, 3, 4, 7.
-pub fn locate(setup: Setup, symbol: usize, carrier: usize) -> Located
+pub fn locate(setup: Setup, symbol: usize, carrier: i32) -> Located
     ensures { λ r. ⌜ located r ≡ locateOf setup symbol carrier ⌝ }
 {
     let k = refusal(setup);
@@ -358,8 +359,8 @@ pub fn locate(setup: Setup, symbol: usize, carrier: usize) -> Located
     if 512 * symbols(setup) <= symbol {
         return Located::Refused(4);
     }
-    if setup.size <= carrier {
+    if !centre::in_range(setup.size, carrier) {
         return Located::Refused(7);
     }
-    content(setup, symbol, carrier)
+    content(setup, symbol, centre::column(setup.size, carrier))
 }

@@ -1,5 +1,7 @@
 -- `capi::bp_locate` meets its contract.
 use native.Mathlib.Omega.{arith}
+use mir.Syntax.{w32}
+use mir.ValLaws.{toZ-ofZ}
 use borrow.Author.Needs.{needs}
 use Rattle.capi.specs.Map.{locateOut}
 use Rattle.capi.proofs.Map.{data-small, located-out}
@@ -22,8 +24,8 @@ bp-locate-spec =
     (λ c. omega (arith, data-small _ _ _ _ (c .before .before .before .locate .ensures) _ _ _ (c .before .answer .given .1)))
     (λ c. search needs)
     (λ c. search needs)
-    (λ c. located-out _ _ _ _ (rw (c .before .before .before .setup .ensures) at (c .before .before .locate .ensures)) _ _ _ _ _ (c .enum-told .given .1))
-    (λ c. located-out _ _ _ _ (rw (c .before .before .before .setup .ensures) at (c .before .before .locate .ensures)) _ _ _ _ _ (c .enum-told2 .given .1))
-    (λ c. located-out _ _ _ _ (rw (c .before .before .before .setup .ensures) at (c .before .before .locate .ensures)) _ _ _ _ _ (c .enum-told3 .given .1))
-    (λ c. located-out _ _ _ _ (rw (c .before .before .before .before .setup .ensures) at (c .before .before .before .locate .ensures)) _ _ _ _ _ (c .before .answer .given .1))
-    (λ c. located-out _ _ _ _ (rw (c .before .before .before .before .setup .ensures) at (c .before .before .before .locate .ensures)) _ _ _ _ _ (c .before .answer2 .given .1)))
+    (λ c. located-out _ _ _ _ (rw (c .before .before .before .setup .ensures) at (c .before .before .locate .ensures)) _ (toZ-ofZ w32 _ (c .before .before .before .before .fits .carrier)) _ _ _ _ _ (c .enum-told .given .1))
+    (λ c. located-out _ _ _ _ (rw (c .before .before .before .setup .ensures) at (c .before .before .locate .ensures)) _ (toZ-ofZ w32 _ (c .before .before .before .before .fits .carrier)) _ _ _ _ _ (c .enum-told2 .given .1))
+    (λ c. located-out _ _ _ _ (rw (c .before .before .before .setup .ensures) at (c .before .before .locate .ensures)) _ (toZ-ofZ w32 _ (c .before .before .before .before .fits .carrier)) _ _ _ _ _ (c .enum-told3 .given .1))
+    (λ c. located-out _ _ _ _ (rw (c .before .before .before .before .setup .ensures) at (c .before .before .before .locate .ensures)) _ (toZ-ofZ w32 _ (c .before .before .before .before .before .fits .carrier)) _ _ _ _ _ (c .before .answer .given .1))
+    (λ c. located-out _ _ _ _ (rw (c .before .before .before .before .setup .ensures) at (c .before .before .before .locate .ensures)) _ (toZ-ofZ w32 _ (c .before .before .before .before .before .fits .carrier)) _ _ _ _ _ (c .before .answer2 .given .1)))

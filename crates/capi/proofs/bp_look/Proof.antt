@@ -2,6 +2,8 @@
 use native.Mathlib.Omega.{arith}
 use Rattle.capi.specs.Grid.{lookOut}
 use Rattle.capi.proofs.Grid.{seen-small, seen-out}
+use mir.Syntax.{w32}
+use mir.ValLaws.{toZ-ofZ}
 use borrow.Author.Needs.{needs}
 use Rattle.capi.proofs.bp_look.Statement.{statement}
 use Rattle.capi.proofs.bp_look.Tie as tie
@@ -17,19 +19,19 @@ cast-index c = omega (arith, seen-small _ _ _ _ _ (c .before .before .before .be
 
 returns : tie.Need-returns
 unfolding lookOut
-returns c = seen-out _ _ _ _ _ (rw (c .before .before .before .setup .ensures) at (c .before .before .look .ensures)) _ _ _ _ _ _ (c .enum-told .given .1)
+returns c = seen-out _ _ _ _ _ (rw (c .before .before .before .setup .ensures) at (c .before .before .look .ensures)) _ (toZ-ofZ w32 _ (c .before .before .before .before .before .fits .carrier)) _ _ _ _ _ _ (c .enum-told .given .1)
 
 returns-2 : tie.Need-returns-2
 unfolding lookOut
-returns-2 c = seen-out _ _ _ _ _ (rw (c .before .before .before .before .before .setup .ensures) at (c .before .before .before .before .look .ensures)) _ _ _ _ _ _ (c .before .before .answer .given .1)
+returns-2 c = seen-out _ _ _ _ _ (rw (c .before .before .before .before .before .setup .ensures) at (c .before .before .before .before .look .ensures)) _ (toZ-ofZ w32 _ (c .before .before .before .before .before .before .before .fits .carrier)) _ _ _ _ _ _ (c .before .before .answer .given .1)
 
 returns-3 : tie.Need-returns-3
 unfolding lookOut
-returns-3 c = seen-out _ _ _ _ _ (rw (c .before .before .before .before .before .setup .ensures) at (c .before .before .before .before .look .ensures)) _ _ _ _ _ _ (c .before .before .answer2 .given .1)
+returns-3 c = seen-out _ _ _ _ _ (rw (c .before .before .before .before .before .setup .ensures) at (c .before .before .before .before .look .ensures)) _ (toZ-ofZ w32 _ (c .before .before .before .before .before .before .before .fits .carrier)) _ _ _ _ _ _ (c .before .before .answer2 .given .1)
 
 returns-4 : tie.Need-returns-4
 unfolding lookOut
-returns-4 c = seen-out _ _ _ _ _ (rw (c .before .before .before .before .setup .ensures) at (c .before .before .before .look .ensures)) _ _ _ _ _ _ (c .before .answer3 .given .1)
+returns-4 c = seen-out _ _ _ _ _ (rw (c .before .before .before .before .setup .ensures) at (c .before .before .before .look .ensures)) _ (toZ-ofZ w32 _ (c .before .before .before .before .before .before .fits .carrier)) _ _ _ _ _ _ (c .before .answer3 .given .1)
 
 pub bp-look-spec : {M : Type 1} → statement M
 bp-look-spec =

@@ -5,7 +5,7 @@ use Prim.Native.Nat.{_/_}
 use mir.Syntax.{w32}
 use mir.ValLaws.{toZ-pos, toZ-ofZ}
 use borrow.Author.Needs.{needs}
-use Rattle.centre.specs.Centre.{columnOf}
+use Rattle.centre.specs.Centre.{onRow}
 use Rattle.centre.proofs.Law.{in-range-mag, sum-mag, sum-nonNeg}
 use Rattle.centre.proofs.column.Statement.{statement}
 use Rattle.centre.proofs.column.Tie as tie
@@ -21,7 +21,7 @@ cast-result-2 c = let q = sum-nonNeg (c .args .carrier) (c .args .size / 2) (in-
     (q .0, record { fits = omega arith })
 
 returns : tie.Need-returns
-unfolding columnOf
+unfolding onRow
 returns c = rw (toZ-ofZ w32 _ (add-result c), toZ-ofZ w32 (c .args .carrier) (c .fits .carrier), toZ-pos w32 (c .args .size / 2) (omega arith))
 
 pub column-spec : {M : Type 1} → statement M

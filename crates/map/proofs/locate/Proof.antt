@@ -1,21 +1,24 @@
 -- `map::locate` meets its contract.
-use Rattle.map.proofs.ByMode.{few}
 use native.Mathlib.Omega.{arith}
-use Rattle.map.proofs.Outcome.{now-valid, locate-setup, locate-4, locate-7, locate-done}
 use borrow.Author.Needs.{needs}
+use Rattle.map.proofs.ByMode.{few}
+use Rattle.map.proofs.Outcome.{now-valid, locate-setup, locate-4, locate-7, size-few, carrier-in, column-in, locate-done}
 use Rattle.map.proofs.locate.Statement.{statement}
 use Rattle.map.proofs.locate.Tie as tie
 
 mul-if2 : tie.Need-mul-if2
 mul-if2 c = omega (arith, few (now-valid _ _ (c .before .before .refusal .ensures) (c .before .if1 .left)))
 
+column-requires : tie.Need-column-requires
+column-requires c κs = (search (size-few, now-valid, needs), search (carrier-in, needs))
+
 content-requires : tie.Need-content-requires
-content-requires c κs = (search (now-valid, needs), search needs)
+content-requires c κs = (search (now-valid, needs), search (column-in, now-valid, needs))
 
 pub locate-spec : {M : Type 1} → statement M
 locate-spec =
     tie.close
     (tie.spec
     (λ c κs. search needs) (λ c. search (locate-setup, needs)) (λ c κs. search needs) mul-if2
-    (λ c. search (locate-4, now-valid, needs)) (λ c. search (locate-7, now-valid, needs)) content-requires
-    (λ c. search (locate-done, now-valid, needs)))
+    (λ c. search (locate-4, now-valid, needs)) (λ c κs. search (size-few, now-valid, needs)) (λ c. search (locate-7, now-valid, needs))
+    column-requires content-requires (λ c. search (locate-done, now-valid, needs)))

@@ -1,4 +1,4 @@
--- `grid::carrier_position` meets its contract.
+-- `grid::column_position` meets its contract.
 use mathlib.Core.Path.{refl}
 use native.Mathlib.Nat.{mod-lt}
 use native.Mathlib.Omega.{arith}
@@ -6,8 +6,8 @@ use borrow.Author.Needs.{needs}
 use Rattle.map.proofs.ByMode.{few}
 use Rattle.lengths.proofs.Refusal.{grid-few}
 use Rattle.grid.proofs.Slot.{position-is}
-use Rattle.grid.proofs.carrier_position.Statement.{statement}
-use Rattle.grid.proofs.carrier_position.Tie as tie
+use Rattle.grid.proofs.column_position.Statement.{statement}
+use Rattle.grid.proofs.column_position.Tie as tie
 
 returns : tie.Need-returns
 returns c =
@@ -20,5 +20,5 @@ mul-result c = omega (arith, grid-few (c .before .before .pre .0), returns c)
 add-result : tie.Need-add-result
 add-result c = omega (arith, grid-few (c .before .before .pre .0), returns c)
 
-pub carrier-position-spec : {M : Type 1} → statement M
-carrier-position-spec = tie.close (tie.spec (λ c κs. search needs) mul-result add-result returns)
+pub column-position-spec : {M : Type 1} → statement M
+column-position-spec = tie.close (tie.spec (λ c κs. search needs) mul-result add-result returns)
