@@ -3,6 +3,7 @@
 //     p mode size cell slot subchannel index n    n points from this index on: symbol.carrier
 //     l mode size cell symbol carrier n           n carriers from this one on: guard, dc, pilot
 //                                                 or slot.subchannel.index
+//     m mode size cell symbol carrier n           the same, from minus this carrier on
 //
 // Each line is written back with its answers behind a colon. The input and what must come out are
 // made by tests/vectors.py.
@@ -50,8 +51,24 @@ fn answer(operation: u8, fields: [usize; 64]) {
     if operation == b'p' {
         points(setup, fields[3], fields[4], fields[5], fields[6]);
     } else {
-        carriers(setup, fields[3], fields[4], fields[5]);
+        let first = signed(operation == b'm', fields[4]);
+        carriers(setup, fields[3], first, fields[5]);
     }
+}
+
+// A number with its sign; one that 32 bits do not hold is the nearest that they do.
+fn signed(negative: bool, size: usize) -> i32 {
+    if size <= 2147483647 {
+        let k = size as i32;
+        if negative {
+            return -k;
+        }
+        return k;
+    }
+    if negative {
+        return -2147483648;
+    }
+    2147483647
 }
 
 fn points(setup: Setup, slot: usize, subchannel: usize, first: usize, n: usize) {
@@ -63,11 +80,17 @@ fn points(setup: Setup, slot: usize, subchannel: usize, first: usize, n: usize) 
     }
 }
 
-fn carriers(setup: Setup, symbol: usize, first: usize, n: usize) {
+// As many of them as there are.
+fn carriers(setup: Setup, symbol: usize, first: i32, n: usize) {
+    let mut carrier = first;
     let mut i = 0;
     while i < n {
-        let carrier = std::num::wrapping_add_usize(first, i);
         print_located(map::locate(setup, symbol, carrier));
+        if carrier < 2147483647 {
+            carrier += 1;
+        } else {
+            return;
+        }
         i += 1;
     }
 }
@@ -93,9 +116,15 @@ fn print_located(located: Located) {
     }
 }
 
-fn print_point(symbol: usize, carrier: usize) {
+fn print_point(symbol: usize, carrier: i32) {
     print_number(b' ', symbol);
-    print_number(b'.', carrier);
+    let k = carrier as i64;
+    if k < 0 {
+        print(b".");
+        print_number(b'-', (-k) as usize);
+    } else {
+        print_number(b'.', k as usize);
+    }
 }
 
 fn print_address(slot: usize, subchannel: usize, index: usize) {
