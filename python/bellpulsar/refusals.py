@@ -64,7 +64,7 @@ PLAN_COUNTS = range(1, 9)
 PLAN_SLOTS = range(1, SLOTS + 1)
 
 
-def carriers(size):
+def carriers_of(size):
     """Of a symbol, by rising frequency; DC is 0."""
     return range(-(size // 2), size // 2)
 
@@ -131,7 +131,7 @@ def index_words(field, asked):
 
 def carrier_words(field, asked):
     size = asked["size"]
-    return not_one_of(field, asked[field], "size %d's" % size, carriers(size))
+    return not_one_of(field, asked[field], "size %d's" % size, carriers_of(size))
 
 
 def length_words(field, asked):
