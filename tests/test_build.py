@@ -44,10 +44,11 @@ echo done >>calls
 ENDLESS = "#!/bin/sh\nsleep 600 & echo $! >>calls\necho $$ >>calls\nwait\n"
 FAILS = "#!/bin/sh\necho called >>calls\necho 'rt: map NOT PROVED' >&2\nexit 1\n"
 COMPILER = '#!/bin/sh\necho "$0" "$@" >>words\nexec cc "$@"\n'
-# Notes its words, and makes a program that does nothing.
+# Notes its words, and makes a program that does nothing; the preprocessor is the compiler's own.
 NO_COMPILER = """\
 #!/bin/sh
 echo "$0" "$@" >>words
+if [ "$1" = -E ]; then exec cc "$@"; fi
 while [ $# -gt 1 ]; do
     if [ "$1" = -o ]; then ln -sf /bin/true "$2"; fi
     shift
@@ -391,7 +392,7 @@ class Building(Case):
             self.assertEqual(done.returncode, 0, done.stderr)
             with open(self.path("words")) as file:
                 lines = [line for line in file if " -o " in line and "-x c++" not in line]
-            self.assertEqual(len(lines), compiled, script)
+            self.assertGreaterEqual(len(lines), compiled, script)
             for line in lines:
                 self.assertIn(" -g -DA=1 -Wl,-z,now ", line)
             os.remove(self.path("words"))
