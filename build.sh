@@ -1,9 +1,10 @@
 #!/bin/sh
-# Proves the engine and builds its C library, build/libbellpulsar.a and build/libbellpulsar.so. Nothing is done where both
-# are made from what the tree has now: that goes by content, whose hash is in build/stamp.
+# Proves the engine and builds its C library: build/libbellpulsar.a, the shared build/libbellpulsar.so.VERSION, and
+# build/libbellpulsar.so, a link to it for -lbellpulsar. Nothing is done where they are made from what the tree has now: that
+# goes by content, whose hash is in build/stamp.
 #
 #     ./build.sh            builds what is missing or old; status 0, or 2 where that fails
-#     ./build.sh --check    builds nothing; status 0 where both are current, 1 where they are not
+#     ./build.sh --check    builds nothing; status 0 where all are current, 1 where they are not
 #
 # CC (which may be several words), CFLAGS and LDFLAGS are used where the shared library is linked; they are no part of
 # the hash.
@@ -23,6 +24,11 @@ esac
 # Standard error may be full.
 say() { echo "bellpulsar: $*" >&2 || :; }
 
+# The version of the interface is the header's.
+version=$(sed -n 's/^#define BP_VERSION \([0-9][0-9]*\)$/\1/p' include/bellpulsar.h)
+[ -n "$version" ] || { say "include/bellpulsar.h has no BP_VERSION"; exit 2; }
+shared=libbellpulsar.so.$version
+
 # The crates that the library is made from, each after those that it needs.
 crates=$(awk -F: '
     function visit(name, parts, n, i) {
@@ -41,14 +47,19 @@ sources=$(for crate in $crates; do
     done
 done)
 
-# The hash of all that the library is made from.
+# The hash of all that the library is made from; of the header that is the version.
 content() {
-    find build.sh crates.txt $sources -type f -print0 | LC_ALL=C sort -z | xargs -0 sha256sum | sha256sum
+    {
+        echo "$version"
+        find build.sh crates.txt $sources -type f -print0 | LC_ALL=C sort -z | xargs -0 sha256sum
+    } | sha256sum
 }
 
 is_current() {
-    [ -e build/libbellpulsar.a ] && [ -e build/libbellpulsar.so ] && [ -e build/stamp ] &&
-        [ "$(cat build/stamp)" = "$(content)" ]
+    for made in libbellpulsar.a "$shared" libbellpulsar.so stamp; do
+        [ -e "build/$made" ] || return 1
+    done
+    [ "$(cat build/stamp)" = "$(content)" ]
 }
 
 if is_current; then exit 0; fi
@@ -97,10 +108,11 @@ fi
 say "capi proved ($total of $total)"
 
 cp target/staticlib/libcapi.a "$new/libbellpulsar.a"
-${CC:-cc} ${CFLAGS-} ${LDFLAGS-} -shared -Wl,-soname,libbellpulsar.so -o "$new/libbellpulsar.so" \
+${CC:-cc} ${CFLAGS-} ${LDFLAGS-} -shared "-Wl,-soname,$shared" -o "$new/$shared" \
     -Wl,--whole-archive "$new/libbellpulsar.a" -Wl,--no-whole-archive
+ln -s "$shared" "$new/libbellpulsar.so"
 echo "$now" >"$new/stamp"
 rm -f build/stamp
-mv "$new/libbellpulsar.a" "$new/libbellpulsar.so" build
+mv "$new/libbellpulsar.a" "$new/$shared" "$new/libbellpulsar.so" build
 mv "$new/stamp" build
 rm -rf "$new"

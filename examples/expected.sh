@@ -25,13 +25,13 @@ expect() {
     fi
 }
 
-expect 0 "symbol 0 carrier 87
+expect 0 "symbol 0 carrier -425
 holds slot 0 subchannel 0 index 0" point 2 1024 17 0 0 0
-expect 0 "symbol 1 carrier 552
+expect 0 "symbol 1 carrier 40
 holds slot 1 subchannel 3 index 5" point 2 1024 0 1 3 5
-expect 0 "symbol 0 carrier 1862
+expect 0 "symbol 0 carrier 838
 holds slot 0 subchannel 1 index 11" point 0 2048 0 0 1 11
-expect 0 "symbol 4 carrier 122
+expect 0 "symbol 4 carrier -6
 holds slot 1 subchannel 5 index 1" point 4 256 176 1 5 1
 expect 1 "refused 1: Is the mode listed (in a plan: 0 or 2 to 6)?" point 7 1024 256 0 0 0
 expect 1 "refused 2: Is the size that mode's (of a plan: 256, 512, 1024 or 2048)?" point 2 128 256 0 0 0
@@ -48,6 +48,25 @@ for word in first "" " 3" "3 " "	3" " -18446744073709551615" "- 3" - --3 +3 1_0 
 done
 expect 2 "" point 2 1024 17 0 0
 
+expect 0 "data slot 0 subchannel 0 index 0" carrier 2 1024 17 0 -425
+expect 0 "data slot 1 subchannel 3 index 5" carrier 2 1024 0 1 40
+expect 0 "pilot" carrier 0 2048 5 1 -840
+expect 0 "guard" carrier 0 2048 5 1 -841
+expect 0 "DC" carrier 0 2048 5 1 0
+expect 0 "DC" carrier 0 2048 5 1 -0
+expect 0 "guard" carrier 3 256 0 0 -128
+expect 0 "guard" carrier 3 256 0 0 127
+# A carrier that 32 bits do not hold is refused, not cut to one that they hold.
+for word in -129 128 -2147483648 2147483647 4294967295 -4294967296 18446744073709551615 -18446744073709551616; do
+    expect 1 "refused 7: Is the carrier from -size/2 to size/2 - 1?" carrier 3 256 0 0 "$word"
+done
+expect 1 "refused 4: Is the slot below 512, the zone's symbol below 512 times the slot length?" carrier 3 256 0 -1 -129
+for word in "" - --1 "- 1" +1 -1.0 -x; do
+    expect 2 "" carrier 3 256 0 0 "$word"
+done
+expect 2 "" carrier 3 256 0 0
+expect 2 "" carrier 3 256 0 0 -1 -1
+
 expect 0 "groups 0 1 31 32
 count 4" collisions 2048 0 2 1010 0
 expect 1 "refused 3: Is the cell in range?" collisions 256 0 4 16 0
@@ -57,11 +76,11 @@ count 3" collisions 48 176
 expect 1 "refused 3: Is the cell in range?" collisions 48 2352
 expect 2 "" collisions 48
 
-expect 0 "symbol 1 carrier 377: point (48, -48) of slot 0 subchannel 1 index 0
+expect 0 "symbol 1 carrier -647: point (48, -48) of slot 0 subchannel 1 index 0
 3360 points: all back" slot 1 2048 0 0
-expect 0 "symbol 9 carrier 133: point (48, -48) of slot 9 subchannel 1 index 0
+expect 0 "symbol 9 carrier -123: point (48, -48) of slot 9 subchannel 1 index 0
 384 points: all back" slot 3 512 7 9
-expect 0 "symbol 29 carrier 60: point (48, -48) of slot 9 subchannel 1 index 0
+expect 0 "symbol 29 carrier -196: point (48, -48) of slot 9 subchannel 1 index 0
 1152 points: all back" slot 4 512 7 9
 expect 1 "refused 2: Is the size that mode's (of a plan: 256, 512, 1024 or 2048)?" slot 2 4294967295 0 0
 

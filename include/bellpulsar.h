@@ -37,7 +37,7 @@
  *   6 AMC 1x6          1024   0..2351   0..95        0..511   0..3071         9216      12288
  *   6 AMC 1x6          2048   0..2351   0..191       0..511   0..3071        18432      24576
  *
- *   index: 0..47, the points of one subchannel in one slot. carrier: 0..size-1, by rising frequency, DC at size / 2.
+ *   index: 0..47, the points of one subchannel in one slot. carrier: -size/2..size/2-1, by rising frequency, DC at 0.
  *
  * size is the FFT size, cell the permutation base. symbol is the symbol's number in the zone: the slot times the slot's
  * length (2 symbols in mode 0, 3 in mode 1, 1 in mode 2; 1, 3, 2 and 6 in modes 3 to 6) plus the offset in the slot.
@@ -48,10 +48,10 @@
  * count floats and are exact: a longer buffer is refused as a shorter one is.
  * The points of a slot stand by subchannel, then index: point `index` of `subchannel` is at 2 * (48 * subchannel + index).
  * The grid of a slot stands symbol after symbol, each by rising carrier: the point on `carrier` in the symbol with this
- * offset in the slot is at 2 * (offset * size + carrier).
+ * offset in the slot is at 2 * (offset * size + size / 2 + carrier).
  * Complex numbers fit: an array of `float complex` (C) or `std::complex<float>` (C++) is such a buffer, cast to float *, with
  * two floats for each of its elements, the real part first. Before an inverse FFT that takes DC first, the two halves of a
- * symbol's carriers change places, since DC stands at size / 2 here.
+ * symbol's row change places, since the point of DC is the row's point size / 2: carrier k is bin k mod size of an FFT.
  */
 #ifndef BELLPULSAR_H
 #define BELLPULSAR_H
@@ -63,7 +63,17 @@
 extern "C" {
 #endif
 
-/* Numbers by name, for fields and answers, which are all uint32_t. */
+/* The version of this interface. It goes up where a call changes for its callers, and is in the shared library's soname,
+ * libbellpulsar.so.2. In version 2 carriers are signed and count from DC; before that they were 0..size-1. A caller can
+ * hold itself to it:
+ *
+ *     #if BP_VERSION != 2
+ *     #error "this program is written for version 2 of bellpulsar.h"
+ *     #endif
+ */
+#define BP_VERSION 2
+
+/* Numbers by name: modes, kinds and refusals, which are uint32_t wherever a call takes or gives one. */
 enum bp_mode {
     BP_PUSC_DL = 0, /* PUSC downlink */
     BP_PUSC_UL = 1, /* PUSC uplink */
@@ -91,7 +101,7 @@ enum bp_refusal {
     BP_REFUSED_SLOT = 4,        /* the slot, or the zone's symbol, is out of range */
     BP_REFUSED_SUBCHANNEL = 5,  /* the subchannel is out of range */
     BP_REFUSED_INDEX = 6,       /* the index is not below 48 */
-    BP_REFUSED_CARRIER = 7,     /* the carrier is not below the size */
+    BP_REFUSED_CARRIER = 7,     /* the carrier is not from -size/2 to size/2 - 1 */
     BP_REFUSED_POINTS_LEN = 8,  /* points_len is not that of the mode and size */
     BP_REFUSED_GRID_LEN = 9,    /* grid_len is not that of the mode and size */
     BP_REFUSED_CUT_SHORT = 10,  /* a plan's bytes end within a value, before its third group */
@@ -108,14 +118,14 @@ enum bp_refusal {
  * Written where it is accepted: *symbol, the zone's symbol (in the slot asked for), and *carrier.
  * Refusals, in this order: 1 mode, 2 size, 3 cell, 4 slot, 5 subchannel, 6 index. */
 uint32_t bp_place(uint32_t mode, uint32_t size, uint32_t cell, uint32_t slot, uint32_t subchannel, uint32_t index,
-                  uint32_t *symbol, uint32_t *carrier);
+                  uint32_t *symbol, int32_t *carrier);
 
 /* What a carrier holds in a symbol of the zone: the reverse of bp_place.
  *
  * Written where it is accepted: *kind (enum bp_kind), 0 guard, 1 DC, 2 pilot, 3 data; and where that is 3 (else they keep
  * their contents) *slot, *subchannel and *index, whose point bp_place puts there.
  * Refusals, in this order: 1 mode, 2 size, 3 cell, 4 symbol, 7 carrier. */
-uint32_t bp_locate(uint32_t mode, uint32_t size, uint32_t cell, uint32_t symbol, uint32_t carrier,
+uint32_t bp_locate(uint32_t mode, uint32_t size, uint32_t cell, uint32_t symbol, int32_t carrier,
                    uint32_t *kind, uint32_t *slot, uint32_t *subchannel, uint32_t *index);
 
 /* The floats of a slot's points, 96 for each subchannel; 0 for a mode and size that the map does not have. */
@@ -151,7 +161,7 @@ uint32_t bp_empty(uint32_t mode, uint32_t size, uint32_t cell, uint32_t slot,
  * contents.
  * Refusals, in this order: 1 mode, 2 size, 3 cell, 4 symbol, 7 carrier, 9 grid_len. */
 uint32_t bp_look(uint32_t mode, uint32_t size, uint32_t cell, uint32_t symbol, const float *grid, size_t grid_len,
-                 uint32_t carrier, uint32_t *kind, float point[2],
+                 int32_t carrier, uint32_t *kind, float point[2],
                  uint32_t *slot, uint32_t *subchannel, uint32_t *index);
 
 /* Optional FUSC: in which groups subchannel_a of cell_a and subchannel_b of cell_b are on one carrier.

@@ -78,22 +78,24 @@ class Case(unittest.TestCase):
 
 # --- answers ----------------------------------------------------------------------------------
 
+NAMES = {ref.DC: "DC"}  # what is told by another name than the reference's
+
 
 class Map(Case):
     def test_as_a_process(self):
         done = run("place", 2, 1024, 17, 0, 0, 0)
-        self.assertEqual((done.stdout, done.stderr, done.returncode), (b"symbol 0 carrier 87\n", b"", 0))
+        self.assertEqual((done.stdout, done.stderr, done.returncode), (b"symbol 0 carrier -425\n", b"", 0))
         done = run("place", 2, 1024, 256, 0, 0, 0)
         self.assertEqual((done.stdout[:11], done.stderr, done.returncode), (b"refused 3: ", b"", 1))
 
     def test_place(self):
-        self.prints("place 2 1024 0 0 3 5", "symbol 0 carrier 553\n")
-        self.prints("place 2 1024 0 1 3 5", "symbol 1 carrier 552\n")
-        self.prints("place 2 1024 17 0 0 0", "symbol 0 carrier 87\n")
-        self.prints("place 0 2048 0 0 1 11", "symbol 0 carrier 1862\n")
-        self.prints("place 0 2048 0 0 1 35", "symbol 1 carrier 1861\n")
-        self.prints("place 1 2048 0 0 1 0", "symbol 1 carrier 377\n")
-        self.prints("place 4 256 176 1 5 1", "symbol 4 carrier 122\n")
+        self.prints("place 2 1024 0 0 3 5", "symbol 0 carrier 41\n")
+        self.prints("place 2 1024 0 1 3 5", "symbol 1 carrier 40\n")
+        self.prints("place 2 1024 17 0 0 0", "symbol 0 carrier -425\n")
+        self.prints("place 0 2048 0 0 1 11", "symbol 0 carrier 838\n")
+        self.prints("place 0 2048 0 0 1 35", "symbol 1 carrier 837\n")
+        self.prints("place 1 2048 0 0 1 0", "symbol 1 carrier -647\n")
+        self.prints("place 4 256 176 1 5 1", "symbol 4 carrier -6\n")
 
     def test_ranges(self):
         self.prints("place 2 256 15 0 0 0", "symbol 0 carrier %d\n" % ref.place(2, 256, 15, 0, 0, 0)[2])
@@ -101,28 +103,40 @@ class Map(Case):
         self.prints("place 3 256 2351 511 0 0", "symbol 511 carrier %d\n" % ref.place(3, 256, 2351, 511, 0, 0)[2])
         self.refused(3, "place 3 256 2352 511 0 0")
         self.refused(4, "place 3 256 2351 512 0 0")
-        self.prints("place 6 2048 2351 511 191 47", "symbol 3070 carrier 1886\n")
+        self.prints("place 6 2048 2351 511 191 47", "symbol 3070 carrier 862\n")
         self.refused(5, "place 6 2048 2351 511 192 47")
-        self.prints("locate 6 2048 2351 3071 1887", "pilot\n")
-        self.refused(4, "locate 6 2048 2351 3072 1887")
+        self.prints("locate 6 2048 2351 3071 863", "pilot\n")
+        self.refused(4, "locate 6 2048 2351 3072 863")
         self.refused(1, "place 7 2048 0 0 0 0")
 
     def test_locate(self):
         for cell in (0, 5, 31):
-            slot, subchannel, index = ref.locate(0, 2048, cell, 0, 184)[1][1:]
+            slot, subchannel, index = ref.locate(0, 2048, cell, 0, -840)[1][1:]
             data = "data slot %d subchannel %d index %d\n" % (slot, subchannel, index)
-            self.prints("locate 0 2048 %d 0 184" % cell, data)
-            self.prints("locate 0 2048 %d 1 184" % cell, "pilot\n")
-        self.prints("locate 0 2048 31 0 183", "guard\n")
-        self.prints("locate 0 2048 31 1 1024", "DC\n")
-        self.prints("locate 2 1024 17 0 87", "data slot 0 subchannel 0 index 0\n")
+            self.prints("locate 0 2048 %d 0 -840" % cell, data)
+            self.prints("locate 0 2048 %d 1 -840" % cell, "pilot\n")
+        self.prints("locate 0 2048 31 0 -841", "guard\n")
+        self.prints("locate 0 2048 31 1 0", "DC\n")
+        self.prints("locate 2 1024 17 0 -425", "data slot 0 subchannel 0 index 0\n")
+
+    def test_the_middle_and_the_ends_of_a_symbol(self):
+        for mode in range(7):
+            for size in ref.sizes(mode):
+                half = size // 2
+                for carrier in (-half, -1, 0, 1, half - 1):
+                    kind, *address = ref.locate(mode, size, 1, 1, carrier)[1]
+                    text = "data slot %d subchannel %d index %d" % tuple(address) if address else NAMES.get(kind, kind)
+                    self.prints("locate %d %d 1 1 %d" % (mode, size, carrier), text + "\n")
+                for carrier in (-half - 1, half, -(2**31), 2**31 - 1, -(2**31) - 1, 2**31, 2**32 - 1, -(2**32), 2**64):
+                    words = "carrier %d is not one of size %d's: %d to %d" % (carrier, size, -half, half - 1)
+                    self.refused(7, "locate %d %d 1 1 %d" % (mode, size, carrier), words)
 
     def test_every_refusal_of_a_field(self):
         good = "2 1024 255 511 15 47".split()
         for at, bad in enumerate("7 2047 256 512 16 48".split()):
             self.refused(at + 1, "place " + " ".join(good[:at] + [bad] + good[at + 1 :]))
-        good = "1 2048 69 1535 2047".split()
-        for at, (bad, number) in enumerate([(7, 1), (1024, 2), (70, 3), (1536, 4), (2048, 7)]):
+        good = "1 2048 69 1535 1023".split()
+        for at, (bad, number) in enumerate([(7, 1), (1024, 2), (70, 3), (1536, 4), (1024, 7)]):
             self.refused(number, "locate " + " ".join(good[:at] + [str(bad)] + good[at + 1 :]))
 
     def test_numbers_of_any_size(self):
@@ -130,13 +144,36 @@ class Map(Case):
         for bad in ("-1", "4294967296", "18446744073709551616", huge, "-" + huge, "-0000001"):
             self.refused(1, "place %s %s 0 0 0 0" % (bad, bad))
             self.refused(6, "place 2 1024 17 0 0 %s" % bad)
+        for bad in ("-513", "4294967295", "-4294967296", "18446744073709551615", huge, "-" + huge, "-0000513"):
             self.refused(7, "locate 2 1024 17 0 %s" % bad)
-        self.prints("place 002 1024 17 -0 0 %s" % ("0" * 6000), "symbol 0 carrier 87\n")
+        self.prints("place 002 1024 17 -0 0 %s" % ("0" * 6000), "symbol 0 carrier -425\n")
+        self.prints("locate 2 1024 17 0 -%s425" % ("0" * 6000), "data slot 0 subchannel 0 index 0\n")
+        self.prints("locate 2 1024 17 0 -0", "DC\n")
 
     def test_the_first_refusal(self):
         self.refused(3, "place 2 1024 -1 -1 -1 -1")
         self.refused(2, "place 2 -1 -1 -1 -1 -1")
-        self.refused(4, "locate 2 1024 0 512 1024")
+        self.refused(4, "locate 2 1024 0 512 512")
+        self.refused(4, "locate 2 1024 0 -1 -513")
+
+    def test_a_sign_makes_no_option(self):
+        """A word that starts with - and a digit is a number, wherever it stands among options."""
+        at = "data slot 0 subchannel 0 index 0\n"
+        for line in ("locate 2 1024 17 0 -425", "locate 2 1024 17 0 -- -425", "locate -- 2 1024 17 0 -425"):
+            self.prints(line, at, cwd="/")
+        for line in ("locate 2 1024 17 0 -425 --help", "locate --help 2 1024 17 0 -425", "locate -h -1 -425"):
+            self.assertEqual(asked(*line.split()).stdout, asked("locate", "--help").stdout)
+        self.refused(1, "locate -1 -1 -1 -1 -1")
+        for words in ("--subchannel -1 0 2048 31 7", "0 --subchannel -1 2048 31 7", "0 2048 31 7 --subchannel=-1"):
+            self.refused(5, "show " + words)
+        self.refused(1, "show --subchannel -1 -1 -1 -1 -1")
+        for words in ("--output -1 --subchannel -1 -1 256 0 0", "-1 256 --output -1 0 0 --subchannel -1"):
+            self.refused(1, "picture slot " + words)
+        self.refused(4, "picture subchannel 0 2048 0 -1 -1 --output -1")
+        self.not_understood("locate", 2, 1024, 17, 0, -425, -1)
+        self.not_understood("locate", 2, 1024, 17, -425)
+        self.not_understood("locate", 2, 1024, 17, 0, "-425x")
+        self.not_understood("locate", 2, 1024, 17, 0, "-x425")
 
 
 class Words(Case):
@@ -148,7 +185,8 @@ class Words(Case):
         self.refused(3, "place 2 1024 256 0 0 0", "cell 256 is not one of mode 2's at size 1024: 0 to 255")
         self.refused(4, "locate 1 2048 0 1536 0", "symbol 1536 is not one of mode 1's: 0 to 1535")
         self.refused(6, "place 2 1024 0 0 0 -1", "index -1 is not one of a subchannel's: 0 to 47")
-        self.refused(7, "locate 3 256 0 0 256", "carrier 256 is not one of size 256's: 0 to 255")
+        self.refused(7, "locate 3 256 0 0 256", "carrier 256 is not one of size 256's: -128 to 127")
+        self.refused(7, "locate 3 256 0 0 -129", "carrier -129 is not one of size 256's: -128 to 127")
         self.refused(3, "collisions amc 0 2352", "cell_b 2352 is not one of AMC's: 0 to 2351")
         self.refused(5, "show 0 2048 0 0 --subchannel 60", "subchannel 60 is not one of mode 0's: 0 to 59")
         words = "subchannel 8 is not one of mode 3's at size 512: 0 to 7"
@@ -262,7 +300,7 @@ class Plans(Case):
 def shown(mode, size, cell, symbol, picked):
     """The carriers of a symbol as the reference has them, a character each."""
     signs = {ref.GUARD: "-", ref.DC: "D", ref.PILOT: "P", ref.DATA: "."}
-    whats = [ref.locate(mode, size, cell, symbol, carrier)[1] for carrier in range(size)]
+    whats = [ref.locate(mode, size, cell, symbol, carrier)[1] for carrier in ref.carriers(size)]
     return "".join("#" if what[0] == ref.DATA and what[2] == picked else signs[what[0]] for what in whats)
 
 
@@ -271,10 +309,10 @@ class Show(Case):
         self.prints(
             "show 2 256 0 0 --subchannel 1",
             "carrier +0         10        20        30        40        50        60\n"
-            "      0  --------------------.P#...#...P#...#...P#...#...P#...#...P#...#.\n"
-            "     64  ..P#...#...P#...#...P#...#...P#...#...P#...#...P#...#...P#...#..\n"
-            "    128  D.P#...#...P#...#...P#...#...P#...#...P#...#...P#...#...P#...#..\n"
-            "    192  .P#...#...P#...#...P#...#...P#...#...P#...#..-------------------\n"
+            "   -128  --------------------.P#...#...P#...#...P#...#...P#...#...P#...#.\n"
+            "    -64  ..P#...#...P#...#...P#...#...P#...#...P#...#...P#...#...P#...#..\n"
+            "      0  D.P#...#...P#...#...P#...#...P#...#...P#...#...P#...#...P#...#..\n"
+            "     64  .P#...#...P#...#...P#...#...P#...#...P#...#..-------------------\n"
             "- guard  D DC  P pilot  . data  # data of subchannel 1\n",
         )
 
@@ -286,7 +324,7 @@ class Show(Case):
                     pick = [] if picked is None else ["--subchannel", picked]
                     done = asked("show", mode, size, cell, symbol, *pick)
                     rows = done.stdout.decode().splitlines()[1:-1]
-                    self.assertEqual([int(row[:7]) for row in rows], list(range(0, size, 64)))
+                    self.assertEqual([int(row[:7]) for row in rows], list(range(-size // 2, size // 2, 64)))
                     self.assertEqual({row[7:9] for row in rows}, {"  "})
                     self.assertEqual("".join(row[9:] for row in rows), shown(mode, size, cell, symbol, picked))
 
@@ -321,13 +359,14 @@ def of_class(root, tag, name):
 
 def drawn_slot(root):
     """The class of each (symbol in the slot, carrier), and what one is told who points at it, from the outlines."""
-    found, told = {}, {}
-    for number, band in enumerate(of_class(root, "g", "band")):
+    found, told, bands = {}, {}, of_class(root, "g", "band")
+    for number, band in enumerate(bands):
+        first = BAND * number - BAND * len(bands) // 2
         for part in band.iter(SVG + "g"):
             for path in part.iter(SVG + "path") if part is not band else ():
                 x, y, width = map(int, re.fullmatch(r"M(\d+) (\d+)h(\d+)v20h-\3z", path.get("d")).groups())
                 for carrier in range(x // CARRIER, (x + width) // CARRIER):
-                    place = (y // SYMBOL, BAND * number + carrier)
+                    place = (y // SYMBOL, first + carrier)
                     assert place not in found
                     found[place], told[place] = part.get("class"), path.find(SVG + "title").text
     return found, told
@@ -337,7 +376,7 @@ def slot_as_drawn(mode, size, cell, slot, picked):
     """The same from the reference."""
     first, found = slot * ref.SLOT_LENGTH[mode], {}
     for offset in range(ref.SLOT_LENGTH[mode]):
-        for carrier in range(size):
+        for carrier in ref.carriers(size):
             what = ref.locate(mode, size, cell, first + offset, carrier)[1]
             data = "subchannel-%d" % what[2] if what[0] == ref.DATA and picked in (None, what[2]) else "other"
             found[offset, carrier] = data if what[0] == ref.DATA else what[0]
@@ -347,9 +386,9 @@ def slot_as_drawn(mode, size, cell, slot, picked):
 def is_told(title, symbol, carrier, what):
     """Whether a title says of this symbol and carrier what the reference has there."""
     where, content = title.split(": ")
-    carriers = re.fullmatch(r"symbol (\d+), carriers? (\d+)(?: to (\d+))?", where).groups()
+    carriers = re.fullmatch(r"symbol (\d+), carriers? (-?\d+)(?: to (-?\d+))?", where).groups()
     first, last = int(carriers[1]), int(carriers[2] or carriers[1])
-    wanted = "subchannel %d, index %d" % what[2:] if what[0] == ref.DATA else {ref.DC: "DC"}.get(what[0], what[0])
+    wanted = "subchannel %d, index %d" % what[2:] if what[0] == ref.DATA else NAMES.get(what[0], what[0])
     return int(carriers[0]) == symbol and first <= carrier <= last and content == wanted
 
 
@@ -362,14 +401,18 @@ def texts(node):
     return [part.text for part in node.iter(SVG + "text")]
 
 
-def carrier_axis(panel):
-    """The carriers that a panel has, from the numbers under it, which stand where these carriers are."""
-    ticks = [part for part in panel.iter(SVG + "text") if part.get("text-anchor") == "middle" and part.text.isdigit()]
+def carrier_axis(part):
+    """The carriers that a band or panel has and those that are numbered under it; the numbers, and the mark of DC over
+    it, stand where these carriers are."""
+    middles = [label for label in part.iter(SVG + "text") if label.get("text-anchor") == "middle"]
+    ticks = [label for label in middles if re.fullmatch("-?[0-9]+", label.text)]
     carriers = range(int(ticks[0].text), int(ticks[-1].text) + 1)
-    for tick in ticks:
-        drawn = float(tick.get("x")) * len(carriers) / 1280 - 0.5
-        assert round(drawn, 2) == int(tick.text) - carriers[0]
-    return carriers
+    marks = [label for label in middles if label.text == "DC"]
+    assert len(marks) == (0 in carriers)
+    for label in ticks + marks:
+        drawn = float(label.get("x")) * len(carriers) / 1280 - 0.5 + carriers[0]
+        assert round(drawn, 2) == (0 if label.text == "DC" else int(label.text))
+    return carriers, [int(tick.text) for tick in ticks]
 
 
 class Pictures(Case):
@@ -384,11 +427,15 @@ class Pictures(Case):
                 symbol = slot * ref.SLOT_LENGTH[mode] + offset
                 what = ref.locate(mode, size, cell, symbol, carrier)[1]
                 self.assertTrue(is_told(title, symbol, carrier, what), title)
-            self.assertEqual(len(of_class(root, "g", "band")), size // BAND)
+            bands = of_class(root, "g", "band")
+            firsts = range(-size // 2, size // 2, BAND)
+            self.assertEqual([carrier_axis(band)[0] for band in bands], [range(at, at + BAND) for at in firsts])
+            for band, first in zip(bands, firsts):
+                self.assertEqual(carrier_axis(band)[1], [*range(first, first + BAND, 16), first + BAND - 1])
             fills = {part.get("class"): part.get("fill") for part in root.iter(SVG + "g") if part.get("fill")}
             self.assertEqual(len(set(fills.values())), 3 + ref.subchannels(mode, size))
             words = texts(root)
-            for word in ("guard", "DC", "pilot", "carrier", "symbol", str(size - 1)):
+            for word in ("guard", "DC", "pilot", "carrier", "symbol"):
                 self.assertIn(word, words)
             self.assertEqual(texts(of_class(root, "g", "legend")[1])[1:], numbered(ref.subchannels(mode, size)))
             length = ref.SLOT_LENGTH[mode]
@@ -404,7 +451,8 @@ class Pictures(Case):
         root = drawing("slot", 2, 1024, 17, 0, "--subchannel", 3)
         found, told = drawn_slot(root)
         self.assertEqual(found, slot_as_drawn(2, 1024, 17, 0, 3))
-        self.assertEqual(told[0, 87], "symbol 0, carrier 87: subchannel 0, index 0")
+        self.assertEqual(told[0, -425], "symbol 0, carrier -425: subchannel 0, index 0")
+        self.assertEqual(told[0, -500], "symbol 0, carriers -512 to -433: guard")
         self.assertEqual(list(found.values()).count("subchannel-3"), 48)
         self.assertIn("data of subchannel 3", texts(root))
 
@@ -414,10 +462,10 @@ class Pictures(Case):
             root = drawing("slot", mode, 256, 176, 1, "--subchannel", 0)
             found, _ = drawn_slot(root)
             picked = [place for place, name in found.items() if name == "subchannel-0"]
-            pilots = [place for place, name in found.items() if name == "pilot" and place[1] < 20 + 9 * bins]
-            block = {(offset, carrier) for offset in range(symbols) for carrier in range(20, 20 + 9 * bins)}
+            pilots = [place for place, name in found.items() if name == "pilot" and place[1] < -108 + 9 * bins]
+            block = {(offset, carrier) for offset in range(symbols) for carrier in range(-108, -108 + 9 * bins)}
             self.assertEqual(sorted(picked + pilots), sorted(block))
-            places = {(offset, (carrier - 20) % 9) for offset, carrier in pilots}
+            places = {(offset, (carrier + 108) % 9) for offset, carrier in pilots}
             self.assertEqual(places, {(offset, 3 * ((symbols + offset) % 3) + 1) for offset in range(symbols)})
             title = "AMC %dx%d (mode %d), size 256, cell 176, slot 1, subchannel 0 picked out" % (bins, symbols, mode)
             self.assertEqual(root.find(SVG + "title").text, title)
@@ -425,7 +473,7 @@ class Pictures(Case):
     def test_subchannels(self):
         cases = [(0, 2048, [0, 1, 31], 3, 1), (1, 2048, [7], 0, 69), (2, 512, [9, 9], 4, 7), (3, 1024, [48, 176], 5, 2)]
         cases += [(4, 256, [0, 7], 511, 0), (5, 512, [2351, 48], 1, 15), (6, 256, [3], 0, 12)]
-        cases += [(6, 2048, [48, 176], 511, 191)]
+        cases += [(6, 2048, [48, 176], 511, 191), (4, 256, [0], 0, 5), (4, 256, [0], 0, 6)]  # the last two beside DC
         for mode, size, cells, slot, subchannel in cases:
             root = drawing("subchannel", mode, size, ",".join(map(str, cells)), slot, subchannel)
             panels = of_class(root, "g", "panel")
@@ -433,11 +481,13 @@ class Pictures(Case):
             points = [reference_places(mode, size, cell, slot, subchannel) for cell in cells]
             for at, (cell, panel, places) in enumerate(zip(cells, panels, points)):
                 marks = of_class(panel, "circle", "point")
-                carriers = carrier_axis(panel)
+                carriers, ticks = carrier_axis(panel)
                 self.assertEqual(len(carriers), {3: 64, 4: 32, 5: 32, 6: 16}.get(mode, size))
+                self.assertEqual(ticks, [*carriers[: -1 : len(carriers) // 16], carriers[-1]])
+                self.assertLessEqual({carrier for _, carrier in places}, set(carriers))
+                self.assertLessEqual(set(carriers), set(ref.carriers(size)))
                 drawn = [float(mark.get("cx")) * len(carriers) / 1280 - 0.5 + carriers[0] for mark in marks]
                 self.assertEqual([round(carrier) for carrier in drawn], [carrier for _, carrier in places])
-                self.assertEqual("DC" in texts(panel), size // 2 in carriers)
                 heights = [float(mark.get("cy")) for mark in marks]
                 self.assertEqual(heights, sorted(heights, reverse=True))
                 self.assertEqual(len({mark.get("fill") for mark in marks}), ref.SLOT_LENGTH[mode])
@@ -686,7 +736,7 @@ class Failures(Case):
         self.assertEqual(run("--help", env=env).returncode, 0)
 
     def test_from_anywhere(self):
-        self.prints("place 2 1024 17 0 0 0", "symbol 0 carrier 87\n", cwd="/")
+        self.prints("place 2 1024 17 0 0 0", "symbol 0 carrier -425\n", cwd="/")
         with tempfile.TemporaryDirectory() as directory:
             link = os.path.join(directory, "map")
             os.symlink(COMMAND, link)

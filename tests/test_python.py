@@ -25,7 +25,7 @@ ROOT = os.path.dirname(os.path.dirname(os.path.abspath(__file__)))
 sys.path.insert(0, os.path.join(ROOT, "python"))
 
 import bellpulsar as bp  # noqa: E402
-from bellpulsar import Kind, refusals  # noqa: E402
+from bellpulsar import Kind, library, refusals  # noqa: E402
 
 try:
     import numpy
@@ -37,6 +37,8 @@ MOST = 2**32 - 1
 HUGE = 10**40
 # Integers that no field takes.
 NEVER = [-1, -HUGE, MOST, 2**32, 2**64, HUGE]
+# Integers that are no carrier; cut to 32 bits most of them would be one.
+NEVER_CARRIERS = [-HUGE, -(2**64), -(2**32), -(2**31), 2**31 - 1, 2**31, MOST, 2**32, 2**64 - 1, HUGE]
 
 
 def as_engine(value):
@@ -110,41 +112,68 @@ class Map(unittest.TestCase):
             length = ref.SLOT_LENGTH[mode]
             for cell, slot in zip(some_cells(mode, size, 2), (0, 511, 1, 2, 300, 5)):
                 for symbol in range(slot * length, (slot + 1) * length):
-                    for carrier in range(size):
+                    for carrier in ref.carriers(size):
                         fields = (mode, size, cell, symbol, carrier)
                         self.assertEqual(bp.locate(*fields), as_located(ref.locate(*fields)[1]), fields)
 
     def test_known_points(self):
-        self.assertEqual(bp.place(2, 1024, 0, 0, 3, 5), (0, 553))
-        self.assertEqual(bp.place(2, 1024, 0, 1, 3, 5), (1, 552))
-        self.assertEqual(bp.place(0, 2048, 0, 0, 1, 35), bp.Place(symbol=1, carrier=1861))
-        self.assertEqual(bp.locate(0, 2048, 5, 1, 184), bp.Located(Kind.PILOT, None, None, None))
-        self.assertEqual(bp.locate(0, 2048, 5, 0, 183).kind, Kind.GUARD)
-        self.assertEqual(bp.locate(0, 2048, 5, 0, 1024).kind, Kind.DC)
-        self.assertEqual(bp.locate(1, 2048, 0, 1, 377), (Kind.DATA, 0, 1, 0))
+        self.assertEqual(bp.place(2, 1024, 0, 0, 3, 5), (0, 41))
+        self.assertEqual(bp.place(2, 1024, 0, 1, 3, 5), (1, 40))
+        self.assertEqual(bp.place(2, 1024, 17, 0, 0, 0), (0, -425))
+        self.assertEqual(bp.place(0, 2048, 0, 0, 1, 11), (0, 838))
+        self.assertEqual(bp.place(0, 2048, 0, 0, 1, 35), bp.Place(symbol=1, carrier=837))
+        self.assertEqual(bp.locate(0, 2048, 5, 0, -840).kind, Kind.DATA)
+        self.assertEqual(bp.locate(0, 2048, 5, 1, -840), bp.Located(Kind.PILOT, None, None, None))
+        self.assertEqual(bp.locate(0, 2048, 5, 0, -841).kind, Kind.GUARD)
+        self.assertEqual(bp.locate(0, 2048, 5, 0, 0).kind, Kind.DC)
+        self.assertEqual(bp.locate(1, 2048, 0, 1, -647), (Kind.DATA, 0, 1, 0))
+
+    def test_the_middle_and_the_ends_of_a_symbol(self):
+        """In every mode guards stand at both ends, DC in the middle, and none of either beside it."""
+        used = {Kind.PILOT, Kind.DATA}
+        for mode, size in SETUPS:
+            half, cell, symbol = size // 2, ref.cells(mode, size) - 1, 512 * ref.SLOT_LENGTH[mode] - 1
+            grid = array("f", range(ref.grid_floats(mode, size)))
+            row = (ref.SLOT_LENGTH[mode] - 1) * size
+            kinds = {-half: {Kind.GUARD}, -1: used, 0: {Kind.DC}, 1: used, half - 1: {Kind.GUARD}}
+            for carrier, among in kinds.items():
+                fields = (mode, size, cell, symbol, carrier)
+                located = bp.locate(*fields)
+                self.assertEqual(located, as_located(ref.locate(*fields)[1]), fields)
+                self.assertIn(located.kind, among, fields)
+                at = 2 * (row + half + carrier)
+                seen = (located.kind, (at, at + 1)) if among is used else (Kind.NOTHING, None)
+                self.assertEqual(bp.look(mode, size, cell, symbol, grid, carrier), (*seen, *located[1:]), fields)
+            for carrier in (-half - 1, half, *NEVER_CARRIERS):
+                fields = (mode, size, cell, symbol, carrier)
+                shown = "%d is" % carrier if abs(carrier) < HUGE else "of more than 20 digits is"
+                told = "carrier %s not one of size %d's: %d to %d" % (shown, size, -half, half - 1)
+                self.assertEqual((refusal(bp.locate, *fields), words(bp.locate, *fields)), (7, told))
+                fields = (*fields[:4], grid, carrier)
+                self.assertEqual((refusal(bp.look, *fields), words(bp.look, *fields)), (7, told))
 
     def test_slot_shapes_of_amc(self):
         """By hand: v is 0 at index 0 of cell 0, 27 at index 1 of cell 176, 37 at index 47 of cell 2351."""
         for mode in (bp.AMC, bp.AMC_2X3, bp.AMC_3X2, bp.AMC_1X6):
-            self.assertEqual(bp.place(mode, 256, 0, 0, 0, 0), (0, 20))
-        self.assertEqual(bp.place(bp.AMC, 256, 176, 1, 1, 1), (1, 104))
-        self.assertEqual(bp.place(bp.AMC_2X3, 256, 176, 1, 5, 1), (4, 122))
-        self.assertEqual(bp.place(bp.AMC_3X2, 256, 176, 1, 5, 1), (3, 160))
-        self.assertEqual(bp.place(bp.AMC_1X6, 256, 176, 1, 5, 1), (9, 69))
-        self.assertEqual(bp.place(bp.AMC_1X6, 2048, 2351, 511, 191, 47), (3070, 1886))
-        self.assertEqual(bp.locate(bp.AMC_1X6, 2048, 2351, 3070, 1886), (Kind.DATA, 511, 191, 47))
-        self.assertEqual(bp.locate(bp.AMC_1X6, 2048, 2351, 3071, 1887).kind, Kind.PILOT)
+            self.assertEqual(bp.place(mode, 256, 0, 0, 0, 0), (0, -108))
+        self.assertEqual(bp.place(bp.AMC, 256, 176, 1, 1, 1), (1, -24))
+        self.assertEqual(bp.place(bp.AMC_2X3, 256, 176, 1, 5, 1), (4, -6))
+        self.assertEqual(bp.place(bp.AMC_3X2, 256, 176, 1, 5, 1), (3, 32))
+        self.assertEqual(bp.place(bp.AMC_1X6, 256, 176, 1, 5, 1), (9, -59))
+        self.assertEqual(bp.place(bp.AMC_1X6, 2048, 2351, 511, 191, 47), (3070, 862))
+        self.assertEqual(bp.locate(bp.AMC_1X6, 2048, 2351, 3070, 862), (Kind.DATA, 511, 191, 47))
+        self.assertEqual(bp.locate(bp.AMC_1X6, 2048, 2351, 3071, 863).kind, Kind.PILOT)
 
     def test_the_last_of_each_shape_and_the_next(self):
         for mode, subchannels, symbols in ((3, 32, 1), (4, 96, 3), (5, 64, 2), (6, 192, 6)):
             found = {bp.place(mode, 2048, 2351, 511, subchannels - 1, index).symbol for index in range(48)}
             self.assertEqual(found, set(range(511 * symbols, 512 * symbols)))
             self.assertEqual(refusal(bp.place, mode, 2048, 2351, 511, subchannels, 0), 5)
-            self.assertEqual(bp.locate(mode, 2048, 2351, 512 * symbols - 1, 160)[:3], (Kind.DATA, 511, 0))
-            self.assertEqual(refusal(bp.locate, mode, 2048, 2351, 512 * symbols, 160), 4)
+            self.assertEqual(bp.locate(mode, 2048, 2351, 512 * symbols - 1, -864)[:3], (Kind.DATA, 511, 0))
+            self.assertEqual(refusal(bp.locate, mode, 2048, 2351, 512 * symbols, -864), 4)
 
     def test_answers_are_plain_numbers(self):
-        for value in (*bp.place(2, 1024, 17, 0, 0, 0), *bp.locate(2, 1024, 17, 0, 87)[1:]):
+        for value in (*bp.place(2, 1024, 17, 0, 0, 0), *bp.locate(2, 1024, 17, 0, -425)[1:]):
             self.assertIs(type(value), int)
 
 
@@ -213,10 +242,15 @@ def calls_of(mode, size):
     points, grid = 96 * subs, ref.grid_floats(mode, size)
     setup, past = (mode, size, cells - 1), (7, size + 1, cells)
     yield bp.place, ref.place_refusal, (*setup, 511, subs - 1, 47), (*past, 512, subs, 48)
-    yield bp.locate, ref.locate_refusal, (*setup, symbols - 1, size - 1), (*past, symbols, size)
+    yield bp.locate, ref.locate_refusal, (*setup, symbols - 1, size // 2 - 1), (*past, symbols, size // 2)
     yield fill_with, ref.buffers_refusal, (*setup, 511, points, grid), (*past, 512, points + 1, grid + 1)
     yield empty_with, ref.buffers_refusal, (*setup, 511, points, grid), (*past, 512, points - 1, grid - 1)
-    yield look_with, ref.look_refusal, (*setup, symbols - 1, grid, size - 1), (*past, symbols, grid + 2, size)
+    yield (
+        look_with,
+        ref.look_refusal,
+        (*setup, symbols - 1, grid, size // 2 - 1),
+        (*past, symbols, grid + 2, size // 2),
+    )
     if mode == ref.OFUSC:
         yield (
             bp.ofusc_collisions,
@@ -232,6 +266,18 @@ def amc_refusal(cell_a, cell_b):
 
 AMC_COLLISIONS = (bp.amc_collisions, amc_refusal, (2351, 2351), (2352, 2352))
 LENGTHS = {fill_with: (4, 5), empty_with: (4, 5), look_with: (4,)}
+CARRIERS = {bp.locate: 4, look_with: 5}
+
+
+def expected_of(expected, call, fields):
+    """The number, for the fields as they reach the engine; the reference takes a carrier of any size."""
+    carrier = CARRIERS.get(call)
+    return expected(*(value if at == carrier else as_engine(value) for at, value in enumerate(fields)))
+
+
+def below(call, good, at):
+    """A value below a field's range; `good` has the last of each."""
+    return -good[at] - 2 if at == CARRIERS.get(call) else -1
 
 
 def all_calls():
@@ -250,22 +296,23 @@ class Refusals(unittest.TestCase):
             for at in range(len(good)):
                 if at in LENGTHS.get(call, ()):
                     continue
-                for value in NEVER + [past[at]]:
+                never = NEVER_CARRIERS if at == CARRIERS.get(call) else NEVER
+                for value in [*never, below(call, good, at), past[at]]:
                     fields = good[:at] + (value,) + good[at + 1 :]
-                    number = expected(*map(as_engine, fields))
+                    number = expected_of(expected, call, fields)
                     self.assertNotEqual(number, 0)
                     self.assertEqual(refusal(call, *fields), number, (call, fields))
 
     def test_the_first_question_that_fails(self):
         for call, expected, good, past in all_calls():
-            for never in (-1, None):
+            for is_past in (False, True):
                 for bad in itertools.product((False, True), repeat=len(good)):
                     lengths = LENGTHS.get(call, ())
                     fields = [
-                        good[at] if not bad[at] else past[at] if never is None or at in lengths else never
+                        good[at] if not bad[at] else past[at] if is_past or at in lengths else below(call, good, at)
                         for at in range(len(good))
                     ]
-                    number = expected(*map(as_engine, fields))
+                    number = expected_of(expected, call, fields)
                     self.assertEqual(refusal(call, *fields), number, (call, fields))
 
     def test_a_bad_field_comes_before_a_bad_length(self):
@@ -275,8 +322,8 @@ class Refusals(unittest.TestCase):
         self.assertEqual(refusal(bp.fill, 2, 1024, 255, 512, (1, 0), wrong, wrong[:0]), 4)
         self.assertEqual(refusal(bp.fill, 2, 1024, 255, 511, (1, 0), wrong, wrong[:0]), 8)
         self.assertEqual(refusal(bp.fill, 2, 1024, 255, 511, (1, 0), floats(1536), wrong[:0]), 9)
-        self.assertEqual(refusal(bp.look, 2, 1024, 255, 0, wrong, 1024), 7)
-        self.assertEqual(refusal(bp.look, 2, 1024, 255, 0, wrong, 1023), 9)
+        self.assertEqual(refusal(bp.look, 2, 1024, 255, 0, wrong, 512), 7)
+        self.assertEqual(refusal(bp.look, 2, 1024, 255, 0, wrong, 511), 9)
 
     def test_what_is_no_integer(self):
         for value in (1.0, "1", None, b"1", 2 + 0j):
@@ -298,8 +345,8 @@ class Refusals(unittest.TestCase):
             def __index__(self):
                 return 2
 
-        self.assertEqual(bp.place(Index(), 1024, 17, False, False, False), (0, 87))
-        self.assertEqual(bp.place(True, 2048, False, False, True, False), (1, 377))
+        self.assertEqual(bp.place(Index(), 1024, 17, False, False, False), (0, -425))
+        self.assertEqual(bp.place(True, 2048, False, False, True, False), (1, -647))
 
     def test_number_question_and_text(self):
         with self.assertRaises(bp.Refusal) as caught:
@@ -329,6 +376,7 @@ class Refusals(unittest.TestCase):
                     continue
                 self.assertTrue(told.startswith("%s %d is not one of " % (name, past[at])), told)
                 accepted = {"mode": "0 to 6", "size": ", ".join(map(str, ref.sizes(mode)))}
+                accepted["carrier"] = "%d to %d" % (-good[at] - 1, good[at])
                 self.assertEqual(told.split(": ")[1], accepted.get(name, "0 to %d" % good[at]))
 
     def test_words_of_both_lengths(self):
@@ -418,7 +466,7 @@ class Refusals(unittest.TestCase):
             refusal(bp.place, 2, 1024, 0, 512, 0, 0),
             refusal(bp.place, 2, 1024, 0, 0, 16, 0),
             refusal(bp.place, 2, 1024, 0, 0, 0, 48),
-            refusal(bp.locate, 2, 1024, 0, 0, 1024),
+            refusal(bp.locate, 2, 1024, 0, 0, 512),
             refusal(bp.fill, 2, 1024, 0, 0, (0, 0), floats(0), floats(0)),
             refusal(bp.look, 2, 1024, 0, 0, floats(0), 0),
             read(""),
@@ -469,7 +517,7 @@ class Grids(unittest.TestCase):
             grid = array("f", [rng.randrange(-1000, 1000) / 8 for _ in range(ref.grid_floats(mode, size))])
             cell, length = ref.cells(mode, size) - 1, ref.SLOT_LENGTH[mode]
             for symbol in range(5 * length, 6 * length):
-                for carrier in range(size):
+                for carrier in ref.carriers(size):
                     what = ref.look(mode, size, cell, symbol, grid, carrier)[1]
                     wanted = (kinds[what[0]], *(tuple(part) if isinstance(part, list) else part for part in what[1:]))
                     seen = bp.look(mode, size, cell, symbol, grid, carrier)
@@ -477,7 +525,7 @@ class Grids(unittest.TestCase):
 
     def test_look_keeps_a_quiet_nan(self):
         patterns = array("I", [0xFFC12345, 0x7FC00007]) * 1024
-        point = bp.look(2, 1024, 17, 0, as_floats(patterns), 87).point
+        point = bp.look(2, 1024, 17, 0, as_floats(patterns), -425).point
         self.assertEqual(bits(array("f", point)), [0xFFC12345, 0x7FC00007])
 
     def test_pilot_as_numbers_or_as_a_buffer(self):
@@ -488,15 +536,15 @@ class Grids(unittest.TestCase):
         for pilot in pilots:
             grid = grid_for(2, 256)
             bp.fill(2, 256, 0, 0, pilot, points, grid)
-            self.assertEqual(bp.look(2, 256, 0, 0, grid, 21), (Kind.PILOT, (0.5, -2.0), None, None, None))
+            self.assertEqual(bp.look(2, 256, 0, 0, grid, -107), (Kind.PILOT, (0.5, -2.0), None, None, None))
 
     def test_pilot_may_stand_in_the_points_or_the_grid(self):
         points, grid = points_for(2, 256), grid_for(2, 256)
         bp.fill(2, 256, 0, 0, memoryview(points)[4:6], points, grid)
-        self.assertEqual(bp.look(2, 256, 0, 0, grid, 21).point, (4.0, 5.0))
+        self.assertEqual(bp.look(2, 256, 0, 0, grid, -107).point, (4.0, 5.0))
         grid = floats(512, 3.0)
         bp.fill(2, 256, 0, 0, memoryview(grid)[:2], points, grid)
-        self.assertEqual(bp.look(2, 256, 0, 0, grid, 21).point, (3.0, 3.0))
+        self.assertEqual(bp.look(2, 256, 0, 0, grid, -107).point, (3.0, 3.0))
         self.assertEqual(grid[0], 0.0)
 
 
@@ -854,11 +902,16 @@ def imported_with(library):
 
 class Loading(unittest.TestCase):
     def test_the_library_is_found_from_anywhere(self):
-        self.assertEqual(imported_with("").stdout, "Place(symbol=0, carrier=87)\n")
+        self.assertEqual(imported_with("").stdout, "Place(symbol=0, carrier=-425)\n")
 
     def test_another_library_by_the_environment(self):
         built = os.path.join(ROOT, "build", "libbellpulsar.so")
-        self.assertEqual(imported_with(built).stdout, "Place(symbol=0, carrier=87)\n")
+        self.assertEqual(imported_with(built).stdout, "Place(symbol=0, carrier=-425)\n")
+
+    def test_the_version_is_the_headers(self):
+        with open(os.path.join(ROOT, "include", "bellpulsar.h")) as file:
+            told = re.findall(r"^#define BP_VERSION (\d+)$", file.read(), re.MULTILINE)
+        self.assertEqual(told, [str(library.VERSION)])
 
     def test_no_library(self):
         done = imported_with("/none/libbellpulsar.so")
@@ -873,7 +926,7 @@ class Loading(unittest.TestCase):
             self.assertTrue(last.startswith("ImportError: %s is not a Bellpulsar library" % other), last)
 
     def test_the_command_line(self):
-        for words, status, text in (("2 1024 17 0 0 0", 0, "symbol 0 carrier 87\n"), ("2 1024 17 0 0 x", 2, "")):
+        for words, status, text in (("2 1024 17 0 0 0", 0, "symbol 0 carrier -425\n"), ("2 1024 17 0 0 x", 2, "")):
             command = [sys.executable, "-m", "bellpulsar", "place", *words.split()]
             env = dict(os.environ, PYTHONPATH=os.path.join(ROOT, "python"))
             done = subprocess.run(command, env=env, cwd="/", capture_output=True, text=True, timeout=60)

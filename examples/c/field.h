@@ -1,5 +1,4 @@
-/* A field's number from a word. One that 32 bits do not hold, a negative one too, is the largest that they do: it is
-   out of every range. A word that is no number ends the program; a blank or a plus is no part of one. */
+/* A number from a word. A word that is no number ends the program; a blank or a plus is no part of one. */
 #ifndef FIELD_H
 #define FIELD_H
 
@@ -8,15 +7,30 @@
 #include <stdio.h>
 #include <stdlib.h>
 
-static uint32_t field(const char *word)
+/* The nearest that 64 bits hold. */
+static inline long long number(const char *word)
 {
     char *end;
-    unsigned long long n = strtoull(word, &end, 10);
+    long long n = strtoll(word, &end, 10);
     if (end == word || *end != '\0' || isspace((unsigned char)word[0]) || word[0] == '+') {
         fprintf(stderr, "not a number: %s\n", word);
         exit(2);
     }
-    return n > UINT32_MAX || (word[0] == '-' && n != 0) ? UINT32_MAX : (uint32_t)n;
+    return n;
+}
+
+/* A field's. One that 32 bits do not hold, a negative one too, is the largest that they do: out of every range. */
+static inline uint32_t field(const char *word)
+{
+    long long n = number(word);
+    return n < 0 || n > UINT32_MAX ? UINT32_MAX : (uint32_t)n;
+}
+
+/* A carrier's, which is signed. One that 32 bits do not hold is the nearest that they do: no size has it. */
+static inline int32_t signed_field(const char *word)
+{
+    long long n = number(word);
+    return n < INT32_MIN ? INT32_MIN : n > INT32_MAX ? INT32_MAX : (int32_t)n;
 }
 
 #endif

@@ -15,13 +15,14 @@ int main(int argc, char **argv)
     for (int i = 0; i < 6; i++)
         f[i] = field(argv[i + 1]);
 
-    uint32_t symbol, carrier, kind, slot, subchannel, index;
+    uint32_t symbol, kind, slot, subchannel, index;
+    int32_t carrier;
     uint32_t refused = bp_place(f[0], f[1], f[2], f[3], f[4], f[5], &symbol, &carrier);
     if (refused == BP_ACCEPTED)
         refused = bp_locate(f[0], f[1], f[2], symbol, carrier, &kind, &slot, &subchannel, &index);
     if (refused != BP_ACCEPTED)
         return print_refusal(refused);
-    printf("symbol %u carrier %u\n", symbol, carrier);
+    printf("symbol %u carrier %d\n", symbol, carrier);
     if (kind == BP_DATA)
         printf("holds slot %u subchannel %u index %u\n", slot, subchannel, index);
     return output_status();

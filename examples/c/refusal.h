@@ -13,7 +13,7 @@ static const char *const questions[17] = {
     "Is the slot below 512, the zone's symbol below 512 times the slot length?",
     "Is the subchannel in range?",
     "Is the index below 48?",
-    "Is the carrier below the size?",
+    "Is the carrier from -size/2 to size/2 - 1?",
     "Are the points just 96 floats for each subchannel?",
     "Is the grid just 2 * size floats for each symbol of a slot?",
     "Do the bytes reach to the value's end or its third group?",

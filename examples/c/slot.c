@@ -26,7 +26,8 @@ int main(int argc, char **argv)
     for (size_t n = 0; n < points_len / 2; n++)
         points[2 * n] = (float)n, points[2 * n + 1] = -(float)n;
 
-    uint32_t symbol, carrier, kind, found, subchannel, index;
+    uint32_t symbol, kind, found, subchannel, index;
+    int32_t carrier;
     float point[2];
     uint32_t refused = bp_place(mode, size, cell, slot, 1, 0, &symbol, &carrier);
     if (refused == BP_ACCEPTED)
@@ -38,7 +39,7 @@ int main(int argc, char **argv)
     if (refused != BP_ACCEPTED)
         return print_refusal(refused);
     if (kind == BP_DATA)
-        printf("symbol %u carrier %u: point (%g, %g) of slot %u subchannel %u index %u\n", symbol, carrier, point[0], point[1],
+        printf("symbol %u carrier %d: point (%g, %g) of slot %u subchannel %u index %u\n", symbol, carrier, point[0], point[1],
                found, subchannel, index);
     printf("%zu points: %s\n", points_len / 2,
            memcmp(points, back, points_len * sizeof(float)) == 0 ? "all back" : "not all back");

@@ -20,10 +20,10 @@ mod c {
     unsafe extern "C" {
         pub fn bp_place(
             mode: u32, size: u32, cell: u32, slot: u32, subchannel: u32, index: u32,
-            symbol: *mut u32, carrier: *mut u32,
+            symbol: *mut u32, carrier: *mut i32,
         ) -> u32;
         pub fn bp_locate(
-            mode: u32, size: u32, cell: u32, symbol: u32, carrier: u32,
+            mode: u32, size: u32, cell: u32, symbol: u32, carrier: i32,
             kind: *mut u32, slot: *mut u32, subchannel: *mut u32, index: *mut u32,
         ) -> u32;
         pub fn bp_points_len(mode: u32, size: u32) -> usize;
@@ -37,7 +37,7 @@ mod c {
             grid: *const f32, grid_len: usize, points: *mut f32, points_len: usize,
         ) -> u32;
         pub fn bp_look(
-            mode: u32, size: u32, cell: u32, symbol: u32, grid: *const f32, grid_len: usize, carrier: u32,
+            mode: u32, size: u32, cell: u32, symbol: u32, grid: *const f32, grid_len: usize, carrier: i32,
             kind: *mut u32, point: *mut f32, slot: *mut u32, subchannel: *mut u32, index: *mut u32,
         ) -> u32;
         pub fn bp_ofusc_collisions(
@@ -68,7 +68,7 @@ impl Refusal {
             4 => "Is the slot below 512, the zone's symbol below 512 times the slot length?",
             5 => "Is the subchannel in range?",
             6 => "Is the index below 48?",
-            7 => "Is the carrier below the size?",
+            7 => "Is the carrier from -size/2 to size/2 - 1?",
             8 => "Are the points just 96 floats for each subchannel?",
             9 => "Is the grid just 2 * size floats for each symbol of a slot?",
             10 => "Do the bytes reach to the value's end or its third group?",
@@ -117,11 +117,11 @@ pub struct Address {
     pub index: u32,
 }
 
-/// Where a point lies: the zone's symbol and the carrier.
+/// Where a point lies: the zone's symbol and the carrier, which counts from DC, -size/2 to size/2 - 1.
 #[derive(Clone, Copy, Debug, Default, PartialEq, Eq)]
 pub struct Place {
     pub symbol: u32,
-    pub carrier: u32,
+    pub carrier: i32,
 }
 
 /// In-phase and quadrature.
@@ -270,7 +270,7 @@ pub fn empty(setup: Setup, slot: u32, grid: &[f32], points: &mut [f32]) -> Resul
 }
 
 /// The point on a carrier in a symbol of the zone, read from the grid of the symbol's slot, and whose it is.
-pub fn look(setup: Setup, symbol: u32, grid: &[f32], carrier: u32) -> Result<Seen, Refusal> {
+pub fn look(setup: Setup, symbol: u32, grid: &[f32], carrier: i32) -> Result<Seen, Refusal> {
     let Setup { mode, size, cell } = setup;
     let (mut kind, mut point, mut of) = (0, [0.0; 2], Address::default());
     // Safety: the grid comes with its own length, and the out parameters are distinct variables.

@@ -1,6 +1,7 @@
 //! One use of each call:
 //!
 //!     point MODE SIZE CELL SLOT SUBCHANNEL INDEX       where a point is placed, and what is found there
+//!     carrier MODE SIZE CELL SYMBOL CARRIER            what a carrier, counted from DC, holds in a symbol
 //!     collisions SIZE CELL SUBCHANNEL CELL SUBCHANNEL  where two cells collide in optional FUSC
 //!     collisions CELL CELL                             where two cells collide in AMC
 //!     slot MODE SIZE CELL SLOT                         fills a slot's grid, looks at the carrier of
@@ -12,10 +13,11 @@ mod bellpulsar;
 
 use bellpulsar::{Address, Collisions, Content, Place, Refusal, Seen, Setup};
 use std::io::Write;
-use std::num::IntErrorKind;
+use std::num::{IntErrorKind, ParseIntError};
 use std::process::exit;
 
 const USAGE: &str = "usage: point MODE SIZE CELL SLOT SUBCHANNEL INDEX
+       carrier MODE SIZE CELL SYMBOL CARRIER
        collisions SIZE CELL SUBCHANNEL CELL SUBCHANNEL, or collisions CELL CELL
        slot MODE SIZE CELL SLOT
        plan BYTE..";
@@ -34,19 +36,28 @@ fn no_number(word: &str) -> ! {
     misused(&format!("not a number: {word}"))
 }
 
-/// A field's number from a word. One that 32 bits do not hold, a negative one too, is the largest that they do: it is
-/// out of every range.
-fn field(word: &str) -> u32 {
+/// A number from a word: the nearest that 64 bits hold.
+fn number(word: &str) -> i64 {
     if word.starts_with('+') {
         no_number(word)
     }
-    match word.parse::<i128>() {
-        Ok(number) => number.try_into().unwrap_or(u32::MAX),
-        Err(error) => match error.kind() {
-            IntErrorKind::PosOverflow | IntErrorKind::NegOverflow => u32::MAX,
+    word.parse()
+        .unwrap_or_else(|error: ParseIntError| match error.kind() {
+            IntErrorKind::PosOverflow => i64::MAX,
+            IntErrorKind::NegOverflow => i64::MIN,
             _ => no_number(word),
-        },
-    }
+        })
+}
+
+/// A field's number. One that 32 bits do not hold, a negative one too, is the largest that they do: it is out of every
+/// range.
+fn field(word: &str) -> u32 {
+    number(word).try_into().unwrap_or(u32::MAX)
+}
+
+/// A carrier's number, which is signed. One that 32 bits do not hold is the nearest that they do: no size has it.
+fn signed_field(word: &str) -> i32 {
+    number(word).clamp(i32::MIN.into(), i32::MAX.into()) as i32
 }
 
 /// A byte from two hex digits.
@@ -68,6 +79,18 @@ fn point(setup: Setup, address: Address) -> Result<String, Refusal> {
         );
     }
     Ok(text)
+}
+
+fn carrier(setup: Setup, at: Place) -> Result<String, Refusal> {
+    Ok(match bellpulsar::locate(setup, at)? {
+        Content::Guard => "guard\n".to_string(),
+        Content::Dc => "DC\n".to_string(),
+        Content::Pilot => "pilot\n".to_string(),
+        Content::Data(of) => format!(
+            "data slot {} subchannel {} index {}\n",
+            of.slot, of.subchannel, of.index
+        ),
+    })
 }
 
 fn collisions(what: &str, found: Result<Collisions, Refusal>) -> Result<String, Refusal> {
@@ -126,6 +149,18 @@ fn plan(bytes: &[u8]) -> Result<String, Refusal> {
 fn run(name: &str, words: &[String]) -> Result<String, Refusal> {
     if name == "plan" {
         return plan(&words.iter().map(|word| byte(word)).collect::<Vec<u8>>());
+    }
+    if let ("carrier", [mode, size, cell, symbol, at]) = (name, words) {
+        let setup = Setup {
+            mode: field(mode),
+            size: field(size),
+            cell: field(cell),
+        };
+        let at = Place {
+            symbol: field(symbol),
+            carrier: signed_field(at),
+        };
+        return carrier(setup, at);
     }
     let fields: Vec<u32> = words.iter().map(|word| field(word)).collect();
     match (name, fields.as_slice()) {

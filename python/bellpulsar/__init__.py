@@ -4,8 +4,8 @@ A first example (`PYTHONPATH=python python3` at the repository's root, after ./b
 
     >>> import bellpulsar
     >>> bellpulsar.place(mode=2, size=1024, cell=17, slot=0, subchannel=0, index=0)
-    Place(symbol=0, carrier=87)
-    >>> bellpulsar.locate(mode=2, size=1024, cell=17, symbol=0, carrier=87)
+    Place(symbol=0, carrier=-425)
+    >>> bellpulsar.locate(mode=2, size=1024, cell=17, symbol=0, carrier=-425)
     Located(kind=<Kind.DATA: 'data'>, slot=0, subchannel=0, index=0)
     >>> bellpulsar.place(mode=2, size=1024, cell=256, slot=0, subchannel=0, index=0)
     Traceback (most recent call last):
@@ -18,7 +18,8 @@ A slot's points, laid on its grid and taken off again:
     >>> points = array("f", range(bellpulsar.points_len(2, 1024)))
     >>> grid = array("f", [0.0]) * bellpulsar.grid_len(2, 1024)
     >>> bellpulsar.fill(2, 1024, 17, 0, (1.0, 0.0), points, grid)
-    >>> grid[2 * 87 : 2 * 87 + 2]
+    >>> at = 2 * (1024 // 2 - 425)  # a row starts with the lowest carrier, -512
+    >>> grid[at : at + 2]
     array('f', [0.0, 1.0])
     >>> again = array("f", [0.0]) * len(points)
     >>> bellpulsar.empty(2, 1024, 17, 0, grid, again)
@@ -36,11 +37,13 @@ Modes and their ranges; N is size / 64:
     5 AMC_3X2 AMC 3x2       256, 512, 1024, 2048    0..2351     2 * N        2
     6 AMC_1X6 AMC 1x6       256, 512, 1024, 2048    0..2351     6 * N        6
 
-The cell is the permutation base. Slots are 0..511. A slot has 48 points a subchannel, with the indices 0..47. AMC has
-four slot shapes, bins x symbols; a bin is nine carriers in a row, of which one is a pilot.
+The cell is the permutation base. Slots are 0..511. A slot has 48 points a subchannel, with the indices 0..47. Carriers
+are -size/2..size/2-1, by rising frequency, with DC at 0. AMC has four slot shapes, bins x symbols; a bin is nine
+carriers in a row, of which one is a pilot.
 
 Numbers. Any integer may stand in any field. One that 32 bits do not hold, negative ones too, reaches the engine as
-2**32 - 1, which no question lets pass, so it is refused in its turn.
+2**32 - 1, which no question lets pass, so it is refused in its turn. A carrier is signed: one beyond 32 bits reaches
+the engine as -2**31 or 2**31 - 1.
 
 Refusals. A request that cannot be met raises Refusal, with the number of the first question of document 01 that is
 answered no; its text says what was asked, the value given and what would be accepted. Nothing is written then.
@@ -61,7 +64,7 @@ from typing import NamedTuple, Optional, Tuple
 
 from . import refusals
 from .buffers import BYTE, FLOAT, apart, lent, pilot_point
-from .library import Hits, Pair, Zones, engine, numbers, uint
+from .library import Hits, Pair, Zones, engine, int32, numbers, signed, uint
 from .refusals import QUESTIONS
 
 __all__ = [
@@ -134,7 +137,7 @@ class Kind(enum.Enum):
 
 
 class Place(NamedTuple):
-    """The zone's symbol and the carrier."""
+    """The zone's symbol and the carrier, which counts from DC."""
 
     symbol: int
     carrier: int
@@ -196,7 +199,7 @@ class Plan(NamedTuple):
 
 def place(mode, size, cell, slot, subchannel, index):
     """Where point `index` of a subchannel lies, as Place(symbol, carrier). Refusals 1, 2, 3, 4, 5, 6."""
-    symbol, carrier = uint(), uint()
+    symbol, carrier = uint(), int32()
     refused = engine.bp_place(*numbers(mode, size, cell, slot, subchannel, index), symbol, carrier)
     if refused:
         raise _refusal(refused, mode=mode, size=size, cell=cell, slot=slot, subchannel=subchannel, index=index)
@@ -212,7 +215,7 @@ def locate(mode, size, cell, symbol, carrier):
     kind is Kind.GUARD, Kind.DC, Kind.PILOT or Kind.DATA; the other three are None unless it is Kind.DATA.
     """
     kind, slot, subchannel, index = uint(), uint(), uint(), uint()
-    refused = engine.bp_locate(*numbers(mode, size, cell, symbol, carrier), kind, slot, subchannel, index)
+    refused = engine.bp_locate(*numbers(mode, size, cell, symbol), signed(carrier), kind, slot, subchannel, index)
     if refused:
         raise _refusal(refused, mode=mode, size=size, cell=cell, symbol=symbol, carrier=carrier)
     what = _KINDS[kind.value]
@@ -249,7 +252,8 @@ def fill(mode, size, cell, slot, pilot, points, grid):
 
     pilot: a complex number or two numbers (rounded to 32-bit floats), or a buffer of two floats.
     points: `points_len(mode, size)` floats, by subchannel and index, in-phase first.
-    grid: `grid_len(mode, size)` floats, symbol after symbol, each by rising carrier.
+    grid: `grid_len(mode, size)` floats, symbol after symbol, each by rising carrier: the point of `carrier` in the
+    symbol with this offset in the slot is at 2 * (offset * size + size // 2 + carrier).
     """
     fields = numbers(mode, size, cell, slot)
     pilot = pilot_point(pilot)
@@ -283,7 +287,7 @@ def look(mode, size, cell, symbol, grid, carrier):
     all of it. The point is a pair of Python floats, which hold every 32-bit float; only a signalling NaN comes out as
     a quiet one. Refusals 1, 2, 3, 4, 7, 9.
     """
-    *fields, last = numbers(mode, size, cell, symbol, carrier)
+    fields, last = numbers(mode, size, cell, symbol), signed(carrier)
     kind, point, slot, subchannel, index = uint(), Pair(), uint(), uint(), uint()
     with lent(grid, "grid", FLOAT) as memory:
         refused = engine.bp_look(*fields, memory.address, memory.length, last, kind, point, slot, subchannel, index)

@@ -4,6 +4,7 @@ import sys
 
 import bellpulsar
 from bellpulsar import Kind, picture
+from bellpulsar.refusals import carriers_of
 
 PLAN_LIMIT = 128  # bytes: no plan is that long, so what follows does not matter
 
@@ -94,9 +95,10 @@ def show(options):
     bellpulsar.locate(*setup, options.symbol, 0)
     if options.subchannel is not None:
         bellpulsar.place(*setup, 0, options.subchannel, 0)
-    symbol = [bellpulsar.locate(*setup, options.symbol, carrier) for carrier in range(options.size)]
+    carriers = carriers_of(options.size)
+    symbol = [bellpulsar.locate(*setup, options.symbol, carrier) for carrier in carriers]
     signs = "".join(sign(what, options.subchannel) for what in symbol)
-    rows = ["%7d  %s" % (first, signs[first : first + ROW]) for first in range(0, options.size, ROW)]
+    rows = ["%7d  %s" % (carriers[at], signs[at : at + ROW]) for at in range(0, options.size, ROW)]
     return lines(ruler(), *rows, legend(options.subchannel))
 
 

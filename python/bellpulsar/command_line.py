@@ -30,7 +30,8 @@ modes and their ranges (N is SIZE / 64):
   5  AMC 3x2          256 512 1024 2048     0..2351   0..2*N-1    2
   6  AMC 1x6          256 512 1024 2048     0..2351   0..6*N-1    6
 
-SIZE is the FFT size, CELL the permutation base. SLOT is 0..511, INDEX 0..47, CARRIER 0..SIZE-1.
+SIZE is the FFT size, CELL the permutation base. SLOT is 0..511, INDEX 0..47.
+CARRIER is -SIZE/2..SIZE/2-1, by rising frequency, with DC at 0.
 SYMBOL counts in the zone: slot times symbols a slot, plus the offset in the slot.
 AMC has four slot shapes, bins x symbols; a bin is nine carriers in a row, of which one is a pilot.
 Any number may be given: the engine refuses what is out of range."""
@@ -55,7 +56,7 @@ What is not understood, read, written or built is told on standard error; exit s
 
 examples:
   ./bellpulsar place 2 1024 17 0 0 0
-  ./bellpulsar locate 0 2048 5 1 184
+  ./bellpulsar locate 0 2048 5 1 -840
   ./bellpulsar collisions ofusc 2048 0 2 1010 0
   ./bellpulsar plan read 02 80 08 02 11 03 03 B0 01 01
   ./bellpulsar show 2 1024 17 0 --subchannel 3
@@ -75,7 +76,7 @@ FIELDS = {
     "subchannel": "the subchannel's number",
     "index": "the point's number in its subchannel and slot",
     "symbol": "the symbol's number in the zone",
-    "carrier": "the carrier's number, by rising frequency",
+    "carrier": "the carrier's number, counted from DC; below DC it is negative",
     "cell_a": "the first cell",
     "subchannel_a": "a subchannel of the first cell",
     "cell_b": "the second cell",
@@ -178,10 +179,10 @@ def branch(commands, name, summary):
 
 def add_map(commands):
     fields = ["mode", "size", "cell", "slot", "subchannel", "index"]
-    example = "  ./bellpulsar place 2 1024 17 0 0 0\n  symbol 0 carrier 87"
+    example = "  ./bellpulsar place 2 1024 17 0 0 0\n  symbol 0 carrier -425"
     command(commands, "place", "place", "the symbol and carrier of a point", example, fields)
     fields = ["mode", "size", "cell", "symbol", "carrier"]
-    example = "  ./bellpulsar locate 2 1024 17 0 87\n  data slot 0 subchannel 0 index 0"
+    example = "  ./bellpulsar locate 2 1024 17 0 -425\n  data slot 0 subchannel 0 index 0"
     example += "\n\nprints guard, DC, pilot, or data with its slot, subchannel and index"
     command(commands, "locate", "locate", "what belongs on a carrier in a symbol of the zone", example, fields)
 

@@ -9,8 +9,11 @@ import sys
 
 ROOT = os.path.dirname(os.path.dirname(os.path.dirname(os.path.abspath(__file__))))
 BUILDER = os.path.join(ROOT, "build.sh")
+VERSION = 2  # of the interface as it is called here: the header's BP_VERSION
+BUILT = os.path.join(ROOT, "build", "libbellpulsar.so.%d" % VERSION)
 
 uint = ctypes.c_uint32
+int32 = ctypes.c_int32
 Pair = ctypes.c_float * 2
 Hits = ctypes.c_uint8 * 48
 Zones = uint * 24
@@ -20,13 +23,13 @@ _address = ctypes.c_void_p
 _length = ctypes.c_size_t
 
 _PROTOTYPES = {
-    "bp_place": [uint] * 6 + [_out] * 2,
-    "bp_locate": [uint] * 5 + [_out] * 4,
+    "bp_place": [uint] * 6 + [_out, ctypes.POINTER(int32)],
+    "bp_locate": [uint] * 4 + [int32] + [_out] * 4,
     "bp_points_len": [uint] * 2,
     "bp_grid_len": [uint] * 2,
     "bp_fill": [uint] * 4 + [Pair, _address, _length, _address, _length],
     "bp_empty": [uint] * 4 + [_address, _length, _address, _length],
-    "bp_look": [uint] * 4 + [_address, _length, uint, _out, Pair] + [_out] * 3,
+    "bp_look": [uint] * 4 + [_address, _length, int32, _out, Pair] + [_out] * 3,
     "bp_ofusc_collisions": [uint] * 5 + [Hits, _out],
     "bp_amc_collisions": [uint] * 2 + [Hits, _out],
     "bp_plan_read": [_address, _length, _out, _out, Zones],
@@ -53,7 +56,7 @@ def _is_old():
 def _path(is_current):
     """Of the library: named by the environment, or this tree's own, which must not be older than its source."""
     named = os.environ.get("BELLPULSAR_LIBRARY")
-    path = named or os.path.join(ROOT, "build", "libbellpulsar.so")
+    path = named or BUILT
     if not os.path.exists(path):
         raise ImportError(
             "no Bellpulsar library at %s: run ./build.sh, or name the library in BELLPULSAR_LIBRARY" % path
@@ -101,3 +104,8 @@ def _number(value):
 
 def numbers(*values):
     return [_number(value) for value in values]
+
+
+def signed(value):
+    """A carrier as the engine takes it: what 32 bits do not hold becomes the nearest that they do, which is refused."""
+    return max(-(2**31), min(operator.index(value), 2**31 - 1))

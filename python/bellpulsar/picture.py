@@ -13,7 +13,7 @@ from typing import NamedTuple
 
 import bellpulsar
 from bellpulsar import Kind
-from bellpulsar.refusals import AMC_MODES, MODES
+from bellpulsar.refusals import AMC_MODES, MODES, carriers_of
 
 LEFT, RIGHT, TOP, BOTTOM = 76, 24, 64, 16  # margins
 WIDTH = 1280  # of a band or panel
@@ -92,7 +92,7 @@ def slot_symbols(mode, size, cell, slot):
 def slot_rows(mode, size, cell, slot):
     """What each carrier is, a row for each symbol of the slot."""
     return [
-        [bellpulsar.locate(mode, size, cell, symbol, carrier) for carrier in range(size)]
+        [bellpulsar.locate(mode, size, cell, symbol, carrier) for carrier in carriers_of(size)]
         for symbol in slot_symbols(mode, size, cell, slot)
     ]
 
@@ -222,13 +222,14 @@ def slot(mode, size, cell, slot, picked=None):
     if picked is not None:
         bellpulsar.place(mode, size, cell, slot, picked, 0)
     symbols, rows = slot_symbols(mode, size, cell, slot), slot_rows(mode, size, cell, slot)
+    carriers = carriers_of(size)
     total = 1 + max(what.subchannel for what in rows[0] if what.kind is Kind.DATA)
     style = styles(total, picked)
     height = SYMBOL * len(symbols) + GAP
     parts, y = [], TOP
-    for first in range(0, size, BAND):
-        part = [row[first : first + BAND] for row in rows]
-        parts.append(group(LEFT, y, band(first, part, symbols, picked, style), class_="band"))
+    for at in range(0, size, BAND):
+        part = [row[at : at + BAND] for row in rows]
+        parts.append(group(LEFT, y, band(carriers[at], part, symbols, picked, style), class_="band"))
         y += height
     parts.append(text(LEFT + WIDTH / 2, y - 10, "carrier", text_anchor="middle"))
     parts.append(group(LEFT, y + 12, legend_kinds(style, picked), class_="legend"))
@@ -267,7 +268,7 @@ def window(size, points):
     carriers = [place.carrier for places in points for place in places]
     lowest, highest = min(carriers), max(carriers)
     wide = next(wide for wide in (*CLOSE, size) if highest - lowest < wide)
-    first = min(max((lowest + highest + 1 - wide) // 2, 0), size - wide)
+    first = min(max((lowest + highest + 1 - wide) // 2, -size // 2), size // 2 - wide)
     return range(first, first + wide)
 
 
@@ -317,21 +318,21 @@ def circles(marks, carriers, first_symbol):
     return parts
 
 
-def panel_frame(size, carriers):
+def panel_frame(carriers):
     parts = [box(0, 0, WIDTH, PANEL, fill="#f7f7f7", stroke="#444444")]
     for index in INDEX_TICKS:
         y = "%g" % index_height(index)
         parts += [line(0, y, WIDTH, y, stroke="#dddddd"), line(-5, y, 0, y)]
         parts += [text(-8, index_height(index) + 4, index, text_anchor="end")]
-    has_dc, middle = size // 2 in carriers, carrier_middle(carriers, size // 2)
+    has_dc, middle = 0 in carriers, carrier_middle(carriers, 0)
     parts += [line(middle, 0, middle, PANEL, stroke_dasharray="5 4")] if has_dc else []
     parts += [upright(-48, PANEL // 2, "index")]
     parts += [text(middle, -6, "DC", text_anchor="middle", font_weight="bold")] if has_dc else []
     return parts + carrier_ticks(PANEL, carriers[0], carriers[-1], len(carriers) // 16, WIDTH / len(carriers))
 
 
-def panel(size, carriers, cell, marks, first_symbol):
-    parts = panel_frame(size, carriers) + [text(0, -6, "cell %d" % cell, font_weight="bold")]
+def panel(carriers, cell, marks, first_symbol):
+    parts = panel_frame(carriers) + [text(0, -6, "cell %d" % cell, font_weight="bold")]
     return parts + circles(marks, carriers, first_symbol)
 
 
@@ -357,7 +358,7 @@ def subchannel(mode, size, cells, slot, subchannel):
     symbols, carriers = sorted({place.symbol for place in points[0]}), window(size, points)
     parts, y = [], TOP + 6
     for cell, marks in zip(cells, marks_of(mode, cells, subchannel, points)):
-        parts.append(group(LEFT, y, panel(size, carriers, cell, marks, symbols[0]), class_="panel"))
+        parts.append(group(LEFT, y, panel(carriers, cell, marks, symbols[0]), class_="panel"))
         y += PANEL + BETWEEN
     ringed = "" if len(cells) == 1 else RINGED_AMC if mode in AMC_MODES else RINGED
     parts.append(text(LEFT + WIDTH / 2, y - 18, "carrier", text_anchor="middle"))

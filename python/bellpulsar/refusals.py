@@ -14,7 +14,7 @@ QUESTIONS = {
     4: "Is the slot below 512, the zone's symbol below 512 times the slot length?",
     5: "Is the subchannel in range?",
     6: "Is the index below 48?",
-    7: "Is the carrier below the size?",
+    7: "Is the carrier from -size/2 to size/2 - 1?",
     8: "Are the points just 96 floats for each subchannel?",
     9: "Is the grid just 2 * size floats for each symbol of a slot?",
     10: "Do the bytes reach to the value's end or its third group?",
@@ -62,6 +62,12 @@ MODES = (
 PLAN_MODES = (0, 2, *AMC_MODES)
 PLAN_COUNTS = range(1, 9)
 PLAN_SLOTS = range(1, SLOTS + 1)
+
+
+def carriers_of(size):
+    """Of a symbol, by rising frequency; DC is 0."""
+    return range(-(size // 2), size // 2)
+
 
 # --- words ------------------------------------------------------------------------------------
 
@@ -124,7 +130,8 @@ def index_words(field, asked):
 
 
 def carrier_words(field, asked):
-    return not_one_of(field, asked[field], "size %d's" % asked["size"], range(asked["size"]))
+    size = asked["size"]
+    return not_one_of(field, asked[field], "size %d's" % size, carriers_of(size))
 
 
 def length_words(field, asked):
