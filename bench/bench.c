@@ -15,12 +15,12 @@ enum { MOST_POINTS = 2 * 48 * 192, MOST_GRID = 2 * 6 * 2048 };
 
 // The calls of one side.
 struct side {
-    uint32_t (*place)(uint32_t, uint32_t, uint32_t, uint32_t, uint32_t, uint32_t, uint32_t *, uint32_t *);
-    uint32_t (*locate)(uint32_t, uint32_t, uint32_t, uint32_t, uint32_t, uint32_t *, uint32_t *, uint32_t *,
+    uint32_t (*place)(uint32_t, uint32_t, uint32_t, uint32_t, uint32_t, uint32_t, uint32_t *, int32_t *);
+    uint32_t (*locate)(uint32_t, uint32_t, uint32_t, uint32_t, int32_t, uint32_t *, uint32_t *, uint32_t *,
                        uint32_t *);
     uint32_t (*fill)(uint32_t, uint32_t, uint32_t, uint32_t, const float *, const float *, size_t, float *, size_t);
     uint32_t (*empty)(uint32_t, uint32_t, uint32_t, uint32_t, const float *, size_t, float *, size_t);
-    uint32_t (*look)(uint32_t, uint32_t, uint32_t, uint32_t, const float *, size_t, uint32_t, uint32_t *, float *,
+    uint32_t (*look)(uint32_t, uint32_t, uint32_t, uint32_t, const float *, size_t, int32_t, uint32_t *, float *,
                      uint32_t *, uint32_t *, uint32_t *);
     uint32_t (*ofusc_collisions)(uint32_t, uint32_t, uint32_t, uint32_t, uint32_t, uint8_t *, uint32_t *);
     uint32_t (*amc_collisions)(uint32_t, uint32_t, uint8_t *, uint32_t *);
@@ -37,7 +37,8 @@ static const struct side plain = {
 
 // All that a call may write.
 struct outcome {
-    uint32_t symbol, carrier, kind, slot, subchannel, index, count, size, written, zones[24];
+    uint32_t symbol, kind, slot, subchannel, index, count, size, written, zones[24];
+    int32_t carrier;
     uint8_t hits[48], bytes[PLAN_ROOM];
     float point[2], points[MOST_POINTS], grid[MOST_GRID];
 };

@@ -13,15 +13,15 @@
 void plain_tables(void);
 
 uint32_t plain_place(uint32_t mode, uint32_t size, uint32_t cell, uint32_t slot, uint32_t subchannel, uint32_t index,
-                     uint32_t *symbol, uint32_t *carrier);
-uint32_t plain_locate(uint32_t mode, uint32_t size, uint32_t cell, uint32_t symbol, uint32_t carrier, uint32_t *kind,
+                     uint32_t *symbol, int32_t *carrier);
+uint32_t plain_locate(uint32_t mode, uint32_t size, uint32_t cell, uint32_t symbol, int32_t carrier, uint32_t *kind,
                       uint32_t *slot, uint32_t *subchannel, uint32_t *index);
 uint32_t plain_fill(uint32_t mode, uint32_t size, uint32_t cell, uint32_t slot, const float pilot[2],
                     const float *points, size_t points_len, float *grid, size_t grid_len);
 uint32_t plain_empty(uint32_t mode, uint32_t size, uint32_t cell, uint32_t slot, const float *grid, size_t grid_len,
                      float *points, size_t points_len);
 uint32_t plain_look(uint32_t mode, uint32_t size, uint32_t cell, uint32_t symbol, const float *grid, size_t grid_len,
-                    uint32_t carrier, uint32_t *kind, float point[2], uint32_t *slot, uint32_t *subchannel,
+                    int32_t carrier, uint32_t *kind, float point[2], uint32_t *slot, uint32_t *subchannel,
                     uint32_t *index);
 uint32_t plain_ofusc_collisions(uint32_t size, uint32_t cell_a, uint32_t subchannel_a, uint32_t cell_b,
                                 uint32_t subchannel_b, uint8_t hits[48], uint32_t *count);

@@ -58,8 +58,11 @@ void plain_tables(void) {
 static inline uint32_t left_guards(uint32_t mode, uint32_t size) { return mode < OFUSC ? 184 : 5 * (size / 64); }
 static inline uint32_t used_numbers(uint32_t mode, uint32_t size) { return mode < OFUSC ? 1680 : 54 * (size / 64); }
 
-// The carrier of a used number: past the left guards, and past DC in the upper half.
-static inline uint32_t carrier_of(uint32_t mode, uint32_t size, uint32_t used) {
+// The column of DC in its symbol's row of a grid. A carrier is its column less that.
+static inline int32_t dc_column(uint32_t size) { return (int32_t)(size / 2); }
+
+// The column of a used number: past the left guards, and past DC in the upper half.
+static inline uint32_t column_of(uint32_t mode, uint32_t size, uint32_t used) {
     return left_guards(mode, size) + used + (used >= used_numbers(mode, size) / 2);
 }
 
@@ -149,22 +152,23 @@ static inline uint32_t used_amc(uint32_t mode, uint32_t cell, uint32_t slot, uin
     return used_of_data(symbol, data);
 }
 
+// The column of a point, and its row by pointer.
 static inline uint32_t place(uint32_t mode, uint32_t size, uint32_t cell, uint32_t slot, uint32_t s, uint32_t m,
                              uint32_t *row) {
-    if (mode == PUSC_DL) return carrier_of(mode, size, used_pusc_dl(cell, s, m, row));
-    if (mode == PUSC_UL) return carrier_of(mode, size, used_pusc_ul(cell, s, m, row));
-    if (mode == OFUSC) return carrier_of(mode, size, used_ofusc(size / 64, cell, slot, s, m, row));
-    return carrier_of(mode, size, used_amc(mode, cell, slot, s, m, row));
+    if (mode == PUSC_DL) return column_of(mode, size, used_pusc_dl(cell, s, m, row));
+    if (mode == PUSC_UL) return column_of(mode, size, used_pusc_ul(cell, s, m, row));
+    if (mode == OFUSC) return column_of(mode, size, used_ofusc(size / 64, cell, slot, s, m, row));
+    return column_of(mode, size, used_amc(mode, cell, slot, s, m, row));
 }
 
 uint32_t plain_place(uint32_t mode, uint32_t size, uint32_t cell, uint32_t slot, uint32_t subchannel, uint32_t index,
-                     uint32_t *symbol, uint32_t *carrier) {
+                     uint32_t *symbol, int32_t *carrier) {
     uint32_t row, refusal = setup_refusal(mode, size, cell);
     if (refusal) return refusal;
     if (slot >= SLOTS) return 4;
     if (subchannel >= subchannels(mode, size)) return 5;
     if (index >= INDICES) return 6;
-    *carrier = place(mode, size, cell, slot, subchannel, index, &row);
+    *carrier = (int32_t)place(mode, size, cell, slot, subchannel, index, &row) - dc_column(size);
     *symbol = slot * symbols(mode) + row;
     return 0;
 }
@@ -233,16 +237,17 @@ static inline uint32_t address(uint32_t mode, uint32_t size, uint32_t cell, uint
     return address_amc(mode, cell, symbol, data, slot, index);
 }
 
-uint32_t plain_locate(uint32_t mode, uint32_t size, uint32_t cell, uint32_t symbol, uint32_t carrier, uint32_t *kind,
+uint32_t plain_locate(uint32_t mode, uint32_t size, uint32_t cell, uint32_t symbol, int32_t carrier, uint32_t *kind,
                       uint32_t *slot, uint32_t *subchannel, uint32_t *index) {
     uint32_t refusal = setup_refusal(mode, size, cell);
     if (refusal) return refusal;
     if (symbol >= SLOTS * symbols(mode)) return 4;
-    if (carrier >= size) return 7;
-    uint32_t left = left_guards(mode, size), used = carrier - left - (carrier > size / 2);
-    if (carrier < left || carrier > left + used_numbers(mode, size)) {
+    if (carrier < -dc_column(size) || carrier >= dc_column(size)) return 7;
+    uint32_t column = (uint32_t)(dc_column(size) + carrier);
+    uint32_t left = left_guards(mode, size), used = column - left - (carrier > 0);
+    if (column < left || column > left + used_numbers(mode, size)) {
         *kind = GUARD;
-    } else if (carrier == size / 2) {
+    } else if (carrier == 0) {
         *kind = DC;
     } else if (is_pilot(mode, symbol, used)) {
         *kind = PILOT;
@@ -276,11 +281,11 @@ uint32_t plain_fill(uint32_t mode, uint32_t size, uint32_t cell, uint32_t slot, 
     for (row = 0; row < symbols(mode); row++)
         for (uint32_t used = 0; used < used_numbers(mode, size); used++)
             if (is_pilot(mode, slot * symbols(mode) + row, used))
-                copy_point(grid + 2 * (row * size + carrier_of(mode, size, used)), pilot);
+                copy_point(grid + 2 * (row * size + column_of(mode, size, used)), pilot);
     for (uint32_t s = 0; s < subchannels(mode, size); s++)
         for (uint32_t m = 0; m < INDICES; m++) {
-            uint32_t carrier = place(mode, size, cell, slot, s, m, &row);
-            copy_point(grid + 2 * (row * size + carrier), points + 2 * (INDICES * s + m));
+            uint32_t column = place(mode, size, cell, slot, s, m, &row);
+            copy_point(grid + 2 * (row * size + column), points + 2 * (INDICES * s + m));
         }
     return 0;
 }
@@ -291,21 +296,22 @@ uint32_t plain_empty(uint32_t mode, uint32_t size, uint32_t cell, uint32_t slot,
     if (refusal) return refusal;
     for (uint32_t s = 0; s < subchannels(mode, size); s++)
         for (uint32_t m = 0; m < INDICES; m++) {
-            uint32_t carrier = place(mode, size, cell, slot, s, m, &row);
-            copy_point(points + 2 * (INDICES * s + m), grid + 2 * (row * size + carrier));
+            uint32_t column = place(mode, size, cell, slot, s, m, &row);
+            copy_point(points + 2 * (INDICES * s + m), grid + 2 * (row * size + column));
         }
     return 0;
 }
 
 uint32_t plain_look(uint32_t mode, uint32_t size, uint32_t cell, uint32_t symbol, const float *grid, size_t grid_len,
-                    uint32_t carrier, uint32_t *kind, float point[2], uint32_t *slot, uint32_t *subchannel,
+                    int32_t carrier, uint32_t *kind, float point[2], uint32_t *slot, uint32_t *subchannel,
                     uint32_t *index) {
     uint32_t what, at_slot, at_subchannel, at_index;
     uint32_t refusal = plain_locate(mode, size, cell, symbol, carrier, &what, &at_slot, &at_subchannel, &at_index);
     if (refusal) return refusal;
     if (grid_len != grid_floats(mode, size)) return 9;
     *kind = what == DC ? GUARD : what;
-    if (what == PILOT || what == DATA) copy_point(point, grid + 2 * (symbol % symbols(mode) * size + carrier));
+    uint32_t column = (uint32_t)(dc_column(size) + carrier);
+    if (what == PILOT || what == DATA) copy_point(point, grid + 2 * (symbol % symbols(mode) * size + column));
     if (what == DATA) *slot = at_slot, *subchannel = at_subchannel, *index = at_index;
     return 0;
 }

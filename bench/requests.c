@@ -16,7 +16,8 @@ static uint32_t below(uint32_t n) {
 static void disturb(uint32_t *field, uint32_t limit, uint32_t odds) {
     static const uint32_t limits[] = {0,    2,    4,    6,    8,    16,   24,   32,    48,    60,    64,
                                       70,   96,   128,  192,  256,  384,  512,  1024,  1152,  1536,  2048,
-                                      2304, 2352, 3072, 4096, 6144, 8192, 9216, 12288, 18432, 24576, UINT32_MAX - 1};
+                                      2304, 2352, 3072, 4096, 6144, 8192, 9216, 12288, 18432, 24576, INT32_MAX,
+                                      UINT32_MAX - 1};
     uint32_t other = limits[below(sizeof limits / sizeof limits[0])];
     if (below(odds) == 0) *field = (below(2) ? limit : other) + below(3) - 1;
 }
@@ -31,7 +32,7 @@ static struct request accepted_request(uint32_t mode, uint32_t size) {
         .subchannel = below(subchannel_count),
         .index = below(INDICES),
         .symbol = below(SLOTS * symbols(mode)),
-        .carrier = below(size),
+        .carrier = (int32_t)below(size) - (int32_t)(size / 2),
         .cell_b = below(cell_count),
         .subchannel_b = below(subchannel_count),
         .points_len = 2 * INDICES * subchannel_count,
@@ -51,13 +52,14 @@ static void disturb_request(struct request *q) {
         {&q->subchannel, subchannel_count},
         {&q->index, INDICES},
         {&q->symbol, SLOTS * symbols(q->mode)},
-        {&q->carrier, q->size},
+        {(uint32_t *)&q->carrier, q->size / 2},
         {&q->cell_b, cell_count},
         {&q->subchannel_b, subchannel_count},
         {&q->points_len, q->points_len},
         {&q->grid_len, q->grid_len},
     };
     for (uint32_t i = 0; i < sizeof fields / sizeof fields[0]; i++) disturb(fields[i].field, fields[i].limit, 6);
+    if (below(2)) q->carrier = ~q->carrier; // the range is its own mirror image, and so are the numbers past it
 }
 
 void draw_requests(uint32_t mode, uint32_t size) {

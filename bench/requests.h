@@ -10,7 +10,8 @@ enum { REQUESTS = 512, PLANS = 128, STRAYS = 512, PLAN_ROOM = 48 };
 
 // All fields that a call of the map may have; the second cell and subchannel are those of the collision calls.
 struct request {
-    uint32_t mode, size, cell, slot, subchannel, index, symbol, carrier, cell_b, subchannel_b, points_len, grid_len;
+    uint32_t mode, size, cell, slot, subchannel, index, symbol, cell_b, subchannel_b, points_len, grid_len;
+    int32_t carrier;
 };
 
 // A plan as its fields and as its bytes, and the room for writing it.

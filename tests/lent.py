@@ -14,17 +14,17 @@ import subprocess
 ROOT = os.path.dirname(os.path.dirname(os.path.abspath(__file__)))
 LIBRARY = os.path.join(ROOT, "build", "libbellpulsar.so")
 
-FIELD, LENGTH, POINTER = ctypes.c_uint32, ctypes.c_size_t, ctypes.c_void_p
+FIELD, CARRIER, LENGTH, POINTER = ctypes.c_uint32, ctypes.c_int32, ctypes.c_size_t, ctypes.c_void_p
 
-# The arguments of each call: f a field, p a pointer, n a length.
+# The arguments of each call: f a field, c a carrier, which has a sign, p a pointer, n a length.
 SIGNATURES = {
     "bp_place": "ffffffpp",
-    "bp_locate": "fffffpppp",
+    "bp_locate": "ffffcpppp",
     "bp_points_len": "ff",
     "bp_grid_len": "ff",
     "bp_fill": "ffffppnpn",
     "bp_empty": "ffffpnpn",
-    "bp_look": "ffffpnfppppp",
+    "bp_look": "ffffpncppppp",
     "bp_ofusc_collisions": "fffffpp",
     "bp_amc_collisions": "ffpp",
     "bp_plan_read": "pnppp",
@@ -38,7 +38,7 @@ def load():
     library = ctypes.CDLL(LIBRARY)
     for name, signature in SIGNATURES.items():
         call = getattr(library, name)
-        call.argtypes = [{"f": FIELD, "p": POINTER, "n": LENGTH}[kind] for kind in signature]
+        call.argtypes = [{"f": FIELD, "c": CARRIER, "p": POINTER, "n": LENGTH}[kind] for kind in signature]
         call.restype = LENGTH if name.endswith("_len") else FIELD
     return library
 
@@ -79,6 +79,10 @@ class Noise:
 def words(numbers):
     """Numbers as 32-bit words in memory."""
     return struct.pack("%dI" % len(numbers), *numbers)
+
+
+def signed_word(number):
+    return struct.pack("i", number)
 
 
 # --- memory -----------------------------------------------------------------------------------

@@ -3,8 +3,8 @@
     python3 tests/random_requests.py [SEED]
 
 Ten thousand requests a call. Every answer, every byte that is written and every byte that is not is compared (lent.py).
-Fails where one differs, and also where a refusal, a kind of carrier, a mode and size that a call has, or a mode after
-another that a plan may have, never occurred.
+Fails where one differs, and also where a refusal, a kind of carrier, a mode and size that a call has (with carriers on
+both sides of DC, within the range and past it), or a mode after another that a plan may have, never occurred.
 """
 
 import random
@@ -16,7 +16,7 @@ from operator import itemgetter
 
 import lent
 import reference as ref
-from lent import Arena, words
+from lent import Arena, signed_word, words
 
 SEED = 802
 REQUESTS = 10000
@@ -25,6 +25,7 @@ SETUPS = [(mode, size) for mode in ref.MODES for size in ref.sizes(mode)]
 ORDERS = [(a, b) for a in ref.PLAN_MODES for b in ref.PLAN_MODES if a not in ref.SHAPES or b in ref.SHAPES]
 KINDS = {ref.GUARD: 0, ref.DC: 1, ref.PILOT: 2, ref.DATA: 3}
 LARGEST = 2**32 - 1
+LEAST_CARRIER, GREATEST_CARRIER = -(2**31), 2**31 - 1
 POINTS_ROOM, GRID_ROOM = 2 * 96 * 192, 2 * 2 * 6 * 2048  # floats, twice the largest
 
 
@@ -63,11 +64,24 @@ def setup_limits(mode, size):
 
 
 def some_carrier(dice, mode, size):
-    """A carrier of the symbol; the edges of the band and DC more often."""
-    left, used = ref.left_guards(mode, size), ref.used_numbers(mode, size)
-    dc, end = ref.dc(size), left + used + 1
-    edges = [0, left - 1, left, dc - 1, dc, dc, dc + 1, end - 1, end, size - 1]
-    return dice.choice(edges + [dice.randrange(size)] * 30)
+    """A carrier of the symbol; the ends of the symbol and of the band, and DC, more often."""
+    low, high = ref.band(mode, size)
+    edges = [-size // 2, low - 1, low, -1, 0, 0, 1, high, high + 1, size // 2 - 1]
+    return dice.choice(edges + [dice.choice(ref.carriers(size))] * 30)
+
+
+def other_carrier(dice, good, size):
+    """A carrier that is out of range, or at times within it: close by, cut to a good one, or any, on either side."""
+    end = size // 2
+    near = [-end - 2, -end - 1, -end, end - 1, end, end + 1, -size, size - 1, LEAST_CARRIER, GREATEST_CARRIER]
+    cut = [good - 2**8, good + 2**8, good - 2**16, good + 2**16, good + 2**31 if good < 0 else good - 2**31]
+    far = [dice.randrange(LEAST_CARRIER, -end), dice.randrange(end, 2**31), dice.randrange(LEAST_CARRIER, 2**31)]
+    return dice.choice(near + cut + far)
+
+
+def side(carrier):
+    """On which side of DC a carrier is."""
+    return (carrier > 0) - (carrier < 0)
 
 
 def some_length(dice, right, other, room, last):
@@ -86,34 +100,43 @@ def pointer(dice, address, length):
 # --- the calls --------------------------------------------------------------------------------
 
 # A request is a call's arguments, what the arena is given before, the refusal, what is written to the arena, and the
-# cases that are met where it is accepted. `refusals` and `cases` of a call are those that must have occurred in the end.
+# cases that are met. `refusals` and `cases` of a call are those that must have occurred in the end.
+
+# Cases of a call that has a carrier: mode, size, the refusal and the carrier's side of DC.
+CARRIERS = [(*setup, *case) for setup in SETUPS for case in ((0, -1), (0, 0), (0, 1), (7, -1), (7, 1))]
 
 
 class Place:
     name, arena = "bp_place", Arena(4, 4)
-    refusals, cases = [1, 2, 3, 4, 5, 6], SETUPS
+    refusals, cases = [1, 2, 3, 4, 5, 6], [(*setup, side) for setup in SETUPS for side in (-1, 1)]
 
     def request(self, dice, noise, mode, size, cell, slot):
         limits = setup_limits(mode, size) + [ref.SLOTS, ref.subchannels(mode, size), ref.POINTS]
         good = [mode, size] + [within(dice, limit) for limit in limits[2:]]
         fields = spoiled(dice, good, limits, {1: other_size})
         number, symbol, carrier = ref.place(*fields)
-        written = [] if number else [(0, words([symbol])), (1, words([carrier]))]
-        return fields + list(map(self.arena.address, (0, 1))), [], number, written, [tuple(fields[:2])]
+        written = [] if number else [(0, words([symbol])), (1, signed_word(carrier))]
+        met = [] if number else [(*fields[:2], side(carrier))]
+        return fields + list(map(self.arena.address, (0, 1))), [], number, written, met
+
+
+def symbol_fields(dice, mode, size, cell, slot):
+    """The fields of locate and look, the carrier last."""
+    length = ref.SLOT_LENGTH[mode]
+    limits = setup_limits(mode, size) + [ref.SLOTS * length, size]
+    good = [mode, size, cell, slot * length + dice.randrange(length), some_carrier(dice, mode, size)]
+    return spoiled(dice, good, limits, {1: other_size, 4: other_carrier})
 
 
 class Locate:
     name, arena = "bp_locate", Arena(4, 4, 4, 4)
-    refusals, cases = [1, 2, 3, 4, 7], SETUPS + [ref.GUARD, ref.DC, ref.PILOT, ref.DATA]
+    refusals, cases = [1, 2, 3, 4, 7], CARRIERS + [ref.GUARD, ref.DC, ref.PILOT, ref.DATA]
 
     def request(self, dice, noise, mode, size, cell, slot):
-        length = ref.SLOT_LENGTH[mode]
-        limits = setup_limits(mode, size) + [ref.SLOTS * length, size]
-        good = [mode, size, cell, slot * length + dice.randrange(length), some_carrier(dice, mode, size)]
-        fields = spoiled(dice, good, limits, {1: other_size})
+        fields = symbol_fields(dice, mode, size, cell, slot)
         number, what = ref.locate(*fields)
         written = [] if number else [(i, words([x])) for i, x in enumerate((KINDS[what[0]],) + what[1:])]
-        met = [] if number else [tuple(fields[:2]), what[0]]
+        met = [(*fields[:2], number, side(fields[4]))] + ([] if number else [what[0]])
         return fields + list(map(self.arena.address, range(4))), [], number, written, met
 
 
@@ -193,27 +216,25 @@ class Empty:
 
 class Look:
     name, arena = "bp_look", Arena(4, 8, 4, 4, 4, 4 * GRID_ROOM)
-    refusals, cases = [1, 2, 3, 4, 7, 9], SETUPS + ["nothing", ref.PILOT, ref.DATA]
+    refusals, cases = [1, 2, 3, 4, 7, 9], CARRIERS + ["nothing", ref.PILOT, ref.DATA]
 
     def request(self, dice, noise, mode, size, cell, slot):
-        length, floats = ref.SLOT_LENGTH[mode], ref.grid_floats(mode, size)
-        limits = setup_limits(mode, size) + [ref.SLOTS * length, size]
-        good = [mode, size, cell, slot * length + dice.randrange(length), some_carrier(dice, mode, size)]
-        fields = spoiled(dice, good, limits, {1: other_size})
-        symbol, carrier = fields[3:]
-        grid_len = some_length(dice, floats, 96 * ref.subchannels(mode, size), GRID_ROOM, True)
+        fields = symbol_fields(dice, mode, size, cell, slot)
+        carrier = fields[4]
+        grid_len = some_length(dice, ref.grid_floats(mode, size), 96 * ref.subchannels(mode, size), GRID_ROOM, True)
         number = ref.look_refusal(*fields[:4], grid_len, carrier)
         outs, grid = list(map(self.arena.address, range(5))), pointer(dice, self.arena.address(5), grid_len)
         arguments = fields[:4] + [grid, grid_len, carrier] + outs
+        met = [(*fields[:2], number, side(carrier))]
         if number:
-            return arguments, [], number, [], []
+            return arguments, [], number, [], met
         patterns = array("I", noise.run(dice, 4 * grid_len))
         what = ref.look(*fields[:4], patterns, carrier)[1]
         written = [(0, words([KINDS.get(what[0], 0)]))]
         if what[0] != "nothing":
             written.append((1, words(what[1])))
             written += [(2 + i, words([x])) for i, x in enumerate(what[2:])]
-        return arguments, [(5, patterns.tobytes())], 0, written, [tuple(fields[:2]), what[0]]
+        return arguments, [(5, patterns.tobytes())], 0, written, met + [what[0]]
 
 
 class OfuscCollisions:
@@ -234,7 +255,7 @@ class OfuscCollisions:
     def answered(self, fields, answer, met):
         number, hits, count = answer
         written = [] if number else [(0, bytes(hits)), (1, words([count]))]
-        return fields + list(map(self.arena.address, (0, 1))), [], number, written, met
+        return fields + list(map(self.arena.address, (0, 1))), [], number, written, [] if number else met
 
 
 class AmcCollisions(OfuscCollisions):
@@ -348,7 +369,8 @@ class PlanWrite:
         places, out, dest = map(self.arena.address, range(3))
         arguments = numbers[:2] + [places, pointer(dice, dest, length), length, out]
         written = [] if number else [(1, words([count])), (2, bytes(after[:count]))]
-        return arguments, [(0, words(numbers[2:]))], number, written, orders(zones[: numbers[0]])
+        met = [] if number else orders(zones[: numbers[0]])
+        return arguments, [(0, words(numbers[2:]))], number, written, met
 
 
 CALLS = [Place, Locate, PointsLen, GridLen, Fill, Empty, Look, OfuscCollisions, AmcCollisions, PlanRead, PlanWrite]
@@ -365,8 +387,7 @@ class Tally:
 
     def add(self, number, met):
         self.numbers[number] += 1
-        if number == 0:
-            self.met.update(met)
+        self.met.update(met)
 
     def text(self):
         answers = ", ".join("%d: %d" % (n, self.numbers[n]) for n in sorted(self.numbers))

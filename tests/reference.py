@@ -1,4 +1,4 @@
-"""Document 01, as changed by document 02's wishes 1 and 2, in plain Python, written from the papers alone.
+"""Document 01, as changed by document 02's wishes 1 to 3, in plain Python, written from the papers alone.
 
 The stored vectors and the tests through C are made from this file. It is as simple as it can be
 and slow where that is simpler: locating builds the whole slot by placing and looks the carrier up.
@@ -113,7 +113,7 @@ def locate_refusal(mode, size, cell, symbol, carrier):
     number = symbol_refusal(mode, size, cell, symbol)
     if number:
         return number
-    return 0 if carrier < size else 7
+    return 0 if carrier in carriers(size) else 7
 
 
 def buffers_refusal(mode, size, cell, slot, points_len, grid_len):
@@ -149,25 +149,28 @@ def grid_len(mode, size):
     return 0 if setup_refusal(mode, size, 0) else grid_floats(mode, size)
 
 
-# --- carriers ---------------------------------------------------------------------------------
+# --- carriers: signed offsets from DC, which is 0 (document 02, wish 3) -----------------------
 
 
-def left_guards(mode, size):
-    return 184 if mode in (PUSC_DL, PUSC_UL) else 5 * n_of(size)
+def carriers(size):
+    """The carriers of a symbol, by rising frequency."""
+    return range(-(size // 2), size // 2)
 
 
 def used_numbers(mode, size):
     return 1680 if mode in (PUSC_DL, PUSC_UL) else 54 * n_of(size)
 
 
-def dc(size):
-    return size // 2
+def band(mode, size):
+    """The lowest and the highest used carrier: as many used numbers lie below DC as above it."""
+    half = used_numbers(mode, size) // 2
+    return -half, half
 
 
 def carrier_of_used(mode, size, used):
-    """Used numbers leave DC out: one more from the middle on."""
-    carrier = left_guards(mode, size) + used
-    return carrier + 1 if used >= used_numbers(mode, size) // 2 else carrier
+    """Used numbers count up to DC, which has none, and on behind it."""
+    carrier = band(mode, size)[0] + used
+    return carrier if carrier < 0 else carrier + 1
 
 
 def cluster_pilots(symbol):
@@ -339,7 +342,7 @@ def slot_map(mode, size, cell, slot):
     """What stands on each (symbol, carrier) of a slot; every place is taken once."""
     found = {}
     for symbol in range(slot * SLOT_LENGTH[mode], (slot + 1) * SLOT_LENGTH[mode]):
-        found[symbol, dc(size)] = (DC,)
+        found[symbol, 0] = (DC,)
         for used in range(used_numbers(mode, size)):
             if is_pilot(mode, symbol, used):
                 found[symbol, carrier_of_used(mode, size, used)] = (PILOT,)
@@ -363,9 +366,14 @@ def locate(mode, size, cell, symbol, carrier):
 # --- grids: flat lists of 32-bit patterns, two a point, in-phase first ------------------------
 
 
+def column(size, carrier):
+    """Where a carrier stands in its symbol's row, which starts with the lowest."""
+    return carriers(size).index(carrier)
+
+
 def grid_at(mode, size, symbol, carrier):
     """Where a point's two floats start in its slot's grid."""
-    return 2 * (symbol % SLOT_LENGTH[mode] * size + carrier)
+    return 2 * (symbol % SLOT_LENGTH[mode] * size + column(size, carrier))
 
 
 def points_at(subchannel, index):

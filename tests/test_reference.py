@@ -45,22 +45,22 @@ def test_sequences_of_document_002():
 
 
 def test_known_points_of_placing():
-    assert ref.place(OFUSC, 1024, 0, 0, 3, 5) == (0, 0, 553)
-    assert ref.place(OFUSC, 1024, 0, 1, 3, 5) == (0, 1, 552)
-    assert ref.place(OFUSC, 1024, 17, 0, 0, 0) == (0, 0, 87)
-    assert ref.place(PUSC_DL, 2048, 0, 0, 1, 11) == (0, 0, 1862)
-    assert ref.place(PUSC_DL, 2048, 0, 0, 1, 35) == (0, 1, 1861)
-    assert ref.place(PUSC_UL, 2048, 0, 0, 1, 0) == (0, 1, 377)
+    assert ref.place(OFUSC, 1024, 0, 0, 3, 5) == (0, 0, 41)
+    assert ref.place(OFUSC, 1024, 0, 1, 3, 5) == (0, 1, 40)
+    assert ref.place(OFUSC, 1024, 17, 0, 0, 0) == (0, 0, -425)
+    assert ref.place(PUSC_DL, 2048, 0, 0, 1, 11) == (0, 0, 838)
+    assert ref.place(PUSC_DL, 2048, 0, 0, 1, 35) == (0, 1, 837)
+    assert ref.place(PUSC_UL, 2048, 0, 0, 1, 0) == (0, 1, -647)
     assert ref.tiles(0, 5) == [1, 83, 166, 256, 324, 380]
 
 
 def test_known_points_of_locating():
     for cell in range(32):
-        assert ref.locate(PUSC_DL, 2048, cell, 0, 184)[1][0] == ref.DATA
-        assert ref.locate(PUSC_DL, 2048, cell, 1, 184) == (0, (ref.PILOT,))
+        assert ref.locate(PUSC_DL, 2048, cell, 0, -840)[1][0] == ref.DATA
+        assert ref.locate(PUSC_DL, 2048, cell, 1, -840) == (0, (ref.PILOT,))
         for symbol in (0, 1):
-            assert ref.locate(PUSC_DL, 2048, cell, symbol, 183) == (0, (ref.GUARD,))
-            assert ref.locate(PUSC_DL, 2048, cell, symbol, 1024) == (0, (ref.DC,))
+            assert ref.locate(PUSC_DL, 2048, cell, symbol, -841) == (0, (ref.GUARD,))
+            assert ref.locate(PUSC_DL, 2048, cell, symbol, 0) == (0, (ref.DC,))
 
 
 def test_known_collisions():
@@ -178,24 +178,25 @@ def test_grids():
         assert ref.fill(mode, size, cell, slot, [1, 2], points, grid[1:]) == (9, grid[1:])
         assert ref.empty(mode, size, cell, slot, grid[1:], points) == (9, points)
         assert ref.look(mode, size, cell, 0, grid[1:], 0) == (9, None)
-        assert ref.look(mode, size, cell, 0, grid[1:], size) == (7, None)
+        assert ref.look(mode, size, cell, 0, grid[1:], size // 2) == (7, None)
 
 
 def check_looks(mode, size, cell, slot, points, filled):
     for offset in range(ref.SLOT_LENGTH[mode]):
         symbol = slot * ref.SLOT_LENGTH[mode] + offset
-        for carrier in range(size):
+        for carrier in range(-size // 2, size // 2):
             _, what = ref.locate(mode, size, cell, symbol, carrier)
             number, seen = ref.look(mode, size, cell, symbol, filled, carrier)
-            at = 2 * (offset * size + carrier)
+            at = 2 * (offset * size + size // 2 + carrier)
             assert number == 0
             if what[0] in (ref.GUARD, ref.DC):
                 assert seen == ("nothing",) and filled[at : at + 2] == [0, 0]
             elif what[0] == ref.PILOT:
-                assert seen == (ref.PILOT, [1, 2])
+                assert seen == (ref.PILOT, [1, 2]) and filled[at : at + 2] == [1, 2]
             else:
                 source = 2 * (48 * what[2] + what[3])
                 assert seen == (ref.DATA, points[source : source + 2]) + what[1:]
+                assert filled[at : at + 2] == points[source : source + 2]
 
 
 def test_planners_figures():
@@ -217,6 +218,47 @@ def test_planners_figures():
     for _ in range(200):
         a, b = dice.sample(range(2352), 2)
         assert ref.amc_collisions(a, b)[2] <= 3
+
+
+# --- carriers count from DC -------------------------------------------------------------------
+
+
+def document_01(mode, size):
+    """Left guards, right guards, and the used number from which on DC is skipped."""
+    n = size // 64
+    return (184, 183, 840) if mode in (PUSC_DL, PUSC_UL) else (5 * n, 5 * n - 1, 27 * n)
+
+
+def test_carriers_are_less_half_the_size():
+    """Document 02, wish 3: each carrier of document 01 less half the size, so that DC is 0; guards, DC and used carriers
+    are a symbol's carriers."""
+    for mode in ref.MODES:
+        for size in ref.sizes(mode):
+            left, right, middle = document_01(mode, size)
+            low, end = -size // 2, size // 2
+            used = [left + u + (u >= middle) - size // 2 for u in range(2 * middle)]
+            assert [ref.carrier_of_used(mode, size, u) for u in range(2 * middle)] == used
+            guards = [*range(low, low + left), *range(end - right, end)]
+            assert sorted(guards + [0] + used) == list(range(low, end)) == list(ref.carriers(size))
+            for carrier in range(low, end):
+                kind = ref.locate(mode, size, 0, 0, carrier)[1][0]
+                assert (kind == ref.GUARD) == (carrier in guards) and (kind == ref.DC) == (carrier == 0)
+
+
+def test_question_7():
+    """From minus half the size to half the size less 1; 4 is put before it, and 9 after."""
+    for mode in ref.MODES:
+        for size in ref.sizes(mode):
+            half, symbols = size // 2, 512 * ref.SLOT_LENGTH[mode]
+            grid = [0] * ref.grid_floats(mode, size)
+            for carrier in (-half, -1, 0, 1, half - 1):
+                assert ref.locate(mode, size, 0, symbols - 1, carrier)[0] == 0
+                assert ref.look(mode, size, 0, symbols - 1, grid, carrier)[0] == 0
+                assert ref.look(mode, size, 0, symbols - 1, [], carrier)[0] == 9
+            for carrier in (-(2**31), -size, -half - 1, half, size - 1, size, 2**31 - 1):
+                assert ref.locate(mode, size, 0, symbols - 1, carrier) == (7, None)
+                assert ref.look(mode, size, 0, symbols - 1, [], carrier) == (7, None)
+                assert ref.locate(mode, size, 0, symbols, carrier) == (4, None)
 
 
 # --- AMC's slot shapes ------------------------------------------------------------------------
@@ -243,36 +285,36 @@ def check_ends(mode, size, symbols, subchannels):
     assert ref.place(mode, size, 2351, 511, last, 47)[0] == 0
     assert ref.place(mode, size, 2351, 511, subchannels, 47)[0] == 5
     assert ref.place(mode, size, 2351, 511, last, 48)[0] == 6
-    assert ref.locate(mode, size, 2351, 512 * symbols - 1, size - 1) == (0, (ref.GUARD,))
-    assert ref.locate(mode, size, 2351, 512 * symbols, size - 1)[0] == 4
+    assert ref.locate(mode, size, 2351, 512 * symbols - 1, size // 2 - 1) == (0, (ref.GUARD,))
+    assert ref.locate(mode, size, 2351, 512 * symbols, size // 2)[0] == 4
 
 
 def test_amc_points_by_hand():
     """Cell 0 has E = P, so index 2 (46) is at v = 33, index 41 (66) at 47, index 47 (10) at 6. Cell 629 = 13 * 48 + 5 has
     off 16 and per 5: its index 14 takes P's entry 19 (61), the sum is zero, so E is off, and v = 12. At 256 the bins
-    start at carrier 20, at 512 at 40, at 2048 at 160; one more in the upper half, from bin 3N on."""
+    start at carrier -108, at 512 at -216, at 2048 at -864; one more in the upper half, from bin 3N on."""
     assert [ref.amc_v(0, 2), ref.amc_v(0, 41), ref.amc_v(0, 47), ref.amc_v(629, 14)] == [33, 47, 6, 12]
-    # Six by one. v = 33: bin 4 of bins 18 to 23, place 1; symbol 0, pilot at 1, so carrier 2 of the bin: 20 + 198 + 2 + 1.
-    assert ref.place(AMC, 256, 0, 0, 3, 2) == (0, 0, 221)
-    # v = 12: bin 1 of bins 6 to 11, place 4; symbol 511, pilot at 4, so carrier 5: 160 + 63 + 5.
-    assert ref.place(AMC, 2048, 629, 511, 1, 14) == (0, 511, 228)
-    # Two by three. v = 33 = 2 * 16 + 1: offset 2, first of bins 10 and 11, place 1; pilot at 7, so carrier 1: 20 + 90 + 1.
-    assert ref.place(AMC_2X3, 256, 0, 0, 5, 2) == (0, 2, 111)
-    # v = 12: offset 0, second of bins 190 and 191, place 4; symbol 1533, pilot at 1, so carrier 5: 160 + 1719 + 5 + 1.
-    assert ref.place(AMC_2X3, 2048, 629, 511, 95, 14) == (0, 1533, 1885)
+    # Six by one. v = 33: bin 4 of bins 18 to 23, place 1; symbol 0, pilot at 1, so its carrier 2: -108 + 198 + 2 + 1.
+    assert ref.place(AMC, 256, 0, 0, 3, 2) == (0, 0, 93)
+    # v = 12: bin 1 of bins 6 to 11, place 4; symbol 511, pilot at 4, so carrier 5: -864 + 63 + 5.
+    assert ref.place(AMC, 2048, 629, 511, 1, 14) == (0, 511, -796)
+    # Two by three. v = 33 = 2 * 16 + 1: offset 2, bin 10 of 10 and 11, place 1; pilot at 7, so carrier 1: -108 + 90 + 1.
+    assert ref.place(AMC_2X3, 256, 0, 0, 5, 2) == (0, 2, -17)
+    # v = 12: offset 0, second of bins 190 and 191, place 4; symbol 1533, pilot at 1, so carrier 5: -864 + 1719 + 5 + 1.
+    assert ref.place(AMC_2X3, 2048, 629, 511, 95, 14) == (0, 1533, 861)
     # Three by two. v = 33 = 24 + 9: offset 1, second of bins 21 to 23, place 1. In slots 0, 1, 2 that is symbol 1, 3, 5,
-    # pilot at 4, 1, 7, so carrier 1, 2, 1: 20 + 198 + 1 + 1, or one more.
-    assert ref.place(AMC_3X2, 256, 0, 0, 7, 2) == (0, 1, 220)
-    assert ref.place(AMC_3X2, 256, 0, 1, 7, 2) == (0, 3, 221)
-    assert ref.place(AMC_3X2, 256, 0, 2, 7, 2) == (0, 5, 220)
-    # v = 47 = 24 + 23: offset 1, third of bins 0 to 2, place 7; symbol 5, pilot at 7, so carrier 8: 160 + 18 + 8.
-    assert ref.place(AMC_3X2, 2048, 0, 2, 0, 41) == (0, 5, 186)
-    # One by six. v = 33 = 4 * 8 + 1: offset 4, bin 47, place 1; symbol 10, pilot at 4, so carrier 1: 40 + 423 + 1 + 1.
-    assert ref.place(AMC_1X6, 512, 0, 1, 47, 2) == (0, 10, 465)
-    # v = 47: offset 5, bin 0, place 7; symbol 3071, pilot at 7, so carrier 8: 40 + 8.
-    assert ref.place(AMC_1X6, 512, 0, 511, 0, 41) == (0, 3071, 48)
-    # v = 6: offset 0, bin 191, place 6; symbol 0, pilot at 1, so carrier 7: 160 + 1719 + 7 + 1.
-    assert ref.place(AMC_1X6, 2048, 0, 0, 191, 47) == (0, 0, 1887)
+    # pilot at 4, 1, 7, so carrier 1, 2, 1: -108 + 198 + 1 + 1, or one more.
+    assert ref.place(AMC_3X2, 256, 0, 0, 7, 2) == (0, 1, 92)
+    assert ref.place(AMC_3X2, 256, 0, 1, 7, 2) == (0, 3, 93)
+    assert ref.place(AMC_3X2, 256, 0, 2, 7, 2) == (0, 5, 92)
+    # v = 47 = 24 + 23: offset 1, third of bins 0 to 2, place 7; symbol 5, pilot at 7, so carrier 8: -864 + 18 + 8.
+    assert ref.place(AMC_3X2, 2048, 0, 2, 0, 41) == (0, 5, -838)
+    # One by six. v = 33 = 4 * 8 + 1: offset 4, bin 47, place 1; symbol 10, pilot at 4, so carrier 1: -216 + 423 + 1 + 1.
+    assert ref.place(AMC_1X6, 512, 0, 1, 47, 2) == (0, 10, 209)
+    # v = 47: offset 5, bin 0, place 7; symbol 3071, pilot at 7, so carrier 8: -216 + 8.
+    assert ref.place(AMC_1X6, 512, 0, 511, 0, 41) == (0, 3071, -208)
+    # v = 6: offset 0, bin 191, place 6; symbol 0, pilot at 1, so carrier 7: -864 + 1719 + 7 + 1.
+    assert ref.place(AMC_1X6, 2048, 0, 0, 191, 47) == (0, 0, 863)
 
 
 def test_amc_places_by_formula():
@@ -285,7 +327,7 @@ def test_amc_places_by_formula():
                     symbol = slot * symbols + v // (8 * wide)
                     place = v % 8 + (v % 8 > 3 * (symbol % 3))
                     used = 9 * (wide * subchannel + v % (8 * wide) // 8) + place
-                    carrier = 5 * size // 64 + used + (used >= 27 * size // 64)
+                    carrier = 5 * size // 64 + used + (used >= 27 * size // 64) - size // 2
                     assert ref.place(mode, size, cell, slot, subchannel, index) == (0, symbol, carrier)
 
 
@@ -301,7 +343,7 @@ PILOTS = {
 def carriers_of_bins(size):
     """The carriers of each bin, by rising frequency: all but 5N left guards, 5N - 1 right guards and DC."""
     n = size // 64
-    used = [carrier for carrier in range(5 * n, 59 * n + 1) if carrier != 32 * n]
+    used = [carrier for carrier in range(-27 * n, 27 * n + 1) if carrier != 0]
     return [used[i : i + 9] for i in range(0, 54 * n, 9)]
 
 

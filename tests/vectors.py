@@ -5,11 +5,12 @@
     python3 tests/vectors.py plans         writes crates/plan_vectors/stdin and stdout
     python3 tests/vectors.py --check       fails where a stored file differs from the reference
 
-One request a line, numbers in base ten; the answer repeats the request, then a colon:
+One request a line, natural numbers in base ten; the answer repeats the request, then a colon:
 
     p mode size cell slot subchannel index n    n points from this index on: symbol.carrier
     l mode size cell symbol carrier n           n carriers from this one on: guard, dc, pilot
                                                 or slot.subchannel.index
+    m mode size cell symbol carrier n           the same, from minus this carrier on
     o size cell subchannel cell subchannel      collisions in optional FUSC: document 01's number
                                                 or 0, the count, the 48 marks as digits
     s size cell subchannel cell                 the sum of these counts over all subchannels of
@@ -28,6 +29,7 @@ from reference import OFUSC, PUSC_DL, PUSC_UL
 
 ROOT = os.path.dirname(os.path.dirname(os.path.abspath(__file__)))
 LARGEST = 2**64 - 1
+LEAST_CARRIER, GREATEST_CARRIER = -(2**31), 2**31 - 1
 INPUT_ROOM = 262144  # what a vector program reads
 SETUPS = [(mode, size) for mode in ref.MODES for size in ref.sizes(mode)]
 
@@ -50,7 +52,14 @@ def located_text(mode, size, cell, symbol, carrier):
 def map_answer(request):
     operation, fields, first, count = request[0], request[1:-2], request[-2], request[-1]
     text = placed_text if operation == "p" else located_text
+    first = -first if operation == "m" else first
     return " ".join(text(*fields, first + i) for i in range(count))
+
+
+def locating(mode, size, cell, symbol, carrier, n):
+    """The request for n carriers from this one on, whose sign goes to the operation."""
+    assert LEAST_CARRIER <= carrier and carrier + n - 1 <= GREATEST_CARRIER
+    return ("m" if carrier < 0 else "l", mode, size, cell, symbol, abs(carrier), n)
 
 
 def known_points():
@@ -63,8 +72,8 @@ def known_points():
     yield ("p", PUSC_UL, 2048, 0, 0, 1, 0, 1)
     for cell in range(32):
         for symbol in (0, 1):
-            yield ("l", PUSC_DL, 2048, cell, symbol, 183, 2)
-            yield ("l", PUSC_DL, 2048, cell, symbol, 1024, 1)
+            yield locating(PUSC_DL, 2048, cell, symbol, -841, 2)
+            yield locating(PUSC_DL, 2048, cell, symbol, 0, 1)
 
 
 def whole_slot(mode, size, cell, slot):
@@ -75,17 +84,12 @@ def whole_slot(mode, size, cell, slot):
 
 def whole_symbol(mode, size, cell, symbol):
     """Every carrier of a symbol: a line a cluster, four tiles or six bins; guards and DC apart."""
-    left, used = ref.left_guards(mode, size), ref.used_numbers(mode, size)
+    low, high = ref.band(mode, size)
     run = {PUSC_DL: 14, PUSC_UL: 16}.get(mode, 54)
-    request = ("l", mode, size, cell, symbol)
-    yield request + (0, left)
-    for half in (0, used // 2):
-        first = ref.carrier_of_used(mode, size, half)
-        for offset in range(0, used // 2, run):
-            yield request + (first + offset, min(run, used // 2 - offset))
-        if half == 0:
-            yield request + (ref.dc(size), 1)
-    yield request + (left + used + 1, size - left - used - 1)
+    used = [(first + i, min(run, high - i)) for first in (low, 1) for i in range(0, high, run)]
+    guards = [(-size // 2, size // 2 + low), (high + 1, size // 2 - high - 1)]
+    for carrier, n in sorted(guards + used + [(0, 1)]):
+        yield locating(mode, size, cell, symbol, carrier, n)
 
 
 def slot_cells(mode, size):
@@ -117,27 +121,14 @@ def symbol_cells(mode, size):
     }[mode]
 
 
-def good_place(mode, size):
-    """One accepted request, with the first number of each field that is not."""
-    good = [mode, size, 3, 7, 2, 11]
-    limits = [ref.UNLISTED, size + 1, ref.cells(mode, size), 512, ref.subchannels(mode, size), 48]
-    return good, limits
+def wrong_values(good, limits):
+    """Of each field, by the first number that is not accepted: the smallest, the largest, and two that a narrower type
+    would cut to an accepted one."""
+    return [[limit, number + 2**16, number + 2**32, LARGEST] for number, limit in zip(good, limits)]
 
 
-def good_locate(mode, size):
-    good = [mode, size, 3, 7, size // 2 + 5]
-    limits = [ref.UNLISTED, size + 1, ref.cells(mode, size), 512 * ref.SLOT_LENGTH[mode], size]
-    return good, limits
-
-
-def wrong_values(good, limit):
-    """The smallest, the largest, and two that a narrower type would cut to an accepted one."""
-    return [limit, good + 2**16, good + 2**32, LARGEST]
-
-
-def wrong_fields(good, limits):
+def wrong_fields(good, wrong):
     """Each field wrong alone, and together with each later one; the same wrong kind in both."""
-    wrong = [wrong_values(g, limit) for g, limit in zip(good, limits)]
     for i in range(len(good)):
         for j in range(i, len(good)):
             for kind in range(4):
@@ -148,9 +139,20 @@ def wrong_fields(good, limits):
         yield tuple(values[kind] for values in wrong)
 
 
-def refusals(operation, good, limits):
-    for fields in wrong_fields(good, limits):
-        yield (operation, *fields, 1)
+def place_refusals(mode, size):
+    good = [mode, size, 3, 7, 2, 11]
+    limits = [ref.UNLISTED, size + 1, ref.cells(mode, size), 512, ref.subchannels(mode, size), 48]
+    for fields in wrong_fields(good, wrong_values(good, limits)):
+        yield ("p", *fields, 1)
+
+
+def locate_refusals(mode, size):
+    """A carrier is wrong on both sides: the first past the highest, and three that a narrower type would cut to 5."""
+    good = [mode, size, 3, 7]
+    limits = [ref.UNLISTED, size + 1, ref.cells(mode, size), 512 * ref.SLOT_LENGTH[mode]]
+    carriers = [size // 2, 5 - 2**16, 5 + 2**16, 5 - 2**31]
+    for fields in wrong_fields(good + [5], wrong_values(good, limits) + [carriers]):
+        yield locating(*fields, 1)
 
 
 def edges(mode, size):
@@ -158,15 +160,23 @@ def edges(mode, size):
     cells, symbols = ref.cells(mode, size), 512 * ref.SLOT_LENGTH[mode]
     for cell in (cells - 1, cells):
         yield ("p", mode, size, cell, 0, 0, 0, 1)
-        yield ("l", mode, size, cell, 0, size // 2 + 1, 1)
+        yield locating(mode, size, cell, 0, 1, 1)
     for slot in (511, 512):
         yield ("p", mode, size, 0, slot, 0, 0, 1)
     for symbol in (symbols - 1, symbols):
-        yield ("l", mode, size, 0, symbol, size // 2 - 1, 1)
+        yield locating(mode, size, 0, symbol, -1, 1)
     for subchannel in (ref.subchannels(mode, size) - 1, ref.subchannels(mode, size)):
         yield ("p", mode, size, 0, 0, subchannel, 0, 1)
     yield ("p", mode, size, 0, 0, 0, 47, 2)
-    yield ("l", mode, size, 0, 0, size - 1, 2)
+    yield from carrier_edges(mode, size)
+
+
+def carrier_edges(mode, size):
+    """About the lowest carrier, DC, the highest one, the last of a count from 0, and at the ends of 32 bits."""
+    half = size // 2
+    runs = [(-half - 1, 2), (-1, 3), (half - 1, 2), (size - 1, 2), (LEAST_CARRIER, 2), (GREATEST_CARRIER - 1, 2)]
+    for carrier, n in runs:
+        yield locating(mode, size, 0, 0, carrier, n)
 
 
 def size_edges():
@@ -174,7 +184,7 @@ def size_edges():
     for mode in (*ref.MODES, ref.UNLISTED, 2**32 - 1):
         for size in (0, 1, 64, 128, 255, 256, 257, 512, 1023, 1024, 1536, 2047, 2048, 2049, 4096, LARGEST):
             yield ("p", mode, size, 0, 0, 0, 0, 1)
-            yield ("l", mode, size, 0, 0, 0, 1)
+            yield locating(mode, size, 0, 0, 0, 1)
 
 
 def scattered(count):
@@ -186,7 +196,7 @@ def scattered(count):
         subchannel, index = dice.randrange(ref.subchannels(mode, size)), dice.randrange(48)
         yield ("p", mode, size, cell, slot, subchannel, index, 1)
         offset = dice.randrange(ref.SLOT_LENGTH[mode])
-        yield ("l", mode, size, cell, slot * ref.SLOT_LENGTH[mode] + offset, dice.randrange(size), 1)
+        yield locating(mode, size, cell, slot * ref.SLOT_LENGTH[mode] + offset, dice.choice(ref.carriers(size)), 1)
 
 
 def map_requests():
@@ -198,8 +208,8 @@ def map_requests():
             yield from whole_symbol(mode, size, cell, symbol)
     for mode, size in SETUPS:
         yield from edges(mode, size)
-        yield from refusals("p", *good_place(mode, size))
-        yield from refusals("l", *good_locate(mode, size))
+        yield from place_refusals(mode, size)
+        yield from locate_refusals(mode, size)
     yield from size_edges()
     yield from scattered(300)
 
@@ -282,7 +292,8 @@ def ofusc_requests(size):
     for cell in (0, 1, n, last):
         yield from one_cell_twice(size, cell)
     yield from ofusc_edges(size)
-    for fields in wrong_fields([size, 3, 2, 5, 1], [size + 1, n * n, n, n * n, n]):
+    good = [size, 3, 2, 5, 1]
+    for fields in wrong_fields(good, wrong_values(good, [size + 1, n * n, n, n * n, n])):
         yield ("o", *fields)
     yield from scattered_ofusc(size, 40)
 
@@ -296,7 +307,7 @@ def amc_requests():
     for cell in (2351, 2352):
         yield ("a", cell, 0)
         yield ("a", 0, cell)
-    for fields in wrong_fields([3, 5], [2352, 2352]):
+    for fields in wrong_fields([3, 5], wrong_values([3, 5], [2352, 2352])):
         yield ("a", *fields)
     dice = random.Random(7)
     for _ in range(100):

@@ -10,11 +10,13 @@
 
 struct place_row {
     uint32_t mode, size, cell, slot, subchannel, index;
-    uint32_t refusal, symbol, carrier;
+    uint32_t refusal, symbol;
+    int32_t carrier;
 };
 
 struct locate_row {
-    uint32_t mode, size, cell, symbol, carrier;
+    uint32_t mode, size, cell, symbol;
+    int32_t carrier;
     uint32_t refusal, kind, slot, subchannel, index;
 };
 
@@ -46,9 +48,15 @@ struct length_row {
 
 #define COUNT(rows) (sizeof(rows) / sizeof((rows)[0]))
 
-/* An out parameter between two guard words. */
+/* An out parameter between two guard words; a carrier has a sign. */
 struct out {
     uint32_t before, value, after;
+};
+
+struct carrier_out {
+    uint32_t before;
+    int32_t value;
+    uint32_t after;
 };
 
 /* Each request is put twice, over different words, so that a value written by chance shows. */
@@ -68,12 +76,13 @@ static int holds(const struct out *out, uint32_t fill, uint32_t value)
 
 static int place_agrees(const struct place_row *row, uint32_t fill)
 {
-    struct out symbol = fresh(fill), carrier = fresh(fill);
+    struct out symbol = fresh(fill);
+    struct carrier_out carrier = {~fill, (int32_t)fill, ~fill};
     uint32_t refusal = bp_place(row->mode, row->size, row->cell, row->slot, row->subchannel,
                                 row->index, &symbol.value, &carrier.value);
     int accepted = row->refusal == 0;
-    return refusal == row->refusal && holds(&symbol, fill, accepted ? row->symbol : fill) &&
-           holds(&carrier, fill, accepted ? row->carrier : fill);
+    return refusal == row->refusal && holds(&symbol, fill, accepted ? row->symbol : fill) && carrier.before == ~fill &&
+           carrier.value == (accepted ? row->carrier : (int32_t)fill) && carrier.after == ~fill;
 }
 
 static int locate_agrees(const struct locate_row *row, uint32_t fill)
@@ -157,7 +166,7 @@ static int test_locate(void)
             continue;
         wrong = 1;
         printf("bp_locate differs: mode %" PRIu32 " size %" PRIu32 " cell %" PRIu32
-               " symbol %" PRIu32 " carrier %" PRIu32 "\n",
+               " symbol %" PRIu32 " carrier %" PRId32 "\n",
                row->mode, row->size, row->cell, row->symbol, row->carrier);
     }
     return wrong;

@@ -36,6 +36,9 @@ static const struct setup setups[] = {
     {6, 256, 2352, 24, 6}, {6, 512, 2352, 48, 6}, {6, 1024, 2352, 96, 6}, {6, 2048, 2352, 192, 6},
 };
 
+/* The lowest carrier is minus half the size, the highest is half the size less 1. */
+static int32_t half(const struct setup *s) { return (int32_t)(s->size / 2); }
+
 static size_t points_floats(const struct setup *s) { return 96 * (size_t)s->subchannels; }
 static size_t grid_floats(const struct setup *s) { return 2 * (size_t)s->size * s->symbols; }
 
@@ -140,9 +143,9 @@ struct expected {
 
 static struct expected want;
 
-static size_t grid_at(const struct setup *s, uint32_t symbol, uint32_t carrier)
+static size_t grid_at(const struct setup *s, uint32_t symbol, int32_t carrier)
 {
-    return 2 * ((size_t)(symbol % s->symbols) * s->size + carrier);
+    return 2 * ((size_t)(symbol % s->symbols) * s->size + (size_t)(half(s) + carrier));
 }
 
 static int work_out(const struct setup *s, uint32_t cell, uint32_t slot, const uint32_t pilot[2])
@@ -151,7 +154,7 @@ static int work_out(const struct setup *s, uint32_t cell, uint32_t slot, const u
     for (uint32_t n = 0; n < points_floats(s); n++)
         want.points[n] = point_bits(n);
     for (uint32_t row = 0; row < s->symbols; row++) {
-        for (uint32_t carrier = 0; carrier < s->size; carrier++) {
+        for (int32_t carrier = -half(s); carrier < half(s); carrier++) {
             uint32_t kind, of, subchannel, index;
             size_t at = grid_at(s, row, carrier);
             if (bp_locate(s->mode, s->size, cell, slot * s->symbols + row, carrier, &kind, &of, &subchannel, &index))
@@ -163,7 +166,8 @@ static int work_out(const struct setup *s, uint32_t cell, uint32_t slot, const u
     }
     for (uint32_t subchannel = 0; subchannel < s->subchannels; subchannel++) {
         for (uint32_t index = 0; index < POINTS; index++) {
-            uint32_t symbol, carrier;
+            uint32_t symbol;
+            int32_t carrier;
             if (bp_place(s->mode, s->size, cell, slot, subchannel, index, &symbol, &carrier))
                 return 0;
             size_t at = grid_at(s, symbol, carrier);
@@ -206,7 +210,7 @@ static int empty_agrees(const struct setup *s, uint32_t cell, uint32_t slot, con
 }
 
 /* Look at one carrier of the grid as it stands, which has these bits. */
-static int look_agrees(const struct setup *s, uint32_t cell, uint32_t symbol, uint32_t carrier,
+static int look_agrees(const struct setup *s, uint32_t cell, uint32_t symbol, int32_t carrier,
                        const uint32_t *grid_words)
 {
     struct out kind = fresh(), slot = fresh(), subchannel = fresh(), index = fresh();
@@ -228,7 +232,7 @@ static int looks_agree(const struct setup *s, uint32_t cell, uint32_t slot, cons
     spoil(&grid, sizeof grid);
     copy_bits(grid.at, grid_words, grid_floats(s));
     for (uint32_t row = 0; row < s->symbols; row++)
-        for (uint32_t carrier = 0; carrier < s->size; carrier++)
+        for (int32_t carrier = -half(s); carrier < half(s); carrier++)
             if (!look_agrees(s, cell, slot * s->symbols + row, carrier, grid_words))
                 return 0;
     return holds(&grid, sizeof grid, grid_words, grid_floats(s));
@@ -326,6 +330,14 @@ static int slot_refusal_agrees(const struct setup *s, unsigned wrong_fields, uns
            untouched(&points, sizeof points) && untouched(&grid, sizeof grid) && untouched(&pair, sizeof pair);
 }
 
+/* A wrong carrier: just past the range, at the ends of 32 bits, counted from 0, or cut to a right one, on either side. */
+static int32_t wrong_carrier(const struct setup *s, unsigned turn)
+{
+    const int32_t carriers[] = {half(s), -half(s) - 1, INT32_MAX, INT32_MIN, 2 * half(s) - 1,
+                                -2 * half(s), 1 + 65536, -1 - 65536, INT32_MAX - 1, INT32_MIN + 1};
+    return carriers[turn % COUNT(carriers)];
+}
+
 static int look_refusal_agrees(const struct setup *s, unsigned wrong_fields, unsigned turn)
 {
     static const uint32_t questions[FIELDS] = {1, 2, 3, 4, 7, 9};
@@ -334,7 +346,8 @@ static int look_refusal_agrees(const struct setup *s, unsigned wrong_fields, uns
     uint32_t size = wrong_fields & 2 ? 128 : s->size;
     uint32_t cell = wrong_fields & 4 ? s->cells : s->cells - 1;
     uint32_t symbol = wrong_fields & 8 ? SLOTS * s->symbols : SLOTS * s->symbols - 1;
-    uint32_t carrier = wrong_fields & 16 ? s->size : s->size / 2 + 1 + turn % 64;
+    int32_t right = turn % 2 ? -half(s) : half(s) - 1;
+    int32_t carrier = wrong_fields & 16 ? wrong_carrier(s, turn) : right;
     size_t grid_len = wrong_fields & 32 ? wrong_length(grid_floats(s), turn) : grid_floats(s);
     struct out kind = fresh(), slot = fresh(), subchannel = fresh(), index = fresh();
     spoil(&grid, sizeof grid);

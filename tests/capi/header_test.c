@@ -5,6 +5,10 @@
 
 #include <stdio.h>
 
+#if BP_VERSION != 2
+#error "written for version 2 of the header"
+#endif
+
 #ifdef __cplusplus
 #include <complex>
 typedef std::complex<float> complex_float;
@@ -17,16 +21,25 @@ static complex_float points[192], back[192], grid[256];
 
 static float *floats(complex_float *numbers) { return (float *)numbers; }
 
+/* The calls that have a carrier by their whole types, of which a compiler takes no others: it is signed in each. */
+static uint32_t (*const place)(uint32_t, uint32_t, uint32_t, uint32_t, uint32_t, uint32_t, uint32_t *, int32_t *) = bp_place;
+static uint32_t (*const locate)(uint32_t, uint32_t, uint32_t, uint32_t, int32_t, uint32_t *, uint32_t *, uint32_t *,
+                                uint32_t *) = bp_locate;
+static uint32_t (*const look)(uint32_t, uint32_t, uint32_t, uint32_t, const float *, size_t, int32_t, uint32_t *, float *,
+                              uint32_t *, uint32_t *, uint32_t *) = bp_look;
+
 static int map_is_right(void)
 {
-    uint32_t symbol, carrier, kind, slot, subchannel, index;
-    if (bp_place(BP_OFUSC, 1024, 0, 1, 3, 5, &symbol, &carrier) != BP_ACCEPTED || symbol != 1 || carrier != 552)
+    uint32_t symbol, kind, slot, subchannel, index;
+    int32_t carrier;
+    if (place(BP_OFUSC, 1024, 17, 0, 0, 0, &symbol, &carrier) != BP_ACCEPTED || symbol != 0 || carrier != -425 ||
+        place(BP_OFUSC, 1024, 0, 1, 3, 5, &symbol, &carrier) != BP_ACCEPTED || symbol != 1 || carrier != 40)
         return 0;
-    if (bp_locate(BP_OFUSC, 1024, 0, symbol, 512, &kind, &slot, &subchannel, &index) != BP_ACCEPTED || kind != BP_DC ||
-        bp_locate(BP_PUSC_DL, 2048, 5, 0, 183, &kind, &slot, &subchannel, &index) != BP_ACCEPTED || kind != BP_GUARD ||
-        bp_locate(BP_PUSC_DL, 2048, 5, 1, 184, &kind, &slot, &subchannel, &index) != BP_ACCEPTED || kind != BP_PILOT)
+    if (locate(BP_OFUSC, 1024, 0, symbol, 0, &kind, &slot, &subchannel, &index) != BP_ACCEPTED || kind != BP_DC ||
+        locate(BP_PUSC_DL, 2048, 5, 0, -841, &kind, &slot, &subchannel, &index) != BP_ACCEPTED || kind != BP_GUARD ||
+        locate(BP_PUSC_DL, 2048, 5, 1, -840, &kind, &slot, &subchannel, &index) != BP_ACCEPTED || kind != BP_PILOT)
         return 0;
-    return bp_locate(BP_OFUSC, 1024, 0, symbol, carrier, &kind, &slot, &subchannel, &index) == BP_ACCEPTED && kind == BP_DATA &&
+    return locate(BP_OFUSC, 1024, 0, symbol, carrier, &kind, &slot, &subchannel, &index) == BP_ACCEPTED && kind == BP_DATA &&
            slot == 1 && subchannel == 3 && index == 5;
 }
 
@@ -34,12 +47,13 @@ static int map_is_right(void)
    the fifth, with two bins in the third; with three it is place 1 of the second bin in the second symbol. */
 static int shapes_are_right(void)
 {
-    uint32_t symbol, carrier;
+    uint32_t symbol;
+    int32_t carrier;
     return BP_AMC == 3 && BP_AMC_2X3 == 4 && BP_AMC_3X2 == 5 && BP_AMC_1X6 == 6 &&
-           bp_place(BP_AMC, 256, 0, 0, 3, 2, &symbol, &carrier) == BP_ACCEPTED && symbol == 0 && carrier == 221 &&
-           bp_place(BP_AMC_2X3, 256, 0, 0, 5, 2, &symbol, &carrier) == BP_ACCEPTED && symbol == 2 && carrier == 111 &&
-           bp_place(BP_AMC_3X2, 256, 0, 1, 7, 2, &symbol, &carrier) == BP_ACCEPTED && symbol == 3 && carrier == 221 &&
-           bp_place(BP_AMC_1X6, 512, 0, 1, 47, 2, &symbol, &carrier) == BP_ACCEPTED && symbol == 10 && carrier == 465;
+           bp_place(BP_AMC, 256, 0, 0, 3, 2, &symbol, &carrier) == BP_ACCEPTED && symbol == 0 && carrier == 93 &&
+           bp_place(BP_AMC_2X3, 256, 0, 0, 5, 2, &symbol, &carrier) == BP_ACCEPTED && symbol == 2 && carrier == -17 &&
+           bp_place(BP_AMC_3X2, 256, 0, 1, 7, 2, &symbol, &carrier) == BP_ACCEPTED && symbol == 3 && carrier == 93 &&
+           bp_place(BP_AMC_1X6, 512, 0, 1, 47, 2, &symbol, &carrier) == BP_ACCEPTED && symbol == 10 && carrier == 209;
 }
 
 /* Every point of a slot of optional FUSC at 256 goes onto the grid and comes back; one is looked at, and nothing at DC. */
@@ -48,7 +62,8 @@ static int grid_is_right(void)
     const float pilot[2] = {-1, 0};
     const size_t points_len = bp_points_len(BP_OFUSC, 256), grid_len = bp_grid_len(BP_OFUSC, 256);
     float point[2];
-    uint32_t symbol, carrier, kind, slot, subchannel, index;
+    uint32_t symbol, kind, slot, subchannel, index;
+    int32_t carrier;
     if (points_len != 384 || grid_len != 512 || bp_points_len(BP_PUSC_UL, 2048) != 6720 || bp_grid_len(BP_AMC, 128) != 0)
         return 0;
     if (bp_points_len(BP_AMC_1X6, 2048) != 18432 || bp_grid_len(BP_AMC_1X6, 2048) != 24576)
@@ -61,11 +76,11 @@ static int grid_is_right(void)
     for (int n = 0; n < 192; n++)
         if (back[n] != points[n])
             return 0;
-    if (bp_look(BP_OFUSC, 256, 5, 0, floats(grid), grid_len, 128, &kind, point, &slot, &subchannel, &index) != BP_ACCEPTED ||
+    if (look(BP_OFUSC, 256, 5, 0, floats(grid), grid_len, 0, &kind, point, &slot, &subchannel, &index) != BP_ACCEPTED ||
         kind != BP_NOTHING || bp_place(BP_OFUSC, 256, 5, 0, 1, 2, &symbol, &carrier) != BP_ACCEPTED)
         return 0;
-    return grid[carrier] == points[48 + 2] &&
-           bp_look(BP_OFUSC, 256, 5, symbol, floats(grid), grid_len, carrier, &kind, point, &slot, &subchannel, &index) ==
+    return grid[128 + carrier] == points[48 + 2] &&
+           look(BP_OFUSC, 256, 5, symbol, floats(grid), grid_len, carrier, &kind, point, &slot, &subchannel, &index) ==
                BP_ACCEPTED &&
            kind == BP_DATA && point[0] == 100 && point[1] == 101 && slot == 0 && subchannel == 1 && index == 2;
 }
@@ -74,18 +89,19 @@ static int grid_is_right(void)
 static int refusals_are_right(void)
 {
     uint32_t u[4], zones[24] = {2, 0, 1};
+    int32_t carrier;
     float pilot[2] = {0, 0};
     uint8_t none[1] = {0x80}, form[2] = {0x81, 0}, count[1] = {9}, slots[6] = {1, 0x80, 8, 2, 0, 0};
     uint8_t order[6] = {1, 0x80, 0x10, 2, 0, 1}, over[7] = {1, 0x80, 8, 2, 0, 1, 0};
     const uint32_t met[17] = {
-        bp_place(BP_AMC, 256, 2351, 511, 3, 47, &u[0], &u[1]),
-        bp_place(7, 256, 0, 0, 0, 0, &u[0], &u[1]),
-        bp_place(BP_PUSC_DL, 256, 0, 0, 0, 0, &u[0], &u[1]),
-        bp_place(BP_AMC, 256, 2352, 0, 0, 0, &u[0], &u[1]),
-        bp_place(BP_AMC, 256, 0, 512, 0, 0, &u[0], &u[1]),
-        bp_place(BP_AMC, 256, 0, 0, 4, 0, &u[0], &u[1]),
-        bp_place(BP_AMC, 256, 0, 0, 0, 48, &u[0], &u[1]),
-        bp_locate(BP_AMC, 256, 0, 0, 256, &u[0], &u[1], &u[2], &u[3]),
+        bp_place(BP_AMC, 256, 2351, 511, 3, 47, &u[0], &carrier),
+        bp_place(7, 256, 0, 0, 0, 0, &u[0], &carrier),
+        bp_place(BP_PUSC_DL, 256, 0, 0, 0, 0, &u[0], &carrier),
+        bp_place(BP_AMC, 256, 2352, 0, 0, 0, &u[0], &carrier),
+        bp_place(BP_AMC, 256, 0, 512, 0, 0, &u[0], &carrier),
+        bp_place(BP_AMC, 256, 0, 0, 4, 0, &u[0], &carrier),
+        bp_place(BP_AMC, 256, 0, 0, 0, 48, &u[0], &carrier),
+        bp_locate(BP_AMC, 256, 0, 0, 128, &u[0], &u[1], &u[2], &u[3]),
         bp_fill(BP_OFUSC, 256, 0, 0, pilot, floats(points), 1, floats(grid), 512),
         bp_fill(BP_OFUSC, 256, 0, 0, pilot, floats(points), 384, floats(grid), 1),
         bp_plan_read(none, 1, &u[0], &u[1], zones),

@@ -7,6 +7,7 @@ out=build/capi
 ./build.sh
 mkdir -p "$out"
 sh tests/capi/header.sh
+sh tests/capi/soname.sh
 python3 tests/capi/header_table.py
 python3 tests/capi/table.py > "$out/table.h"
 python3 tests/capi/grid_table.py > "$out/grid_table.h"

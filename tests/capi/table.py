@@ -12,6 +12,7 @@ sys.path.insert(0, os.path.dirname(os.path.dirname(os.path.abspath(__file__))))
 import reference as ref
 
 LARGEST = 2**32 - 1
+LEAST_CARRIER, GREATEST_CARRIER = -(2**31), 2**31 - 1
 KINDS = {ref.GUARD: 0, ref.DC: 1, ref.PILOT: 2, ref.DATA: 3}
 SETUPS = [(mode, size) for mode in ref.MODES for size in ref.sizes(mode)]
 
@@ -21,11 +22,19 @@ def wrong(dice, good, limit):
     return dice.choice([limit, LARGEST, good + 2**16, good + 2**31, dice.randrange(limit, 2**32)])
 
 
-def spoiled(dice, good, limits):
+def wrong_carrier(dice, _, size):
+    """The same of a carrier, on either side of the range."""
+    end, good = size // 2, dice.choice(ref.carriers(size))
+    cut = [good - 2**16, good + 2**16, good + 2**31 if good < 0 else good - 2**31]
+    far = [dice.randrange(LEAST_CARRIER, -end), dice.randrange(end, 2**31)]
+    return dice.choice([-end - 1, end, LEAST_CARRIER, GREATEST_CARRIER] + cut + far)
+
+
+def spoiled(dice, good, limits, others={}):
     """Some fields wrong: most often one, sometimes more."""
     fields = list(good)
     for i in dice.sample(range(len(good)), min(len(good), dice.choice([1, 1, 2, 3]))):
-        fields[i] = wrong(dice, good[i], limits[i])
+        fields[i] = others.get(i, wrong)(dice, good[i], limits[i])
     return fields
 
 
@@ -49,17 +58,22 @@ def place_rows(dice, mode, size):
         yield place_row(spoiled(dice, good, limits))
 
 
+def carrier_edges(size):
+    """The ends of the range and of 32 bits, those just past the range, DC and both beside it."""
+    end = size // 2
+    return [LEAST_CARRIER, -end - 1, -end, -1, 0, 1, end - 1, end, GREATEST_CARRIER]
+
+
 def locate_rows(dice, mode, size):
-    """A few cells and symbols, many carriers of each, DC and the edges of the band among them."""
+    """A few cells and symbols, many carriers of each, the edges of the range and of the band among them."""
     limits = [ref.UNLISTED, 2049, ref.cells(mode, size), 512 * ref.SLOT_LENGTH[mode], size]
-    left, used = ref.left_guards(mode, size), ref.used_numbers(mode, size)
-    edges = [0, left - 1, left, size // 2 - 1, size // 2, size // 2 + 1, left + used, left + used + 1, size - 1]
+    low, high = ref.band(mode, size)
     for _ in range(6):
         cell, symbol = dice.randrange(limits[2]), dice.randrange(limits[3])
-        for carrier in edges + [dice.randrange(size) for _ in range(50)]:
-            good = [mode, size, cell, symbol, carrier]
-            yield locate_row(good)
-            yield locate_row(spoiled(dice, good, limits))
+        for carrier in carrier_edges(size) + [low - 1, low, high, high + 1] + dice.choices(ref.carriers(size), k=50):
+            fields = [mode, size, cell, symbol, carrier]
+            yield locate_row(fields)
+            yield locate_row(spoiled(dice, fields, limits, {4: wrong_carrier}))
 
 
 def ofusc_row(fields):
@@ -107,7 +121,7 @@ def initializer(value):
     """A number, or a list of such values, as C writes it."""
     if isinstance(value, list):
         return "{%s}" % ", ".join(map(initializer, value))
-    return "%du" % value
+    return "%du" % value if value >= 0 else "%d" % value
 
 
 def print_table(kind, name, rows):

@@ -7,13 +7,17 @@ mod bellpulsar;
 use bellpulsar::*;
 use std::fs::read_to_string;
 
-/// The rows of this name, of which there are at least so many.
+/// The rows of this name, of which there are at least so many. A negative number stands as its 32 bits.
 fn rows(name: &str, least: usize) -> Vec<Vec<u32>> {
     let text = read_to_string("build/rust/rows.txt").expect("rows.txt, which run.sh writes");
+    let number = |word: &str| match word.strip_prefix('-') {
+        None => word.parse::<u32>().unwrap(),
+        Some(_) => word.parse::<i32>().unwrap() as u32,
+    };
     let rows: Vec<Vec<u32>> = text
         .lines()
         .filter_map(|line| line.strip_prefix(name)?.strip_prefix(' '))
-        .map(|line| line.split(' ').map(|word| word.parse().unwrap()).collect())
+        .map(|line| line.split(' ').map(number).collect())
         .collect();
     assert!(rows.len() >= least, "{} rows of {name}", rows.len());
     rows
@@ -91,6 +95,7 @@ fn place_agrees() {
                 index,
             },
         );
+        let carrier = carrier as i32;
         assert_eq!(
             placed,
             expected(refusal, Place { symbol, carrier }),
@@ -112,7 +117,7 @@ fn lengths_agree() {
 
 #[test]
 fn locate_agrees() {
-    for row in rows("locate", 15000) {
+    for row in rows("locate", 16000) {
         let [mode, size, cell, symbol, carrier, refusal, kind, slot, subchannel, index] = row[..]
         else {
             panic!("{row:?}")
@@ -127,6 +132,7 @@ fn locate_agrees() {
                 index,
             }),
         };
+        let carrier = carrier as i32;
         let located = locate(Setup { mode, size, cell }, Place { symbol, carrier });
         assert_eq!(located, expected(refusal, content), "{row:?}");
     }
@@ -230,9 +236,9 @@ fn numbers(seen: Seen) -> [u32; 6] {
 #[test]
 fn look_agrees() {
     let grids = grids();
-    for row in rows("look", 3600) {
+    for row in rows("look", 3800) {
         let Grid { setup, grid, .. } = &grids[row[0] as usize];
-        let seen = look(*setup, row[1], grid.at(), row[2]).map(numbers);
+        let seen = look(*setup, row[1], grid.at(), row[2] as i32).map(numbers);
         assert_eq!(
             seen.as_ref().map(|seen| &seen[..]),
             Ok(&row[3..]),
@@ -243,12 +249,13 @@ fn look_agrees() {
 
 #[test]
 fn look_refuses() {
-    for row in rows("unseen", 1300) {
+    for row in rows("unseen", 5500) {
         let [mode, size, cell, symbol, carrier, grid_len, refusal] = row[..] else {
             panic!("{row:?}")
         };
         let grid = Lent::spoiled(grid_len as usize);
-        let seen = look(Setup { mode, size, cell }, symbol, grid.at(), carrier).map(numbers);
+        let setup = Setup { mode, size, cell };
+        let seen = look(setup, symbol, grid.at(), carrier as i32).map(numbers);
         assert_eq!(seen, Err(Refusal(refusal)), "{row:?}");
     }
 }

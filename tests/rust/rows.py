@@ -14,7 +14,7 @@
     read      length bytes; refusal count size zones(24)
     write     length count size zones(24); refusal written, 48 bytes of which the first were lent
 
-What is not given by an answer stands as 0.
+What is not given by an answer stands as 0. Only carriers may be negative.
 """
 
 import os
@@ -57,17 +57,19 @@ def lengths_rows(dice, mode, size):
 
 def unseen_rows(dice, mode, size):
     symbols, grid = 512 * ref.SLOT_LENGTH[mode], ref.grid_floats(mode, size)
-    good = [mode, size, ref.cells(mode, size) - 1, symbols - 1, dice.randrange(size), grid]
-    length = wrong_length(dice, grid, 96 * ref.subchannels(mode, size))
-    for fields in wrong_sets(good, [ref.UNLISTED, 128, ref.cells(mode, size), symbols, size, length]):
-        yield fields + [ref.look_refusal(*fields[:4], fields[5], fields[4])]
+    for carrier in [edge for edge in table.carrier_edges(size) if edge not in ref.carriers(size)]:
+        good = [mode, size, ref.cells(mode, size) - 1, symbols - 1, dice.choice(ref.carriers(size)), grid]
+        length = wrong_length(dice, grid, 96 * ref.subchannels(mode, size))
+        for fields in wrong_sets(good, [ref.UNLISTED, 128, ref.cells(mode, size), symbols, carrier, length]):
+            yield fields + [ref.look_refusal(*fields[:4], fields[5], fields[4])]
 
 
 def look_rows(dice, number, mode, size, cell, slot, grid):
-    """Each offset of the slot: the edges of the band, DC, and others."""
+    """Each offset of the slot: the edges of the range and of the band, DC and both beside it, and others."""
     length = ref.SLOT_LENGTH[mode]
+    edges = [-size // 2, *ref.band(mode, size), -1, 0, 1, size // 2 - 1]
     for symbol in range(slot * length, (slot + 1) * length):
-        for carrier in [0, ref.left_guards(mode, size), size // 2, size - 1] + dice.sample(range(size), 60):
+        for carrier in edges + dice.sample(ref.carriers(size), 60):
             what = ref.look(mode, size, cell, symbol, grid, carrier)[1]
             told = list(what[1] if what[1:] else [0, 0]) + list(what[2:])
             yield [number, symbol, carrier, KINDS[what[0]]] + told + [0] * (5 - len(told))
