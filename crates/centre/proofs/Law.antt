@@ -65,11 +65,6 @@ module _ {a b : ℕ} (la : a ≤ 65536) (lb : b ≤ 65536) where
   pub difference-is : toZ w32 (ofZ w32 (toZ w32 a -ℤ toZ w32 b)) ≡ pos a -ℤ pos b
   difference-is = toZ-ofZ w32 _ difference-fits ∙ same
 
--- what the machine holds of a column's carrier is that carrier
-pub number-read : (size column : ℕ) → (size ≤ 65536) × (column < size) → toZ w32 (ofZ w32 (fromDc size column)) ≡ fromDc size column
-unfolding fromDc
-number-read size column few = toZ-ofZ w32 _ (record { sfits = omega (arith, difference-mag column (size / 2) .0) })
-
 pub in-range-mag : (size : ℕ) (z : ℤ) → inRange size z ≡ true → mag z < size / 2
 unfolding inRange
 in-range-mag size z e = around-mag (size / 2) z e
@@ -89,3 +84,8 @@ centre-law size even =
 -- so different columns have different carriers
 pub one-column : {size : ℕ} → CentreLaw size → (j k : ℕ) → fromDc size j ≡ fromDc size k → j ≡ k
 one-column {size} l j k e = sym (l .back j) ∙ ap (onRow size) e ∙ l .back k
+
+-- what the machine holds of a column's carrier is that carrier
+pub number-read : (size column : ℕ) → (size ≤ 65536) × (column < size) → toZ w32 (ofZ w32 (fromDc size column)) ≡ fromDc size column
+unfolding fromDc
+number-read size column few = toZ-ofZ w32 _ (record { sfits = omega (arith, difference-mag column (size / 2) .0) })
