@@ -1,7 +1,8 @@
 #!/bin/sh
 # Proves the engine and builds its C library: build/libbellpulsar.a, the shared build/libbellpulsar.so.VERSION, and
-# build/libbellpulsar.so, a link to it for -lbellpulsar. Nothing is done where they are made from what the tree has now: that
-# goes by content, whose hash is in build/stamp.
+# build/link/libbellpulsar.so, a link to it for -lbellpulsar. The link has a folder of its own, since a program from before
+# there were versions looks for that name in build, and must not find it. Nothing is done where they are made from what the
+# tree has now: that goes by content, whose hash is in build/stamp.
 #
 #     ./build.sh            builds what is missing or old; status 0, or 2 where that fails
 #     ./build.sh --check    builds nothing; status 0 where all are current, 1 where they are not
@@ -56,7 +57,7 @@ content() {
 }
 
 is_current() {
-    for made in libbellpulsar.a "$shared" libbellpulsar.so stamp; do
+    for made in libbellpulsar.a "$shared" link/libbellpulsar.so stamp; do
         [ -e "build/$made" ] || return 1
     done
     [ "$(cat build/stamp)" = "$(content)" ]
@@ -110,9 +111,10 @@ say "capi proved ($total of $total)"
 cp target/staticlib/libcapi.a "$new/libbellpulsar.a"
 ${CC:-cc} ${CFLAGS-} ${LDFLAGS-} -shared "-Wl,-soname,$shared" -o "$new/$shared" \
     -Wl,--whole-archive "$new/libbellpulsar.a" -Wl,--no-whole-archive
-ln -s "$shared" "$new/libbellpulsar.so"
+mkdir "$new/link"
+ln -s "../$shared" "$new/link/libbellpulsar.so"
 echo "$now" >"$new/stamp"
-rm -f build/stamp
-mv "$new/libbellpulsar.a" "$new/$shared" "$new/libbellpulsar.so" build
+rm -rf build/stamp build/link build/libbellpulsar.so
+mv "$new/libbellpulsar.a" "$new/$shared" "$new/link" build
 mv "$new/stamp" build
 rm -rf "$new"

@@ -12,7 +12,7 @@ import struct
 import subprocess
 
 ROOT = os.path.dirname(os.path.dirname(os.path.abspath(__file__)))
-LIBRARY = os.path.join(ROOT, "build", "libbellpulsar.so")
+LIBRARY = os.path.join(ROOT, "build", "link", "libbellpulsar.so")
 
 FIELD, CARRIER, LENGTH, POINTER = ctypes.c_uint32, ctypes.c_int32, ctypes.c_size_t, ctypes.c_void_p
 

@@ -248,7 +248,7 @@ class Versions(Case):
             self.header_with(line)
             self.assertEqual(self.build("--check").returncode, 1)
             self.is_made_anew()
-            self.assertEqual(os.readlink(self.path("build", "libbellpulsar.so")), name)
+            self.assertEqual(os.readlink(self.path("build", "link", "libbellpulsar.so")), "../" + name)
             self.stub("rt", FAILS)
             self.is_current()
 
@@ -260,7 +260,7 @@ class Versions(Case):
             self.assertEqual(told, ("bellpulsar: include/bellpulsar.h has no BP_VERSION\n", 2, []))
 
     def test_a_program_asks_for_its_version(self):
-        command = ["cc", "-I", "include", "examples/c/point.c", "-L", "build", "-lbellpulsar", "-o", "point"]
+        command = ["cc", "-I", "include", "examples/c/point.c", "-L", "build/link", "-lbellpulsar", "-o", "point"]
         self.assertEqual(self.run_in_tree(*command).stderr, "")
         done = self.run_in_tree("./point", *ASKED[1:], LD_LIBRARY_PATH="build")
         self.assertEqual((done.stdout.splitlines()[0] + "\n", done.returncode), (ANSWER, 0), done.stderr)
@@ -272,17 +272,25 @@ class Versions(Case):
         self.assertIn("%s: cannot open" % SHARED, done.stderr)
 
     def test_an_older_build(self):
-        """The library had no version in its name at first."""
-        os.remove(self.path("build", "libbellpulsar.so"))
-        os.rename(self.path("build", SHARED), self.path("build", "libbellpulsar.so"))
+        """The library had no version in its name at first: a program from then finds none."""
+        shutil.rmtree(self.path("build", "link"))
+        os.remove(self.path("build", SHARED))
+        archive = ["-Wl,--whole-archive", "build/libbellpulsar.a", "-Wl,--no-whole-archive"]
+        command = ["cc", "-shared", "-Wl,-soname,libbellpulsar.so", "-o", "build/libbellpulsar.so", *archive]
+        self.assertEqual(self.run_in_tree(*command).stderr, "")
+        command = ["cc", "-I", "include", "examples/c/point.c", "build/libbellpulsar.so", "-o", "point"]
+        self.assertEqual(self.run_in_tree(*command).stderr, "")
+        self.assertEqual(self.run_in_tree("./point", *ASKED[1:], LD_LIBRARY_PATH="build").returncode, 0)
         self.assertEqual(self.build("--check").returncode, 1)
         done = self.imported()
         self.assertEqual((done.stdout, done.returncode), ("", 1))
         last = done.stderr.splitlines()[-1]
         self.assertRegex(last, "^ImportError: no Bellpulsar library at .*/%s: run ./build.sh" % SHARED)
         self.is_made_anew()
-        self.assertEqual(os.readlink(self.path("build", "libbellpulsar.so")), SHARED)
         self.assertEqual(self.imported().stdout, PLACED)
+        done = self.run_in_tree("./point", *ASKED[1:], LD_LIBRARY_PATH="build")
+        self.assertEqual((done.stdout, done.returncode), ("", 127))
+        self.assertIn("libbellpulsar.so: cannot open", done.stderr)
 
 
 class Callers(Case):
@@ -293,7 +301,7 @@ class Callers(Case):
         self.assertEqual((done.stdout, done.returncode), ("", 1))
         last = done.stderr.splitlines()[-1]
         self.assertRegex(last, "^ImportError: .*/%s is old: .*run ./build.sh" % SHARED)
-        named = self.imported(BELLPULSAR_LIBRARY=self.path("build", "libbellpulsar.so"))
+        named = self.imported(BELLPULSAR_LIBRARY=self.path("build", "link", "libbellpulsar.so"))
         self.assertEqual(named.stdout, PLACED)
 
     def test_the_command_line_builds(self):
@@ -387,12 +395,12 @@ class Building(Case):
         with open(self.path("crates", "plan_vectors", "stdout"), "w"):
             pass
         words = {"CC": "env mine", "CFLAGS": "-g -DA=1", "LDFLAGS": "-Wl,-z,now"}
-        for script, compiled in (("tests/capi/run.sh", 4), ("bench/run.sh", 1)):
+        for script, compiled in (("tests/capi/run.sh", 5), ("bench/run.sh", 1)):
             done = self.run_in_tree("sh", script, **words)
             self.assertEqual(done.returncode, 0, done.stderr)
             with open(self.path("words")) as file:
                 lines = [line for line in file if " -o " in line and "-x c++" not in line]
-            self.assertGreaterEqual(len(lines), compiled, script)
+            self.assertEqual(len(lines), compiled, script)
             for line in lines:
                 self.assertIn(" -g -DA=1 -Wl,-z,now ", line)
             os.remove(self.path("words"))

@@ -747,5 +747,5 @@ class Failures(Case):
 if __name__ == "__main__":
     subprocess.run([os.path.join(ROOT, "build.sh")], check=True)
     # This process need not ask at each call whether the library is current.
-    os.environ["BELLPULSAR_LIBRARY"] = os.path.join(ROOT, "build", "libbellpulsar.so")
+    os.environ["BELLPULSAR_LIBRARY"] = os.path.join(ROOT, "build", "link", "libbellpulsar.so")
     unittest.main()

@@ -905,7 +905,7 @@ class Loading(unittest.TestCase):
         self.assertEqual(imported_with("").stdout, "Place(symbol=0, carrier=-425)\n")
 
     def test_another_library_by_the_environment(self):
-        built = os.path.join(ROOT, "build", "libbellpulsar.so")
+        built = os.path.join(ROOT, "build", "link", "libbellpulsar.so")
         self.assertEqual(imported_with(built).stdout, "Place(symbol=0, carrier=-425)\n")
 
     def test_the_version_is_the_headers(self):

@@ -1,4 +1,5 @@
-//! Bellpulsar from Rust: the C interface of `include/bellpulsar.h` declared, and a safe wrapper over each of its calls.
+//! Bellpulsar from Rust: version 2 of the C interface, `include/bellpulsar.h`, declared, and a safe wrapper over each of its
+//! calls.
 //!
 //! Put this file beside your program, write `mod bellpulsar;`, and link the static library:
 //!

@@ -21,7 +21,7 @@ static complex_float points[192], back[192], grid[256];
 
 static float *floats(complex_float *numbers) { return (float *)numbers; }
 
-/* The calls that have a carrier by their whole types, of which a compiler takes no others: it is signed in each. */
+/* The calls that have a carrier, by their whole types: a compiler takes no other, so the carrier is signed in each. */
 static uint32_t (*const place)(uint32_t, uint32_t, uint32_t, uint32_t, uint32_t, uint32_t, uint32_t *, int32_t *) = bp_place;
 static uint32_t (*const locate)(uint32_t, uint32_t, uint32_t, uint32_t, int32_t, uint32_t *, uint32_t *, uint32_t *,
                                 uint32_t *) = bp_locate;

@@ -1,7 +1,7 @@
 -- THE LAW OF THE CENTRE holds at every even size, where as many carriers lie below DC as from DC on.
 use mathlib.Core.Path.{_≡_, refl, sym, ap, _∙_}
 use mathlib.Core.Bool.{Bool, true, false}
-use Prim.Native.Nat.{ℕ, zero, suc, _+_, _-_, _*_, _/_, _≤_, _<_}
+use Prim.Native.Nat.{ℕ, zero, suc, _+_, _*_, _/_, _≤_, _<_}
 use native.Mathlib.Omega.{arith}
 use lib.Dec.{T, ltb}
 use lib.IntN.{ℤ, pos, negsuc, negℤ, natAbs, _+ℤ_, _-ℤ_, +ℤ-invr, -ℤ-+ℤ-cancel, +ℤ-negℤ-cancel}
@@ -65,9 +65,9 @@ module _ {a b : ℕ} (la : a ≤ 65536) (lb : b ≤ 65536) where
   pub difference-is : toZ w32 (ofZ w32 (toZ w32 a -ℤ toZ w32 b)) ≡ pos a -ℤ pos b
   difference-is = toZ-ofZ w32 _ difference-fits ∙ same
 
-pub in-range-mag : (size : ℕ) (z : ℤ) → inRange size z ≡ true → mag z < size / 2
-unfolding inRange
-in-range-mag size z e = around-mag (size / 2) z e
+  -- also where the first is a literal
+  pub literal-fits : SFits w32 (pos a -ℤ toZ w32 b)
+  literal-fits = rw (toZ-pos w32 a (omega arith)) at difference-fits
 
 pub centre-law : (size : ℕ) → 2 * (size / 2) ≡ size → CentreLaw size
 unfolding inRange fromDc onRow
@@ -80,6 +80,10 @@ centre-law size even =
       column-lt = λ z e. omega (arith, sum-nonNeg z h (around-mag h z e) .1);
       forth = λ z e. ap (λ (x : ℤ). x -ℤ pos h) (pos-natAbs (z +ℤ pos h) (sum-nonNeg z h (around-mag h z e) .0)) ∙ +ℤ-negℤ-cancel z (pos h);
     }
+
+pub in-range-mag : (size : ℕ) (z : ℤ) → inRange size z ≡ true → mag z < size / 2
+unfolding inRange
+in-range-mag size z e = around-mag (size / 2) z e
 
 -- so different columns have different carriers
 pub one-column : {size : ℕ} → CentreLaw size → (j k : ℕ) → fromDc size j ≡ fromDc size k → j ≡ k

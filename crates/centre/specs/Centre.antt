@@ -5,7 +5,7 @@ use lib.IntN.{ℤ, pos, negℤ, natAbs, _+ℤ_, _-ℤ_}
 use lib.Signed.{ltZ}
 use Rattle.base.specs.Choice.{pick}
 
--- The place becomes a signed offset, with DC at 0. In every mode DC stands in column size/2.
+-- the number of the carrier in a column; DC, which in every mode stands in column size/2, is at 0
 unfoldable pub fromDc : (size column : ℕ) → ℤ
 fromDc size column = pos column -ℤ pos (size / 2)
 

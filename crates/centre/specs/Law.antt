@@ -1,4 +1,4 @@
--- What is claimed of the numbers counted from DC: the columns of a row and the carriers in range are the same, one for one. Its proof is `centre-law`.
+-- What is claimed of the numbers counted from DC: the columns of a row and the carriers in range are the same, one for one. Its proof, at every even size, is `centre-law`.
 use mathlib.Core.Path.{_≡_}
 use mathlib.Core.Bool.{true}
 use Prim.Native.Nat.{ℕ, _/_, _<_}

@@ -1,4 +1,4 @@
--- Document 01, "Known points": the starred lines, in its order, as one statement. A line's number is its place among the eleven. What document 02 adds stands behind the line that it belongs to. Its wish 3: carriers are restated less half the size, so document 01's own number stands in the comment. Its proof is `known`.
+-- Document 01, "Known points": the starred lines, in its order, as one statement. A line's number is its place among the eleven. What document 02 adds stands behind the line that it belongs to; by its wish 3 carriers are restated less half the size, and a line's comment has document 01's own number. The proof is `known`.
 use mathlib.Core.Path.{_≡_}
 use mathlib.Core.Bool.{Bool, true, false}
 use mathlib.Core.List.{List, [], _∷_}

@@ -1,6 +1,6 @@
 -- What specs/Law.antt claims of the map holds.
 use mathlib.Core.Path.{_≡_, sym, ap, _∙_, subst}
-use mathlib.Core.Bool.{true, false}
+use mathlib.Core.Bool.{false}
 use Prim.Native.Nat.{ℕ, _+_, _*_, _/_, _<_}
 use native.Mathlib.Omega.{arith}
 use lib.Arith.{digits-div, digits-lt}
@@ -8,14 +8,13 @@ use lib.IntN.{ℤ, pos}
 use Rattle.base.specs.Answer.{accepted}
 use Rattle.carriers.specs.Band.{carrierOf, usedOf}
 use Rattle.carriers.proofs.Guards.{carrier-lt, carrier-no-guard, carrier-no-dc, used-carrier}
-use Rattle.centre.specs.Centre.{onRow}
 use Rattle.map.specs.declared.Setup.{Setup}
 use Rattle.map.specs.Mode.{symbols, band, isPilot, spotOf, addressOf}
-use Rattle.map.specs.Place.{Place, dc, pilot, usedCarrier, placeAt, placeOf, contentOf, locateOf}
+use Rattle.map.specs.Place.{Place, dc, usedCarrier, placeAt, placeOf, contentOf, locateOf}
 use Rattle.map.specs.Model.{Valid}
 use Rattle.map.specs.Law.{Passes, PlacedAt, HoldsData, JustOnePoint, MapLaw}
 use Rattle.map.proofs.Slot.{slot-law, band-law, centred}
-use Rattle.map.proofs.Law.{setup-asked, placing, place-accepts, locate-accepts, locate-column, located-where-placed, placed-where-located, one-address, in-own-slot, data-placed, dc-content, pilot-content}
+use Rattle.map.proofs.Law.{setup-asked, placing, place-accepts, locate-column, located-where-placed, placed-where-located, one-address, in-own-slot, data-placed, dc-content, pilot-content}
 
 passed : (setup : Setup) → Passes setup → Valid setup
 passed setup e = setup-asked setup _ e .0
@@ -84,5 +83,5 @@ map-law =
           locate-column setup y _ v hy (carrier-lt (band setup) (setup .size) (band-law v) u hu) ∙ ap accepted (pilot-content setup v y u hu p);
       dc-at-0 = λ setup y e hy. dc-there setup (passed setup e) y hy;
       place-accepts = λ setup slot s m e h₄ h₅ h₆. (placeAt setup slot (spotOf setup slot s m), place-accepts setup slot s m (passed setup e) h₄ h₅ h₆);
-      locate-accepts = λ setup y k e h₄ h₇. (contentOf setup y (onRow (setup .size) k), locate-accepts setup y k (passed setup e) h₄ h₇);
+      locate-accepts = λ setup y column e h₄ h. (contentOf setup y column, locate-column setup y column (passed setup e) h₄ h);
     }

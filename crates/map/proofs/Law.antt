@@ -1,4 +1,4 @@
--- THE LAW OF THE MAP, for every mode, size and cell that the questions let pass. It rests on the law of a slot, and on no mode's text.
+-- THE LAW OF THE MAP, for every mode, size and cell that the questions let pass. It rests on the laws of `Slot`, and on no mode's text.
 use mathlib.Core.Path.{_≡_, refl, sym, ap, _∙_, subst}
 use mathlib.Core.Bool.{true, false}
 use Prim.Native.Nat.{ℕ, _+_, _-_, _*_, _/_, _%_, _<_}
@@ -15,9 +15,9 @@ use Rattle.carriers.specs.declared.Spot.{Spot}
 use Rattle.carriers.specs.declared.Address.{Address}
 use Rattle.carriers.specs.Band.{carrierOf, usedOf, isGuard, isDc}
 use Rattle.carriers.specs.Law.{PointOf}
+use Rattle.carriers.proofs.Guards.{carrier-lt, carrier-no-guard, carrier-no-dc, used-carrier, used-lt, carrier-used}
 use Rattle.centre.specs.Centre.{fromDc, inRange, onRow}
 use Rattle.centre.proofs.Law.{in-range-mag}
-use Rattle.carriers.proofs.Guards.{carrier-lt, carrier-no-guard, carrier-no-dc, used-carrier, used-lt, carrier-used}
 use Rattle.map.specs.declared.Setup.{Setup}
 use Rattle.map.specs.Mode.{subchannels, symbols, band, isPilot, spotOf, addressOf}
 use Rattle.map.specs.Question.{askSetup, isMode, isSize, isCell, isSlot, isSymbol, isSubchannel, isIndex, isCarrier, askCarrier}
@@ -133,7 +133,7 @@ module _ (c : Setup) (v : Valid c) (slot s m : ℕ) (hs : s < subchannels c) (hm
         digits-div slot (h .offset-lt),
       )
 
--- a data carrier's point is placed there
+-- the point of a data column is placed there
 module _ (c : Setup) (v : Valid c) (y k : ℕ)
     (g : isGuard (band c) (c .size) k ≡ false) (d : isDc (band c) k ≡ false) (np : isPilot c y (usedOf (band c) k) ≡ false) where
   abbrev u : ℕ
@@ -177,7 +177,7 @@ located-where-placed c slot s m {p} e =
     (carrier-lt (band c) (c .size) (band-law (q .is-valid)) (spotOf c slot s m .used) (h .used-lt))
     ∙ ap accepted (content-placed c (q .is-valid) slot s m (q .subchannel-lt) (q .index-lt))
 
--- a carrier that holds a point is no guard, not DC and no pilot
+-- a column that holds a point is no guard, not DC and no pilot
 point-carrier : (c : Setup) (y k : ℕ) {slot s m : ℕ} → contentOf c y k ≡ point slot s m
     → (isGuard (band c) (c .size) k ≡ false) × (isDc (band c) k ≡ false) × (isPilot c y (usedOf (band c) k) ≡ false)
 unfolding contentOf

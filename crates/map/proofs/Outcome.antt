@@ -95,7 +95,7 @@ module _ (c : Setup) (y : ℕ) (k : ℤ) where
             h ∙ ap (λ (x : ℕ). accepted (contentOf c y x)) (f ∙ ap (onRow (c .size)) (toZ-ofZ w32 k fits))
             ∙ sym (locate-accepts c y k v (subst (λ (x : ℕ). y < 512 * x) e l) (sym asked ∙ not-false _ yes′))
 
--- the answers of a carrier of an accepted symbol, test by test
+-- the answers of a column of an accepted symbol's row, test by test
 module _ (c : Setup) (y k : ℕ) (b : Band) (e : b ≡ band c) where
   pub content-guard : (g : Bool) → g ≡ isGuard b (c .size) k → g ≡ true → accepted guard ≡ accepted (contentOf c y k)
   unfolding contentOf

@@ -4,10 +4,11 @@ use mathlib.Core.Bool.{false, true}
 use mathlib.Core.Logic.{_↔_}
 use Prim.Native.Nat.{ℕ, _+_, _*_, _/_, _<_}
 use lib.IntN.{ℤ, pos}
-use Rattle.base.specs.Answer.{Answer, accepted}
+use Rattle.base.specs.Answer.{accepted}
+use Rattle.centre.specs.Centre.{fromDc}
 use Rattle.map.specs.declared.Setup.{Setup}
 use Rattle.map.specs.Mode.{subchannels, symbols, band, isPilot}
-use Rattle.map.specs.Question.{askSetup, isCarrier}
+use Rattle.map.specs.Question.{askSetup}
 use Rattle.map.specs.Place.{Place, Content, dc, pilot, point, usedCarrier, placeOf, locateOf}
 
 -- questions 1, 2 and 3 let the setup pass
@@ -53,8 +54,8 @@ pub record MapLaw : Type 0 where
       → locateOf setup symbol (usedCarrier setup used) ≡ accepted pilot
   -- Document 02, wish 3: DC is at 0, in every mode.
   pub dc-at-0 : (setup : Setup) (symbol : ℕ) → Passes setup → symbol < 512 * symbols setup → locateOf setup symbol (pos 0) ≡ accepted dc
-  -- Fields in range are accepted, so that none of this is empty.
+  -- Fields in range, and the carrier of every column, are accepted, so that none of this is empty.
   pub place-accepts : (setup : Setup) (slot subchannel index : ℕ) → Passes setup → slot < 512 → subchannel < subchannels setup → index < 48
       → (p : Place) × (placeOf setup slot subchannel index ≡ accepted p)
-  pub locate-accepts : (setup : Setup) (symbol : ℕ) (carrier : ℤ) → Passes setup → symbol < 512 * symbols setup → isCarrier setup carrier ≡ true
-      → (w : Content) × (locateOf setup symbol carrier ≡ accepted w)
+  pub locate-accepts : (setup : Setup) (symbol column : ℕ) → Passes setup → symbol < 512 * symbols setup → column < setup .size
+      → (w : Content) × (locateOf setup symbol (fromDc (setup .size) column) ≡ accepted w)

@@ -57,9 +57,9 @@ fn answer(operation: u8, fields: [usize; 64]) {
 }
 
 // A number with its sign; one that 32 bits do not hold is the nearest that they do.
-fn signed(negative: bool, size: usize) -> i32 {
-    if size <= 2147483647 {
-        let k = size as i32;
+fn signed(negative: bool, number: usize) -> i32 {
+    if number <= 2147483647 {
+        let k = number as i32;
         if negative {
             return -k;
         }
@@ -80,7 +80,7 @@ fn points(setup: Setup, slot: usize, subchannel: usize, first: usize, n: usize) 
     }
 }
 
-// As many of them as there are.
+// n carriers from the first on, as far as 32 bits hold them.
 fn carriers(setup: Setup, symbol: usize, first: i32, n: usize) {
     let mut carrier = first;
     let mut i = 0;

@@ -1,7 +1,7 @@
 -- `centre::in_range` meets its contract.
 use mathlib.Core.Path.{_≡_, sym, _∙_}
 use mathlib.Core.Bool.{Bool}
-use Prim.Native.Nat.{_/_}
+use Prim.Native.Nat.{_/_, _≤_}
 use native.Mathlib.Omega.{arith}
 use lib.IntN.{pos, negℤ, _-ℤ_, +ℤ-idl}
 use lib.Signed.{ltZ}
@@ -10,12 +10,12 @@ use mir.Val.{toZ, ofZ}
 use mir.ValLaws.{toZ-pos, toZ-ofZ}
 use borrow.Author.Needs.{needs}
 use Rattle.centre.specs.Centre.{inRange}
-use Rattle.centre.proofs.Law.{difference-fits, difference-is}
+use Rattle.centre.proofs.Law.{difference-is, literal-fits}
 use Rattle.centre.proofs.in_range.Statement.{statement}
 use Rattle.centre.proofs.in_range.Tie as tie
 
 sub-if1 : tie.Need-sub-if1
-sub-if1 c = difference-fits {a = 0} {b = c .args .size / 2} (omega arith) (omega arith)
+sub-if1 c = let half-few : c .args .size / 2 ≤ 65536 = omega arith in search (literal-fits, needs)
 
 -- the first test is of the numbers themselves
 below : (c : tie.Start) (t : Bool) → ltZ (toZ w32 (ofZ w32 (c .args .carrier))) (toZ w32 (ofZ w32 (pos 0 -ℤ toZ w32 (c .args .size / 2)))) ≡ t
