@@ -214,7 +214,7 @@ class Current(Case):
         self.is_made_anew()
         os.remove(extra)
         self.is_made_anew()
-        for name in ("libbellpulsar.a", "libbellpulsar.so", SHARED):
+        for name in ("libbellpulsar.a", "link/libbellpulsar.so", SHARED):
             os.remove(self.path("build", name))
             self.is_made_anew()
 
