@@ -1,7 +1,7 @@
 /* Bellpulsar: the subcarrier map of IEEE 802.16e OFDMA, proved.
  *
- * Link with libbellpulsar.a or the shared libbellpulsar.so.2; nothing else is needed but the C library. The engine keeps no state, so
- * calls may run side by side on different buffers.
+ * Link with libbellpulsar.a or the shared libbellpulsar.so.2; nothing else is needed but the C library. The engine keeps no
+ * state, so calls may run side by side on different buffers.
  *
  * ANSWERS. Every call but bp_points_len and bp_grid_len returns 0, or the number of the first question of document 01 that is
  * answered no (enum bp_refusal). The questions are put in the order in which a call lists its refusals, each only after a yes

@@ -38,29 +38,32 @@ mag-around (suc h) (pos n) l = lt-ltb n (suc h) l
 mag-around (suc h) (negsuc n) l = rw (le-ltb h n (omega arith))
 
 -- differences and sums are no larger than their parts
-difference-mag : (k h : ℕ) → (mag (pos k -ℤ pos h) ≤ k + h) × (k < 2 * h → mag (pos k -ℤ pos h) < h)
-difference-mag k zero = (omega arith, λ l. absurd (omega arith))
-difference-mag k (suc h) =
-    cases (ltb k (suc h))
-    (λ t. rw t (omega (arith, ltb-true k (suc h) t), λ l. omega (arith, ltb-true k (suc h) t)))
-    (λ t. rw t (omega arith, λ l. omega arith))
+difference-mag : (limit k h : ℕ) → k ≤ limit → h ≤ limit → mag (pos k -ℤ pos h) ≤ limit
+difference-mag limit k zero a b = omega arith
+difference-mag limit k (suc h) a b = cases (ltb k (suc h)) (λ t. rw t (omega arith)) (λ t. rw t (omega arith))
 
 pub sum-mag : (z : ℤ) (h : ℕ) → mag (z +ℤ pos h) ≤ mag z + h
 sum-mag (pos n) h = omega arith
 sum-mag (negsuc n) h = cases (ltb h (suc n)) (λ t. rw t (omega arith)) (λ t. rw t (omega arith))
+
+-- a column below 2h is at most h away from column h, and nearer above it
+column-mag : (k h : ℕ) → k < 2 * h → mag (pos k -ℤ pos h) < h
+column-mag k zero l = absurd (omega arith)
+column-mag k (suc h) l =
+    cases (ltb k (suc h)) (λ t. rw t (omega (arith, ltb-true k (suc h) t))) (λ t. rw t (omega arith))
 
 -- a number from -h on is not negative together with h
 pub sum-nonNeg : (z : ℤ) (h : ℕ) → mag z < h → T (nonNeg (z +ℤ pos h)) × (natAbs (z +ℤ pos h) < 2 * h)
 sum-nonNeg (pos n) h l = (tt, omega arith)
 sum-nonNeg (negsuc n) h l = rw (le-ltb h (suc n) (omega arith)) (tt, omega arith)
 
--- the machine's difference of two small numbers is their difference
-module _ {a b : ℕ} (la : a ≤ 65536) (lb : b ≤ 65536) where
+-- the machine's difference of two numbers, none of them negative, is their difference
+module _ {a b : ℕ} (la : a ≤ 2147483647) (lb : b ≤ 2147483647) where
   same : toZ w32 a -ℤ toZ w32 b ≡ pos a -ℤ pos b
   same = rw (toZ-pos w32 a (omega arith), toZ-pos w32 b (omega arith))
 
   pub difference-fits : SFits w32 (toZ w32 a -ℤ toZ w32 b)
-  difference-fits = rw same (record { sfits = omega (arith, difference-mag a b .0) })
+  difference-fits = rw same (record { sfits = omega (arith, difference-mag 2147483647 a b la lb) })
 
   pub difference-is : toZ w32 (ofZ w32 (toZ w32 a -ℤ toZ w32 b)) ≡ pos a -ℤ pos b
   difference-is = toZ-ofZ w32 _ difference-fits ∙ same
@@ -75,7 +78,7 @@ centre-law size even =
     let h = size / 2 in
     record {
       middle = +ℤ-invr (pos h);
-      in-range = λ k l. mag-around h (pos k -ℤ pos h) (difference-mag k h .1 (omega arith));
+      in-range = λ k l. mag-around h (pos k -ℤ pos h) (column-mag k h (omega arith));
       back = λ k. ap natAbs (-ℤ-+ℤ-cancel (pos k) (pos h));
       column-lt = λ z e. omega (arith, sum-nonNeg z h (around-mag h z e) .1);
       forth = λ z e. ap (λ (x : ℤ). x -ℤ pos h) (pos-natAbs (z +ℤ pos h) (sum-nonNeg z h (around-mag h z e) .0)) ∙ +ℤ-negℤ-cancel z (pos h);
@@ -92,4 +95,4 @@ one-column {size} l j k e = sym (l .back j) ∙ ap (onRow size) e ∙ l .back k
 -- what the machine holds of a column's carrier is that carrier
 pub number-read : (size column : ℕ) → (size ≤ 65536) × (column < size) → toZ w32 (ofZ w32 (fromDc size column)) ≡ fromDc size column
 unfolding fromDc
-number-read size column few = toZ-ofZ w32 _ (record { sfits = omega (arith, difference-mag column (size / 2) .0) })
+number-read size column few = toZ-ofZ w32 _ (record { sfits = omega (arith, difference-mag 65536 column (size / 2) (omega arith) (omega arith)) })

@@ -1,14 +1,14 @@
 -- Signed numbers of the vectors: the next carrier, and a carrier as a sign and a number.
 use mathlib.Core.Path.{_≡_, _∙_}
 use mathlib.Core.Bool.{true, false}
-use Prim.Native.Nat.{ℕ, zero, suc, _≤_, _<_}
+use Prim.Native.Nat.{ℕ, zero, suc, _<_}
 use native.Mathlib.Omega.{arith}
 use lib.Dec.{T, ltb}
 use lib.IntN.{ℤ, pos, negsuc, negℤ, natAbs, _+ℤ_, _-ℤ_, +ℤ-idl}
 use lib.Signed.{ltZ, mag, nonNeg}
 use mir.Syntax.{w32, w64}
 use mir.Val.{Fits, SFits, toZ, ofZ}
-use mir.ValLaws.{toZ-pos, toZ-ofZ}
+use mir.ValLaws.{toZ-ofZ}
 use borrow.Author.Tests.{ltb-true, ltb-false}
 use Rattle.base.proofs.Test.{cases, true-false}
 
@@ -22,14 +22,6 @@ next-fits n e = by-sign (toZ w32 n) read-mag e
     by-sign : (z : ℤ) → mag z < 2147483648 → ltZ z (pos 2147483647) ≡ true → SFits w32 (z +ℤ pos 1)
     by-sign (pos m) h l = record { sfits = omega (arith, ltb-true m 2147483647 l) }
     by-sign (negsuc m) h l = record { sfits = cases (ltb 1 (suc m)) (λ t. rw t (omega arith)) (λ t. rw t (omega arith)) }
-
--- the opposite of a number
-pub opposite-fits : (n : ℕ) → n ≤ 2147483647 → SFits w32 (pos 0 -ℤ toZ w32 n)
-opposite-fits n h = rw (toZ-pos w32 n (omega arith), +ℤ-idl) (record { sfits = small n h })
-  where
-    small : (n : ℕ) → n ≤ 2147483647 → mag (negℤ (pos n)) < 2147483648
-    small zero h = omega arith
-    small (suc n) h = omega arith
 
 -- a carrier in 64 bits, which hold its opposite too
 module _ (z : ℤ) (f : SFits w32 z) where

@@ -9,8 +9,8 @@ use Rattle.centre.proofs.from_dc.Tie as tie
 
 sub-result : tie.Need-sub-result
 sub-result c =
-    let column-few : c .args .column ≤ 65536 = omega arith in
-    let half-few : c .args .size / 2 ≤ 65536 = omega arith in
+    let column-few : c .args .column ≤ 2147483647 = omega arith in
+    let half-few : c .args .size / 2 ≤ 2147483647 = omega arith in
     search (difference-fits, needs)
 
 returns : tie.Need-returns

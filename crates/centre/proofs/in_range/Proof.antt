@@ -15,7 +15,7 @@ use Rattle.centre.proofs.in_range.Statement.{statement}
 use Rattle.centre.proofs.in_range.Tie as tie
 
 sub-if1 : tie.Need-sub-if1
-sub-if1 c = let half-few : c .args .size / 2 ≤ 65536 = omega arith in search (literal-fits, needs)
+sub-if1 c = let half-few : c .args .size / 2 ≤ 2147483647 = omega arith in search (literal-fits, needs)
 
 -- the first test is of the numbers themselves
 below : (c : tie.Start) (t : Bool) → ltZ (toZ w32 (ofZ w32 (c .args .carrier))) (toZ w32 (ofZ w32 (pos 0 -ℤ toZ w32 (c .args .size / 2)))) ≡ t
