@@ -20,5 +20,5 @@ module _ (setup : Setup) (symbol : ℕ) (grid : List Float) (carrier : ℤ) (r :
   seen-small p slot s m h = point-small setup symbol carrier slot s m (look-point setup symbol carrier grid p slot s m (sym (ap seen h) ∙ e))
 
   -- the outcome of a variant v is that of the call where the answer is v
-  pub seen-out : (j : ℤ) → carrier ≡ j → (kind : ℕ) (pair : List Float) (slot s m : ℕ) (v : Seen) → r ≡ v → lookOut (seen v) kind pair slot s m ≡ lookOut (lookOf setup symbol grid j) kind pair slot s m
-  seen-out j same kind pair slot s m v h = ap (λ (a : Answer Sight). lookOut a kind pair slot s m) (sym (ap seen h) ∙ e ∙ ap (lookOf setup symbol grid) same)
+  pub seen-out : (kind : ℕ) (pair : List Float) (slot s m : ℕ) (v : Seen) → r ≡ v → lookOut (seen v) kind pair slot s m ≡ lookOut (lookOf setup symbol grid carrier) kind pair slot s m
+  seen-out kind pair slot s m v h = ap (λ (a : Answer Sight). lookOut a kind pair slot s m) (sym (ap seen h) ∙ e)

@@ -23,10 +23,9 @@ module _ (c : Setup) (slot s m : ℕ) (r : Placed) (e : placed r ≡ placeOf c s
   pub placed-out : (symbol : ℕ) (carrier : ℤ) (v : Placed) → r ≡ v → placeOut (placed v) symbol carrier ≡ placeOut (placeOf c slot s m) symbol carrier
   placed-out symbol carrier v h = ap (λ (a : Answer Place). placeOut a symbol carrier) (sym (ap placed h) ∙ e)
 
--- asked about k, which is the carrier
 module _ (c : Setup) (y : ℕ) (k : ℤ) (r : Located) (e : located r ≡ locateOf c y k) where
   pub data-small : (slot s m : ℕ) → r ≡ Data slot s m → (slot < 512) × (s < 192) × (m < 48)
   data-small slot s m h = point-small c y k slot s m (sym e ∙ ap located h)
 
-  pub located-out : (carrier : ℤ) → k ≡ carrier → (kind slot s m : ℕ) (v : Located) → r ≡ v → locateOut (located v) kind slot s m ≡ locateOut (locateOf c y carrier) kind slot s m
-  located-out carrier same kind slot s m v h = ap (λ (a : Answer Content). locateOut a kind slot s m) (sym (ap located h) ∙ e ∙ ap (locateOf c y) same)
+  pub located-out : (kind slot s m : ℕ) (v : Located) → r ≡ v → locateOut (located v) kind slot s m ≡ locateOut (locateOf c y k) kind slot s m
+  located-out kind slot s m v h = ap (λ (a : Answer Content). locateOut a kind slot s m) (sym (ap located h) ∙ e)
