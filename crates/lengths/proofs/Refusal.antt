@@ -1,20 +1,20 @@
--- What the questions of fill and empty come to.
+-- What the questions of ground, lay and empty come to.
 use mathlib.Core.Path.{_≡_, refl, sym, ap, _∙_}
 use Prim.Native.Nat.{ℕ, _*_, _<_, _≤_}
 use native.Mathlib.Nat.{mul-le-mul}
 use native.Mathlib.Omega.{arith}
 use borrow.Author.Tests.{lt-ltb, le-ltb, eq-eqb, ne-eqb, ltb-true, eqb-true}
-use Rattle.base.specs.Answer.{Answer, refused, refusalOf}
-use Rattle.base.proofs.Chain.{numbered, no-first, no-question, question, number-yes}
+use Rattle.base.specs.Answer.{Answer, accepted, refused, refusalOf}
+use Rattle.base.proofs.Chain.{numbered, no-first, Numbered, no-question, question, number-yes}
 use Rattle.map.specs.declared.Setup.{Setup}
 use Rattle.map.specs.Mode.{subchannels, symbols}
-use Rattle.map.specs.Question.{isMode, isSize, isCell, isSlot}
+use Rattle.map.specs.Question.{isMode, isSize, isCell, isSlot, isSubchannel}
 use Rattle.map.specs.Model.{setupRefusal, Valid}
 use Rattle.map.proofs.Accept.{valid, passes, refused-number}
 use Rattle.map.proofs.ByMode.{few}
 use Rattle.lengths.specs.Length.{gridPoints}
-use Rattle.lengths.specs.Question.{arePoints, isGrid, askSlot}
-use Rattle.lengths.specs.Model.{slotRefusal}
+use Rattle.lengths.specs.Question.{arePoints, areOnesPoints, isGrid, askSlot, askGround, askLay, askEmpty}
+use Rattle.lengths.specs.Model.{slotRefusal, groundRefusal, layRefusal, emptyRefusal}
 
 -- a slot's grid is small
 pub grid-few : {setup : Setup} → Valid setup → gridPoints setup ≤ 12288
@@ -25,65 +25,164 @@ pub grid-is : {setup : Setup} → Valid setup → (n : ℕ) → n ≡ symbols se
 unfolding gridPoints
 grid-is v n e = let few = grid-few v in rw e (refl, omega arith)
 
-module _ (setup : Setup) (slot points grid : ℕ) where
-  -- question by question
-  pub slot-setup : (k : ℕ) → k ≡ setupRefusal setup → (k ≡ 0 → ⊥) → k ≡ slotRefusal setup slot points grid
+-- ---- the first four questions, before whatever follows them
+
+module _ (setup : Setup) (slot : ℕ) where
+  pub slot-setup : (k : ℕ) → k ≡ setupRefusal setup → (k ≡ 0 → ⊥) → k ≡ slotRefusal setup slot
   unfolding slotRefusal
   slot-setup k e ne = e ∙ sym (ap refusalOf (refused-number setup _ (λ z. ne (e ∙ z))))
 
-  pub slot-4 : Valid setup → 512 ≤ slot → 4 ≡ slotRefusal setup slot points grid
+  pub slot-4 : Valid setup → 512 ≤ slot → 4 ≡ slotRefusal setup slot
   unfolding slotRefusal isSlot
   slot-4 v h = rw (le-ltb slot 512 h) (sym (ap refusalOf (passes v)))
 
-  module _ (v : Valid setup) (h : slot < 512) (n : ℕ) (e : n ≡ subchannels setup) where
-    pub slot-8 : (points ≡ 96 * n → ⊥) → 8 ≡ slotRefusal setup slot points grid
-    unfolding slotRefusal isSlot arePoints
-    slot-8 ne = rw (lt-ltb slot 512 h, ← e, ne-eqb points (96 * n) ne) (sym (ap refusalOf (passes v)))
+  slot-passes : {A : Type 0} {rest : Answer A} → Valid setup → slot < 512 → askSlot setup slot rest ≡ rest
+  unfolding isSlot
+  slot-passes v h = passes v ∙ rw (lt-ltb slot 512 h)
 
-    module _ (p : points ≡ 96 * n) (g : ℕ) (f : g ≡ gridPoints setup) where
-      pub slot-9 : (grid ≡ 2 * g → ⊥) → 9 ≡ slotRefusal setup slot points grid
-      unfolding slotRefusal isSlot arePoints isGrid
-      slot-9 ne = rw (lt-ltb slot 512 h, ← e, eq-eqb points (96 * n) p, ← f, ne-eqb grid (2 * g) ne) (sym (ap refusalOf (passes v)))
-
-      pub slot-0 : grid ≡ 2 * g → 0 ≡ slotRefusal setup slot points grid
-      unfolding slotRefusal isSlot arePoints isGrid
-      slot-0 l = rw (lt-ltb slot 512 h, ← e, eq-eqb points (96 * n) p, ← f, eq-eqb grid (2 * g) l) (sym (ap refusalOf (passes v)))
-
-  -- the whole chain
-  pub slot-numbered : {A : Type 0} (rest : Answer A) → askSlot setup slot points grid rest ≡ numbered (slotRefusal setup slot points grid) rest
+  pub slot-0 : Valid setup → slot < 512 → 0 ≡ slotRefusal setup slot
   unfolding slotRefusal
-  slot-numbered rest =
-      question (isMode setup) 0 (question (isSize setup) 1 (question (isCell setup) 2
-      (question (isSlot slot) 3 (question (arePoints setup points) 7 (question (isGrid setup grid) 8 no-question))))) .is
+  slot-0 v h = sym (ap refusalOf (slot-passes {rest = accepted tt} v h))
 
-  -- a number other than 0 is the refusal, whatever would have come after
-  pub slot-refused : {A : Type 0} (rest : Answer A) (k : ℕ) → k ≡ slotRefusal setup slot points grid → (k ≡ 0 → ⊥) → askSlot setup slot points grid rest ≡ refused k
-  slot-refused rest k e ne = slot-numbered rest ∙ rw (← e) (no-first k rest ne)
+  before : {A : Type 0} {chain rest : Answer A} {alone : Answer (Unit {0})} → Numbered chain rest alone → Numbered (askSlot setup slot chain) rest (askSlot setup slot alone)
+  before n = question (isMode setup) 0 (question (isSize setup) 1 (question (isCell setup) 2 (question (isSlot slot) 3 n)))
+
+  -- where one of them is answered no, its number is that of the whole chain
+  pub slot-no : (rest : Answer (Unit {0})) (k : ℕ) → k ≡ slotRefusal setup slot → (k ≡ 0 → ⊥) → k ≡ refusalOf (askSlot setup slot rest)
+  unfolding slotRefusal
+  slot-no rest k e ne =
+      let first : askSlot setup slot rest ≡ refused k = before {rest = rest} no-question .is ∙ ap (λ (n : ℕ). numbered n rest) (sym e) ∙ no-first k rest ne in
+      sym (ap refusalOf first)
+
+  first-yes : (rest : Answer (Unit {0})) → refusalOf (askSlot setup slot rest) ≡ 0 → (Valid setup × (slot < 512)) × (refusalOf rest ≡ 0)
+  unfolding isSlot
+  first-yes rest z =
+      let q₁ = number-yes (isMode setup) 0 _ z in
+      let q₂ = number-yes (isSize setup) 1 _ (q₁ .1) in
+      let q₃ = number-yes (isCell setup) 2 _ (q₂ .1) in
+      let q₄ = number-yes (isSlot slot) 3 _ (q₃ .1) in
+      ((valid setup (q₁ .0) (q₂ .0) (q₃ .0), ltb-true slot 512 (q₄ .0)), q₄ .1)
+
+  module _ (k : ℕ) (e : k ≡ slotRefusal setup slot) (z : k ≡ 0) where
+    pub slot-valid : Valid setup
+    unfolding slotRefusal
+    slot-valid = first-yes (accepted tt) (sym e ∙ z) .0 .0
+
+    pub slot-below : slot < 512
+    unfolding slotRefusal
+    slot-below = first-yes (accepted tt) (sym e ∙ z) .0 .1
+
+-- ---- ground
 
 -- 0 is a request whose fields are all in range
-pub record SlotAccepted (setup : Setup) (slot points grid : ℕ) : Type 0 where
+pub record GroundAccepted (setup : Setup) (slot grid : ℕ) : Type 0 where
+  pub valid : Valid setup
+  pub slot-lt : slot < 512
+  pub grid-long : grid ≡ 2 * gridPoints setup
+
+module _ (setup : Setup) (slot grid : ℕ) where
+  module _ (v : Valid setup) (h : slot < 512) (g : ℕ) (f : g ≡ gridPoints setup) where
+    pub ground-9 : (grid ≡ 2 * g → ⊥) → 9 ≡ groundRefusal setup slot grid
+    unfolding groundRefusal isGrid
+    ground-9 ne = rw (← f, ne-eqb grid (2 * g) ne) (sym (ap refusalOf (slot-passes setup slot v h)))
+
+    pub ground-0 : grid ≡ 2 * g → 0 ≡ groundRefusal setup slot grid
+    unfolding groundRefusal isGrid
+    ground-0 l = rw (← f, eq-eqb grid (2 * g) l) (sym (ap refusalOf (slot-passes setup slot v h)))
+
+  pub ground-numbered : {A : Type 0} (rest : Answer A) → askGround setup slot grid rest ≡ numbered (groundRefusal setup slot grid) rest
+  unfolding groundRefusal
+  ground-numbered rest = before setup slot (question (isGrid setup grid) 8 no-question) .is
+
+  pub ground-accepted : (k : ℕ) → k ≡ groundRefusal setup slot grid → k ≡ 0 → GroundAccepted setup slot grid
+  unfolding groundRefusal isGrid
+  ground-accepted k e z =
+      let q = first-yes setup slot _ (sym e ∙ z) in
+      record { valid = q .0 .0; slot-lt = q .0 .1; grid-long = eqb-true grid (2 * gridPoints setup) (number-yes (isGrid setup grid) 8 _ (q .1) .0) }
+
+-- ---- lay
+
+pub record LayAccepted (setup : Setup) (slot subchannel points grid : ℕ) : Type 0 where
+  pub valid : Valid setup
+  pub slot-lt : slot < 512
+  pub subchannel-lt : subchannel < subchannels setup
+  pub points-long : points ≡ 96
+  pub grid-long : grid ≡ 2 * gridPoints setup
+
+module _ (setup : Setup) (slot subchannel points grid : ℕ) where
+  module _ (v : Valid setup) (h : slot < 512) (n : ℕ) (e : n ≡ subchannels setup) where
+    pub lay-5 : n ≤ subchannel → 5 ≡ layRefusal setup slot subchannel points grid
+    unfolding layRefusal isSubchannel
+    lay-5 l = rw (← e, le-ltb subchannel n l) (sym (ap refusalOf (slot-passes setup slot v h)))
+
+    module _ (l : subchannel < n) where
+      pub lay-8 : (points ≡ 96 → ⊥) → 8 ≡ layRefusal setup slot subchannel points grid
+      unfolding layRefusal isSubchannel areOnesPoints
+      lay-8 ne = rw (← e, lt-ltb subchannel n l, ne-eqb points 96 ne) (sym (ap refusalOf (slot-passes setup slot v h)))
+
+      module _ (p : points ≡ 96) (g : ℕ) (f : g ≡ gridPoints setup) where
+        pub lay-9 : (grid ≡ 2 * g → ⊥) → 9 ≡ layRefusal setup slot subchannel points grid
+        unfolding layRefusal isSubchannel areOnesPoints isGrid
+        lay-9 ne = rw (← e, lt-ltb subchannel n l, eq-eqb points 96 p, ← f, ne-eqb grid (2 * g) ne) (sym (ap refusalOf (slot-passes setup slot v h)))
+
+        pub lay-0 : grid ≡ 2 * g → 0 ≡ layRefusal setup slot subchannel points grid
+        unfolding layRefusal isSubchannel areOnesPoints isGrid
+        lay-0 i = rw (← e, lt-ltb subchannel n l, eq-eqb points 96 p, ← f, eq-eqb grid (2 * g) i) (sym (ap refusalOf (slot-passes setup slot v h)))
+
+  pub lay-numbered : {A : Type 0} (rest : Answer A) → askLay setup slot subchannel points grid rest ≡ numbered (layRefusal setup slot subchannel points grid) rest
+  unfolding layRefusal
+  lay-numbered rest =
+      before setup slot (question (isSubchannel setup subchannel) 4 (question (areOnesPoints points) 7 (question (isGrid setup grid) 8 no-question))) .is
+
+  pub lay-accepted : (k : ℕ) → k ≡ layRefusal setup slot subchannel points grid → k ≡ 0 → LayAccepted setup slot subchannel points grid
+  unfolding layRefusal isSubchannel areOnesPoints isGrid
+  lay-accepted k e z =
+      let q = first-yes setup slot _ (sym e ∙ z) in
+      let q₅ = number-yes (isSubchannel setup subchannel) 4 _ (q .1) in
+      let q₈ = number-yes (areOnesPoints points) 7 _ (q₅ .1) in
+      record {
+        valid = q .0 .0;
+        slot-lt = q .0 .1;
+        subchannel-lt = ltb-true subchannel (subchannels setup) (q₅ .0);
+        points-long = eqb-true points 96 (q₈ .0);
+        grid-long = eqb-true grid (2 * gridPoints setup) (number-yes (isGrid setup grid) 8 _ (q₈ .1) .0);
+      }
+
+-- ---- empty
+
+pub record EmptyAccepted (setup : Setup) (slot points grid : ℕ) : Type 0 where
   pub valid : Valid setup
   pub slot-lt : slot < 512
   pub points-long : points ≡ 96 * subchannels setup
   pub grid-long : grid ≡ 2 * gridPoints setup
 
-pub slot-accepted : (setup : Setup) (slot points grid k : ℕ) → k ≡ slotRefusal setup slot points grid → k ≡ 0 → SlotAccepted setup slot points grid
-unfolding slotRefusal isSlot arePoints isGrid
-slot-accepted setup slot points grid k e z =
-    let q₁ = number-yes (isMode setup) 0 _ (sym e ∙ z) in
-    let q₂ = number-yes (isSize setup) 1 _ (q₁ .1) in
-    let q₃ = number-yes (isCell setup) 2 _ (q₂ .1) in
-    let q₄ = number-yes (isSlot slot) 3 _ (q₃ .1) in
-    let q₈ = number-yes (arePoints setup points) 7 _ (q₄ .1) in
-    record {
-      valid = valid setup (q₁ .0) (q₂ .0) (q₃ .0);
-      slot-lt = ltb-true slot 512 (q₄ .0);
-      points-long = eqb-true points (96 * subchannels setup) (q₈ .0);
-      grid-long = eqb-true grid (2 * gridPoints setup) (number-yes (isGrid setup grid) 8 _ (q₈ .1) .0);
-    }
+module _ (setup : Setup) (slot points grid : ℕ) where
+  module _ (v : Valid setup) (h : slot < 512) (n : ℕ) (e : n ≡ subchannels setup) where
+    pub empty-8 : (points ≡ 96 * n → ⊥) → 8 ≡ emptyRefusal setup slot points grid
+    unfolding emptyRefusal arePoints
+    empty-8 ne = rw (← e, ne-eqb points (96 * n) ne) (sym (ap refusalOf (slot-passes setup slot v h)))
 
-pub slot-passes : {A : Type 0} {setup : Setup} {slot points grid : ℕ} {rest : Answer A} → SlotAccepted setup slot points grid → askSlot setup slot points grid rest ≡ rest
-unfolding isSlot arePoints isGrid
-slot-passes {setup = setup} {slot = slot} {points = points} {grid = grid} t =
-    passes (t .valid)
-    ∙ rw (lt-ltb slot 512 (t .slot-lt), eq-eqb points (96 * subchannels setup) (t .points-long), eq-eqb grid (2 * gridPoints setup) (t .grid-long))
+    module _ (p : points ≡ 96 * n) (g : ℕ) (f : g ≡ gridPoints setup) where
+      pub empty-9 : (grid ≡ 2 * g → ⊥) → 9 ≡ emptyRefusal setup slot points grid
+      unfolding emptyRefusal arePoints isGrid
+      empty-9 ne = rw (← e, eq-eqb points (96 * n) p, ← f, ne-eqb grid (2 * g) ne) (sym (ap refusalOf (slot-passes setup slot v h)))
+
+      pub empty-0 : grid ≡ 2 * g → 0 ≡ emptyRefusal setup slot points grid
+      unfolding emptyRefusal arePoints isGrid
+      empty-0 l = rw (← e, eq-eqb points (96 * n) p, ← f, eq-eqb grid (2 * g) l) (sym (ap refusalOf (slot-passes setup slot v h)))
+
+  pub empty-numbered : {A : Type 0} (rest : Answer A) → askEmpty setup slot points grid rest ≡ numbered (emptyRefusal setup slot points grid) rest
+  unfolding emptyRefusal
+  empty-numbered rest = before setup slot (question (arePoints setup points) 7 (question (isGrid setup grid) 8 no-question)) .is
+
+  pub empty-accepted : (k : ℕ) → k ≡ emptyRefusal setup slot points grid → k ≡ 0 → EmptyAccepted setup slot points grid
+  unfolding emptyRefusal arePoints isGrid
+  empty-accepted k e z =
+      let q = first-yes setup slot _ (sym e ∙ z) in
+      let q₈ = number-yes (arePoints setup points) 7 _ (q .1) in
+      record {
+        valid = q .0 .0;
+        slot-lt = q .0 .1;
+        points-long = eqb-true points (96 * subchannels setup) (q₈ .0);
+        grid-long = eqb-true grid (2 * gridPoints setup) (number-yes (isGrid setup grid) 8 _ (q₈ .1) .0);
+      }

@@ -1,9 +1,21 @@
--- The questions of fill and empty as a number. No reader needs this to know what the calls do.
+-- The questions of ground, lay and empty as a number. No reader needs this to know what the calls do.
 use Prim.Native.Nat.{ℕ}
-use Rattle.base.specs.Answer.{accepted, refusalOf}
+use Rattle.base.specs.Answer.{Answer, accepted, refusalOf}
 use Rattle.map.specs.declared.Setup.{Setup}
-use Rattle.lengths.specs.Question.{askSlot}
+use Rattle.lengths.specs.Question.{askSlot, askGround, askLay, askEmpty}
 
--- the number of the first of questions 1, 2, 3, 4, 8 and 9 that is answered no, 0 where none is
-unfoldable pub slotRefusal : (setup : Setup) (slot points grid : ℕ) → ℕ
-slotRefusal setup slot points grid = refusalOf (askSlot {A = Unit {0}} setup slot points grid (accepted tt))
+-- the number of the first of questions 1, 2, 3 and 4 that is answered no, 0 where none is
+unfoldable pub slotRefusal : (setup : Setup) (slot : ℕ) → ℕ
+slotRefusal setup slot = refusalOf (askSlot {A = Unit {0}} setup slot (accepted tt))
+
+-- likewise of ground's questions, 1, 2, 3, 4, 9
+unfoldable pub groundRefusal : (setup : Setup) (slot grid : ℕ) → ℕ
+groundRefusal setup slot grid = refusalOf (askGround {A = Unit {0}} setup slot grid (accepted tt))
+
+-- of lay's, 1, 2, 3, 4, 5, 8, 9
+unfoldable pub layRefusal : (setup : Setup) (slot subchannel points grid : ℕ) → ℕ
+layRefusal setup slot subchannel points grid = refusalOf (askLay {A = Unit {0}} setup slot subchannel points grid (accepted tt))
+
+-- and of empty's, 1, 2, 3, 4, 8, 9
+unfoldable pub emptyRefusal : (setup : Setup) (slot points grid : ℕ) → ℕ
+emptyRefusal setup slot points grid = refusalOf (askEmpty {A = Unit {0}} setup slot points grid (accepted tt))

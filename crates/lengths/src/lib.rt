@@ -4,7 +4,7 @@ ghost use mathlib.Core.Path.{_≡_};
 ghost use Prim.Native.Nat.{_<_};
 ghost use Rattle.map.specs.Model.{Valid};
 ghost use Rattle.lengths.specs.Length.{gridPoints, pointsLength, gridLength};
-ghost use Rattle.lengths.specs.Model.{slotRefusal};
+ghost use Rattle.lengths.specs.Model.{slotRefusal, groundRefusal, layRefusal, emptyRefusal};
 
 // The points of a slot's grid.
 pub fn grid_points(setup: Setup) -> usize
@@ -44,9 +44,9 @@ pub fn grid_length(mode: usize, size: usize) -> usize
     2 * grid_points(setup)
 }
 
-// The number of the first of questions 1, 2, 3, 4, 8 and 9 that is answered no, or 0.
-pub fn slot_refusal(setup: Setup, slot: usize, points: usize, grid: usize) -> u8
-    ensures { λ r. ⌜ r ≡ slotRefusal setup slot points grid ⌝ }
+// The number of the first of questions 1, 2, 3 and 4 that is answered no, or 0.
+fn slot_refusal(setup: Setup, slot: usize) -> u8
+    ensures { λ r. ⌜ r ≡ slotRefusal setup slot ⌝ }
 {
     let k = map::refusal(setup);
     if k != 0 {
@@ -54,6 +54,51 @@ pub fn slot_refusal(setup: Setup, slot: usize, points: usize, grid: usize) -> u8
     }
     if 512 <= slot {
         return 4;
+    }
+    0
+}
+
+// Likewise of ground's questions: 1, 2, 3, 4, 9.
+pub fn ground_refusal(setup: Setup, slot: usize, grid: usize) -> u8
+    ensures { λ r. ⌜ r ≡ groundRefusal setup slot grid ⌝ }
+{
+    let k = slot_refusal(setup, slot);
+    if k != 0 {
+        return k;
+    }
+    if grid != 2 * grid_points(setup) {
+        return 9;
+    }
+    0
+}
+
+// Of lay's: 1, 2, 3, 4, 5, 8, 9.
+pub fn lay_refusal(setup: Setup, slot: usize, subchannel: usize, points: usize, grid: usize) -> u8
+    ensures { λ r. ⌜ r ≡ layRefusal setup slot subchannel points grid ⌝ }
+{
+    let k = slot_refusal(setup, slot);
+    if k != 0 {
+        return k;
+    }
+    if map::subchannels(setup) <= subchannel {
+        return 5;
+    }
+    if points != 96 {
+        return 8;
+    }
+    if grid != 2 * grid_points(setup) {
+        return 9;
+    }
+    0
+}
+
+// And of empty's: 1, 2, 3, 4, 8, 9.
+pub fn empty_refusal(setup: Setup, slot: usize, points: usize, grid: usize) -> u8
+    ensures { λ r. ⌜ r ≡ emptyRefusal setup slot points grid ⌝ }
+{
+    let k = slot_refusal(setup, slot);
+    if k != 0 {
+        return k;
     }
     if points != 96 * map::subchannels(setup) {
         return 8;
