@@ -19,11 +19,11 @@ use Rattle.rows.specs.declared.Comb.{Comb}
 use Rattle.points.specs.Points.{zero32, zeroPoint, pointAt}
 use Rattle.lengths.specs.Length.{gridPoints}
 use Rattle.grid.specs.Row.{usedPosition, rowOf, columnOf}
-use Rattle.grid.specs.Grid.{contentAt}
+use Rattle.grid.specs.Grid.{contentAt, bare, grounded}
 use Rattle.points.specs.Model.{putPoint, puts}
-use Rattle.grid.specs.Model.{lit, grounded, pilotPlace, pilotRow}
+use Rattle.grid.specs.Model.{pilotPlace, pilotRow}
 use Rattle.rows.specs.Model.{combOf, pilotNumber}
-use Rattle.points.proofs.Points.{length-puts, by-points, point-cleared, puts-miss, puts-hit}
+use Rattle.points.proofs.Points.{length-floats, length-puts, by-points, point-cleared, puts-miss, puts-hit}
 use Rattle.points.proofs.Copy.{Putting, putting-none, putting-long, putting-next, putting-done}
 use Rattle.rows.proofs.Pilots.{CombLaw, pilots-law, Small, comb-small}
 use Rattle.grid.proofs.Slot.{used-row, used-column, row-lt, at-place}
@@ -144,7 +144,7 @@ pub record GroundTurn (setup : Setup) (slot : ℕ) (p : Point) (rows : ℕ) (gri
   pub slot-lt : slot < 512
   pub rows-are : rows ≡ symbols setup
   pub long : length grid ≡ 2 * gridPoints setup
-  pub done : (n : ℕ) → n < gridPoints setup → rowOf setup n < row → pointAt grid n ≡ lit p (contentAt setup slot n)
+  pub done : (n : ℕ) → n < gridPoints setup → rowOf setup n < row → pointAt grid n ≡ bare p (contentAt setup slot n)
   pub clear : (n : ℕ) → n < gridPoints setup → row ≤ rowOf setup n → pointAt grid n ≡ zeroPoint
 
 pub ground-start : {setup : Setup} {slot : ℕ} {p : Point} → Valid setup → slot < 512 → (floats : ℕ) → floats ≡ 2 * gridPoints setup
@@ -164,14 +164,14 @@ module _ {setup : Setup} {slot : ℕ} {p : Point} {rows : ℕ} {grid : List Floa
   ground-asks h = (t .valid, (t .slot-lt, rw (t .rows-are) at h, t .long))
 
   module _ (grid′ : List Float) (e : grid′ ≡ pilotRow setup slot p row grid) where
-    row-told : (n : ℕ) → n < gridPoints setup → rowOf setup n ≡ row → (w : Content) → contentAt setup slot n ≡ w → pointAt grid′ n ≡ lit p w
-    unfolding lit
+    row-told : (n : ℕ) → n < gridPoints setup → rowOf setup n ≡ row → (w : Content) → contentAt setup slot n ≡ w → pointAt grid′ n ≡ bare p w
+    unfolding bare
     row-told n hn q w c = told w c
       where
         dark : (contentAt setup slot n ≡ pilot → ⊥) → pointAt grid′ n ≡ zeroPoint
         dark ne = no-pilot setup (t .valid) slot p row grid grid′ e n ne ∙ t .clear n hn (omega arith)
 
-        told : (w : Content) → contentAt setup slot n ≡ w → pointAt grid′ n ≡ lit p w
+        told : (w : Content) → contentAt setup slot n ≡ w → pointAt grid′ n ≡ bare p w
         told guard c = dark (λ z. let o : _≡_ {A = ℕ} 0 1 = cc in omega arith)
         told dc c = dark (λ z. let o : _≡_ {A = ℕ} 0 1 = cc in omega arith)
         told pilot c = row-hit setup (t .valid) slot p row grid grid′ e (t .slot-lt) n hn q c (rw (t .long) (omega arith))
@@ -196,3 +196,7 @@ module _ {setup : Setup} {slot : ℕ} {p : Point} {rows : ℕ} {grid : List Floa
   ground-done h =
       by-points grid (gridPoints setup) _ (t .long ∙ omega arith)
       (λ n hn. t .done n hn (let l = row-lt setup (t .valid) slot (t .slot-lt) n hn in let e = t .rows-are in omega arith))
+
+pub length-ground : (setup : Setup) (slot : ℕ) (p : Point) → length (grounded setup slot p) ≡ 2 * gridPoints setup
+unfolding grounded
+length-ground setup slot p = length-floats (gridPoints setup) _ ∙ omega arith

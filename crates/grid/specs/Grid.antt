@@ -1,10 +1,12 @@
--- Fill, empty and look. Document 01, "Grids".
+-- Ground, lay, empty and look. Document 01, "Grids"; document 02, wish 4.
 use mathlib.Core.List.{List}
 use Prim.Native.Nat.{ℕ, _+_, _*_, _/_, _%_}
+use lib.Dec.{eqb}
 use lib.ListN.{length}
 use lib.IntN.{ℤ}
 use lib.Ieee.{Float}
 use Rattle.base.specs.Answer.{Answer, accepted, refused}
+use Rattle.base.specs.Choice.{pick}
 use Rattle.centre.specs.Centre.{onRow}
 use Rattle.map.specs.declared.Setup.{Setup}
 use Rattle.map.specs.Mode.{subchannels, symbols, spotOf}
@@ -12,7 +14,7 @@ use Rattle.map.specs.Place.{Content, guard, dc, pilot, point, contentOf}
 use Rattle.points.specs.declared.Point.{Point}
 use Rattle.points.specs.Points.{pointAt, floatsOf, zeroPoint}
 use Rattle.lengths.specs.Length.{gridPoints}
-use Rattle.lengths.specs.Question.{askSlot, askLook}
+use Rattle.lengths.specs.Question.{askGround, askLay, askEmpty, askLook}
 use Rattle.grid.specs.declared.Seen.{Seen}
 use Rattle.grid.specs.declared.Seen.the-variants.{Nothing, Pilot, Data, Refused}
 use Rattle.grid.specs.Row.{usedPosition, carrierPosition, rowOf, columnOf}
@@ -35,7 +37,38 @@ pointNumber subchannel index = subchannel * 48 + index
 abbrev pub contentAt : (setup : Setup) (slot n : ℕ) → Content
 contentAt setup slot n = contentOf setup (slot * symbols setup + rowOf setup n) (columnOf setup n)
 
--- data, the pilot point p on pilots, 0.0 elsewhere
+-- Document 02, wish 4: fill becomes two moves. The ground has the pilot point p on pilots and 0.0 elsewhere, on every data carrier too.
+unfoldable pub bare : (p : Point) (content : Content) → Point
+bare p guard = zeroPoint
+bare p dc = zeroPoint
+bare p pilot = p
+bare p (point slot subchannel index) = zeroPoint
+
+unfoldable pub grounded : (setup : Setup) (slot : ℕ) (p : Point) → List Float
+grounded setup slot p = floatsOf (gridPoints setup) (λ n. bare p (contentAt setup slot n))
+
+-- Ground takes mode, size, cell, slot and a pilot point, and writes the slot's grid. Questions 1, 2, 3, 4, 9.
+unfoldable pub groundOf : (setup : Setup) (slot : ℕ) (p : Point) (grid : List Float) → Outcome
+groundOf setup slot p grid =
+    outcome (askGround setup slot (length grid) (accepted (grounded setup slot p))) grid
+
+-- A lay touches no other float: on the carriers of its subchannel stand its points, by index; elsewhere what stood there, `old`.
+unfoldable pub relaid : (subchannel : ℕ) (points : List Float) (old : Point) (content : Content) → Point
+relaid subchannel points old guard = old
+relaid subchannel points old dc = old
+relaid subchannel points old pilot = old
+relaid subchannel points old (point slot s index) = pick (eqb s subchannel) (pointAt points index) old
+
+unfoldable pub laid : (setup : Setup) (slot subchannel : ℕ) (points grid : List Float) → List Float
+laid setup slot subchannel points grid =
+    floatsOf (gridPoints setup) (λ n. relaid subchannel points (pointAt grid n) (contentAt setup slot n))
+
+-- Lay takes mode, size, cell, slot, a subchannel and its 48 points, and writes these on the slot's grid. Questions 1, 2, 3, 4, 5, 8, 9.
+unfoldable pub layOf : (setup : Setup) (slot subchannel : ℕ) (points grid : List Float) → Outcome
+layOf setup slot subchannel points grid =
+    outcome (askLay setup slot subchannel (length points) (length grid) (accepted (laid setup slot subchannel points grid))) grid
+
+-- What both moves together give, as document 01 defines the filled grid: data, the pilot point p on pilots, 0.0 elsewhere.
 unfoldable pub held : (p : Point) (points : List Float) (content : Content) → Point
 held p points guard = zeroPoint
 held p points dc = zeroPoint
@@ -44,13 +77,6 @@ held p points (point slot subchannel index) = pointAt points (pointNumber subcha
 
 unfoldable pub filled : (setup : Setup) (slot : ℕ) (p : Point) (points : List Float) → List Float
 filled setup slot p points = floatsOf (gridPoints setup) (λ n. held p points (contentAt setup slot n))
-
--- Fill takes mode, size, cell, slot, a pilot point, all points of the slot, and writes the slot's grid. Questions 1, 2, 3, 4, 8, 9.
-unfoldable pub fillOf : (setup : Setup) (slot : ℕ) (p : Point) (points grid : List Float) → Outcome
-fillOf setup slot p points grid =
-    outcome
-    (askSlot setup slot (length points) (length grid) (accepted (filled setup slot p points)))
-    grid
 
 -- where in the grid point n of the slot stands
 unfoldable pub standsAt : (setup : Setup) (slot n : ℕ) → ℕ
@@ -61,11 +87,11 @@ standsAt setup slot n =
 unfoldable pub emptied : (setup : Setup) (slot : ℕ) (grid : List Float) → List Float
 emptied setup slot grid = floatsOf (48 * subchannels setup) (λ n. pointAt grid (standsAt setup slot n))
 
--- Empty does the reverse and writes the points only. Questions 1, 2, 3, 4, 8, 9. (It is to be believed: of a grid that no fill left, no law speaks.)
+-- Empty does the reverse and writes the points only. Questions 1, 2, 3, 4, 8, 9. (It is to be believed: of a grid that both moves did not leave, no law speaks.)
 unfoldable pub emptyOf : (setup : Setup) (slot : ℕ) (grid points : List Float) → Outcome
 emptyOf setup slot grid points =
     outcome
-    (askSlot setup slot (length points) (length grid) (accepted (emptied setup slot grid)))
+    (askEmpty setup slot (length points) (length grid) (accepted (emptied setup slot grid)))
     points
 
 -- nothing (guard or DC), a pilot with its point, or data with its point, slot, subchannel and index

@@ -1,4 +1,4 @@
--- How fill, empty and look go about it: what the inner functions' contracts cite. No reader needs these to know what the calls do.
+-- How ground, empty and look go about it: what the inner functions' contracts cite. No reader needs these to know what the calls do.
 use mathlib.Core.List.{List}
 use Prim.Native.Nat.{ℕ, _+_, _*_}
 use lib.Ieee.{Float}
@@ -6,24 +6,13 @@ use Rattle.base.specs.Answer.{Answer, accepted, refused}
 use Rattle.map.specs.declared.Setup.{Setup}
 use Rattle.rows.specs.declared.Comb.{Comb}
 use Rattle.map.specs.Mode.{symbols}
-use Rattle.map.specs.Place.{Content, guard, dc, pilot, point}
+use Rattle.map.specs.Place.{Content}
 use Rattle.rows.specs.Model.{combOf, pilotNumber}
 use Rattle.points.specs.declared.Point.{Point}
-use Rattle.points.specs.Points.{zeroPoint, pointAt, floatsOf}
+use Rattle.points.specs.Points.{pointAt}
 use Rattle.points.specs.Model.{puts}
-use Rattle.lengths.specs.Length.{gridPoints}
 use Rattle.grid.specs.Row.{usedPosition}
-use Rattle.grid.specs.Grid.{contentAt, standsAt, pointNumber, Sight, sight}
-
--- the ground of a slot: the pilot point on pilots, 0.0 elsewhere
-unfoldable pub lit : (p : Point) (content : Content) → Point
-lit p guard = zeroPoint
-lit p dc = zeroPoint
-lit p pilot = p
-lit p (point slot subchannel index) = zeroPoint
-
-unfoldable pub grounded : (setup : Setup) (slot : ℕ) (p : Point) → List Float
-grounded setup slot p = floatsOf (gridPoints setup) (λ n. lit p (contentAt setup slot n))
+use Rattle.grid.specs.Grid.{standsAt, pointNumber, Sight, sight}
 
 -- pilot j of a row whose pilots are a comb
 abbrev pub pilotPlace : (setup : Setup) (row : ℕ) (comb : Comb) (j : ℕ) → ℕ
@@ -35,12 +24,7 @@ pilotRow setup slot p row floats =
     let comb = combOf setup (slot * symbols setup + row) in
     puts (pilotPlace setup row comb) (λ j. p) (comb .count * 2) floats
 
--- the points of one subchannel laid on the grid
-abbrev pub laid : (setup : Setup) (slot : ℕ) (points : List Float) (subchannel : ℕ) (grid : List Float) → List Float
-laid setup slot points subchannel grid =
-    puts (λ m. standsAt setup slot (pointNumber subchannel m)) (λ m. pointAt points (pointNumber subchannel m)) 48 grid
-
--- and taken off it
+-- the points of one subchannel taken off the grid
 abbrev pub taken : (setup : Setup) (slot : ℕ) (grid : List Float) (subchannel : ℕ) (points : List Float) → List Float
 taken setup slot grid subchannel points =
     puts (λ m. pointNumber subchannel m) (λ m. pointAt grid (standsAt setup slot (pointNumber subchannel m))) 48 points

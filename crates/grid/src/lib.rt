@@ -1,4 +1,4 @@
-// Grids: laying a slot's points on the carriers, taking them off again, and looking at one carrier.
+// Grids: a slot's ground, laying a subchannel's points on their carriers, taking all points off again, and looking at one carrier.
 use map::Located;
 use map::Setup;
 use points::Point;
@@ -13,8 +13,8 @@ ghost use Rattle.rows.specs.Model.{TableOf};
 ghost use Rattle.points.specs.Model.{putPoint};
 ghost use Rattle.lengths.specs.Length.{gridPoints};
 ghost use Rattle.grid.specs.Row.{position, usedPosition};
-ghost use Rattle.grid.specs.Grid.{fillOf, emptyOf, seen, lookOf};
-ghost use Rattle.grid.specs.Model.{grounded, pilotRow, laid, taken, sightOf};
+ghost use Rattle.grid.specs.Grid.{grounded, groundOf, layOf, emptyOf, seen, lookOf};
+ghost use Rattle.grid.specs.Model.{pilotRow, taken, sightOf};
 
 // What `look` finds on a carrier, or the first refusal.
 pub enum Seen {
@@ -55,7 +55,7 @@ fn pilot_row(setup: Setup, slot: usize, row: usize, p: Point, grid: &mut [f32])
 }
 
 // Zeros, and the pilot point on the pilots.
-fn ground(setup: Setup, slot: usize, p: Point, grid: &mut [f32])
+fn zeros_and_pilots(setup: Setup, slot: usize, p: Point, grid: &mut [f32])
     requires { ⌜ Valid setup ⌝ }
     requires { ⌜ (slot < 512) × (length (now grid) ≡ 2 * gridPoints setup) ⌝ }
     ensures { λ _. ⌜ now (grid .exit) ≡ grounded setup slot p ⌝ }
@@ -69,23 +69,31 @@ fn ground(setup: Setup, slot: usize, p: Point, grid: &mut [f32])
     }
 }
 
-// The points of one subchannel laid on the grid.
-fn lay(
-    setup: Setup,
-    slot: usize,
-    subchannel: usize,
-    table: &[u16; 188],
-    points: &[f32],
-    grid: &mut [f32],
-)
-    requires { ⌜ Valid setup ⌝ }
-    requires { ⌜ (subchannel < subchannels setup) × (length (now points) ≡ 96 * subchannels setup) × (length (now grid) ≡ 2 * gridPoints setup) ⌝ }
-    requires { ⌜ TableOf setup slot (now table) ⌝ }
-    ensures { λ _. ⌜ now (grid .exit) ≡ laid setup slot (now (points .entry)) subchannel (now (grid .entry)) ⌝ }
+// Lays the ground of a slot's grid, the pilot point on pilots and 0.0 elsewhere; or the first refusal of 1, 2, 3, 4, 9.
+pub fn ground(setup: Setup, slot: usize, pilot: Point, grid: &mut [f32]) -> u8
+    ensures { λ r. ⌜ record { refusal = r; buffer = now (grid .exit) } ≡ groundOf setup slot pilot (now (grid .entry)) ⌝ }
 {
-    let row = rows::carrier_row(setup, slot, subchannel, table);
+    let refusal = lengths::ground_refusal(setup, slot, grid.len());
+    if refusal != 0 {
+        return refusal;
+    }
+    zeros_and_pilots(setup, slot, pilot, grid);
+    0
+}
+
+// Lays a subchannel's 48 points on a slot's grid and leaves the rest of it; or the first refusal of 1, 2, 3, 4, 5, 8, 9.
+pub fn lay(setup: Setup, slot: usize, subchannel: usize, points: &[f32], grid: &mut [f32]) -> u8
+    ensures { λ r. ⌜ record { refusal = r; buffer = now (grid .exit) } ≡ layOf setup slot subchannel (now (points .entry)) (now (grid .entry)) ⌝ }
+{
+    let refusal = lengths::lay_refusal(setup, slot, subchannel, points.len(), grid.len());
+    if refusal != 0 {
+        return refusal;
+    }
+    let table = rows::table(setup, slot);
+    let row = rows::carrier_row(setup, slot, subchannel, &table);
     let by = rows::shift(setup, subchannel);
-    points::lay_row(&row, by, subchannel * 48, points, grid);
+    points::lay_row(&row, by, 0, points, grid);
+    0
 }
 
 // The points of one subchannel taken off the grid.
@@ -107,30 +115,11 @@ fn take(
     points::take_row(&row, by, subchannel * 48, grid, points);
 }
 
-// Lays a slot's points on its grid, with the pilot point on pilots and 0.0 elsewhere; or the first refusal of 1, 2, 3, 4, 8, 9.
-pub fn fill(setup: Setup, slot: usize, pilot: Point, points: &[f32], grid: &mut [f32]) -> u8
-    ensures { λ r. ⌜ record { refusal = r; buffer = now (grid .exit) } ≡ fillOf setup slot pilot (now (points .entry)) (now (grid .entry)) ⌝ }
-{
-    let refusal = lengths::slot_refusal(setup, slot, points.len(), grid.len());
-    if refusal != 0 {
-        return refusal;
-    }
-    ground(setup, slot, pilot, grid);
-    let table = rows::table(setup, slot);
-    let n = map::subchannels(setup);
-    let mut subchannel = 0;
-    while subchannel < n {
-        lay(setup, slot, subchannel, &table, points, grid);
-        subchannel += 1;
-    }
-    0
-}
-
 // Takes a slot's points off its grid; or the first refusal of 1, 2, 3, 4, 8, 9.
 pub fn empty(setup: Setup, slot: usize, grid: &[f32], points: &mut [f32]) -> u8
     ensures { λ r. ⌜ record { refusal = r; buffer = now (points .exit) } ≡ emptyOf setup slot (now (grid .entry)) (now (points .entry)) ⌝ }
 {
-    let refusal = lengths::slot_refusal(setup, slot, points.len(), grid.len());
+    let refusal = lengths::empty_refusal(setup, slot, points.len(), grid.len());
     if refusal != 0 {
         return refusal;
     }

@@ -1,31 +1,34 @@
 -- `grid::ground` meets its contract.
-use mathlib.Core.Path.{sym, _∙_}
-use Prim.Native.Nat.{_-_}
-use native.Mathlib.Omega.{arith}
+use mathlib.Core.Path.{sym, ap, _∙_}
+use lib.ListN.{length}
 use borrow.Author.Needs.{needs}
-use Rattle.map.proofs.ByMode.{few}
-use Rattle.grid.proofs.Pilots.{GroundTurn, ground-start, ground-asks, ground-next, ground-done}
+use Rattle.lengths.proofs.Refusal.{ground-numbered, ground-accepted}
+use Rattle.grid.specs.Grid.{groundOf}
+use Rattle.grid.proofs.Outcome.{refused-leaves, accepted-anew}
+use Rattle.grid.proofs.Pilots.{length-ground}
 use Rattle.grid.proofs.ground.Statement.{statement}
 use Rattle.grid.proofs.ground.Tie as tie
 
-abbrev Inv-loop : tie.InvT-loop
-Inv-loop setup slot p grid₀ rows row₀ grid row = GroundTurn setup slot p rows grid row
+returns : tie.Need-returns
+unfolding groundOf
+returns c = refused-leaves _ _ _ (ground-numbered _ _ _ _) _ _ (c .before .ground-refusal .ensures) (c .if1 .taken)
 
-abbrev μ-loop : tie.MeasureT-loop
-μ-loop setup slot p grid₀ rows row₀ grid row = rows - row
+requires : tie.Need-zeros-and-pilots-requires
+requires c κs =
+    let a = ground-accepted _ _ _ _ (c .before .before .ground-refusal .ensures) (c .before .if1 .left) in
+    (a .valid, (a .slot-lt, a .grid-long))
 
-add-row : tie.Need-add-row Inv-loop μ-loop
-add-row c =
-    let turn = c .before .before .before .before .before .loop .inv in
-    omega (arith, few (turn .valid), turn .rows-are, c .before .before .before .before .loop-test .taken)
+same-length : tie.Need-same-length
+same-length c =
+    let else = c .before .before .before .before in
+    let a = ground-accepted _ _ _ _ (else .before .ground-refusal .ensures) (else .if1 .left) in
+    ap length (c .before .before .zeros-and-pilots .ensures) ∙ length-ground _ _ _ ∙ sym (a .grid-long)
+
+returns-2 : tie.Need-returns-2
+unfolding groundOf
+returns-2 c =
+    let else = c .before .before .before .before in
+    accepted-anew _ _ _ (ground-numbered _ _ _ _) _ (sym (else .before .ground-refusal .ensures) ∙ else .if1 .left) _ (c .before .before .zeros-and-pilots .ensures)
 
 pub ground-spec : {M : Type 1} → statement M
-ground-spec =
-    tie.close
-    (tie.spec
-    Inv-loop μ-loop (λ c κs. search needs) (λ c κs. search needs)
-    (λ c. ground-start (c .before .before .before .before .before .before .pre .0) (c .before .before .before .before .before .before .pre .1 .0) _ (c .before .before .before .before .before .before .pre .1 .1) _ (c .symbols .ensures) _ (c .before .before .before .clear .ensures))
-    (λ c κs. ground-asks (c .before .before .loop .inv) (c .before .loop-test .taken)) add-row (λ c. omega arith)
-    (λ c. ground-next (c .before .before .before .before .before .loop .inv) _ (c .before .before .pilot-row .ensures))
-    (λ c. c .before .loop .inv .long ∙ sym (c .before .before .before .before .before .before .before .before .pre .1 .1))
-    (λ c. ground-done (c .before .loop .inv) (c .loop-test .left)))
+ground-spec = tie.close (tie.spec (λ c κs. search needs) returns requires same-length returns-2)

@@ -1,31 +1,58 @@
 -- `grid::lay` meets its contract.
+use mathlib.Core.Path.{sym, _∙_}
 use native.Mathlib.Omega.{arith}
 use borrow.Author.Needs.{needs}
 use Rattle.map.proofs.ByMode.{few}
+use Rattle.lengths.proofs.Refusal.{LayAccepted, lay-numbered, lay-accepted}
+use Rattle.grid.specs.Grid.{layOf}
+use Rattle.grid.proofs.Outcome.{refused-leaves, accepted-anew}
 use Rattle.grid.proofs.Slot.{row-asks, row-laid}
+use Rattle.grid.proofs.Laid.{laid-is}
 use Rattle.grid.proofs.lay.Statement.{statement}
 use Rattle.grid.proofs.lay.Tie as tie
 
-shift-requires : tie.Need-shift-requires
-shift-requires c κs = omega (arith, c .before .before .before .pre .1 .0 .0, few (c .before .before .before .pre .0))
+returns : tie.Need-returns
+unfolding layOf
+returns c = refused-leaves _ _ _ (lay-numbered _ _ _ _ _ _) _ _ (c .before .lay-refusal .ensures) (c .if1 .taken)
 
-mul-lay-row : tie.Need-mul-lay-row
-mul-lay-row c = omega (arith, c .before .before .before .before .before .pre .1 .0 .0, few (c .before .before .before .before .before .pre .0))
+table-requires : tie.Need-table-requires
+table-requires c κs = lay-accepted _ _ _ _ _ _ (c .before .lay-refusal .ensures) (c .if1 .left) .valid
+
+carrier-row-requires : tie.Need-carrier-row-requires
+carrier-row-requires c κs =
+    let else = c .before .before in
+    let a = lay-accepted _ _ _ _ _ _ (else .before .lay-refusal .ensures) (else .if1 .left) in
+    (a .valid, (a .subchannel-lt, c .before .table .ensures))
+
+shift-requires : tie.Need-shift-requires
+shift-requires c κs =
+    let else = c .before .before .before in
+    let a = lay-accepted _ _ _ _ _ _ (else .before .lay-refusal .ensures) (else .if1 .left) in
+    omega (arith, a .subchannel-lt, few (a .valid))
 
 lay-row-requires : tie.Need-lay-row-requires
 lay-row-requires c κs =
-    let start = c .before .before .before .before .before .before in
-    row-asks (start .pre .0) _ _ (start .pre .1 .0 .0) (c .before .before .before .carrier-row .result) (c .before .before .before .carrier-row .ensures) _ (c .before .before .shift .ensures .0) (c .before .before .shift .ensures .1)
-    _ _ (start .pre .1 .0 .1) (start .pre .1 .0 .2)
+    let else = c .before .before .before .before .before .before in
+    let a = lay-accepted _ _ _ _ _ _ (else .before .lay-refusal .ensures) (else .if1 .left) in
+    let row = c .before .before .before .carrier-row in
+    let by = c .before .before .shift .ensures in
+    row-asks (a .valid) _ _ (a .subchannel-lt) (row .result) (row .ensures) _ (by .0) (by .1) 0 _ _ (omega (arith, a .points-long)) (a .grid-long)
 
-returns : tie.Need-returns
-returns c =
-    let start = c .before .before .before .before .before .before .before .before .before in
-    row-laid (start .pre .0) _ _ (start .pre .1 .0 .0) (c .before .before .before .before .before .before .carrier-row .result) (c .before .before .before .before .before .before .carrier-row .ensures)
-    _ (c .before .before .before .before .before .shift .ensures .0) _ _ _ (c .before .before .lay-row .ensures)
+returns-2 : tie.Need-returns-2
+unfolding layOf
+returns-2 c =
+    let else = c .before .before .before .before .before .before .before .before .before in
+    let refusal = else .before .lay-refusal .ensures in
+    let a = lay-accepted _ _ _ _ _ _ refusal (else .if1 .left) in
+    let row = c .before .before .before .before .before .before .carrier-row in
+    let by = c .before .before .before .before .before .shift .ensures in
+    accepted-anew _ _ _ (lay-numbered _ _ _ _ _ _) _ (sym refusal ∙ else .if1 .left) _
+    (row-laid (a .valid) _ _ (a .subchannel-lt) (row .result) (row .ensures) _ (by .0) _ _ _ (c .before .before .lay-row .ensures)
+    ∙ laid-is _ (a .valid) _ (a .slot-lt) _ (a .subchannel-lt) _ _ (a .grid-long))
 
 pub lay-spec : {M : Type 1} → statement M
 lay-spec =
     tie.close
     (tie.spec
-    (λ c κs. search needs) shift-requires mul-lay-row lay-row-requires (λ c. search needs) returns)
+    (λ c κs. search needs) returns table-requires carrier-row-requires shift-requires lay-row-requires (λ c. search needs)
+    returns-2)

@@ -16,7 +16,7 @@ take-row-requires : tie.Need-take-row-requires
 take-row-requires c κs =
     let start = c .before .before .before .before .before .before in
     row-asks (start .pre .0) _ _ (start .pre .1 .0 .0) (c .before .before .before .carrier-row .result) (c .before .before .before .carrier-row .ensures) _ (c .before .before .shift .ensures .0) (c .before .before .shift .ensures .1)
-    _ _ (start .pre .1 .0 .1) (start .pre .1 .0 .2)
+    _ _ _ (omega (arith, start .pre .1 .0)) (start .pre .1 .0 .2)
 
 returns : tie.Need-returns
 returns c =
