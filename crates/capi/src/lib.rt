@@ -14,7 +14,7 @@ ghost use Rattle.map.specs.Place.{placeOf, locateOf};
 ghost use Rattle.collision.specs.Collision.{ofuscOf, amcOf};
 ghost use Rattle.capi.specs.Map.{PlaceOut, placeOut, LocateOut, locateOut};
 ghost use Rattle.capi.specs.Collision.{CollisionOut, collisionOut};
-ghost use Rattle.grid.specs.Grid.{fillOf, emptyOf, lookOf};
+ghost use Rattle.grid.specs.Grid.{groundOf, layOf, emptyOf, lookOf};
 ghost use Rattle.lengths.specs.Length.{pointsLength, gridLength};
 ghost use Rattle.capi.specs.Grid.{pairPoint, lookOut};
 ghost use Rattle.plan.specs.Read.{planOf, answered};
@@ -178,22 +178,38 @@ pub extern "C" fn bp_grid_len(mode: u32, size: u32) -> usize
 }
 
 #[no_mangle]
-pub extern "C" fn bp_fill(
+pub extern "C" fn bp_ground(
     mode: u32,
     size: u32,
     cell: u32,
     slot: u32,
     pilot: &[f32; 2],
-    points: &[f32],
     grid: &mut [f32],
 ) -> u32
-    ensures { λ r. ⌜ record { refusal = r; buffer = now (grid .exit) } ≡ fillOf (record { mode = mode; size = size; cell = cell }) slot (pairPoint (now (pilot .entry))) (now (points .entry)) (now (grid .entry)) ⌝ }
+    ensures { λ r. ⌜ record { refusal = r; buffer = now (grid .exit) } ≡ groundOf (record { mode = mode; size = size; cell = cell }) slot (pairPoint (now (pilot .entry))) (now (grid .entry)) ⌝ }
 {
     let p = Point {
         i: pilot[0],
         q: pilot[1],
     };
-    let number = grid::fill(setup(mode, size, cell), slot as usize, p, points, grid);
+    let number = grid::ground(setup(mode, size, cell), slot as usize, p, grid);
+    number as u32
+}
+
+#[no_mangle]
+pub extern "C" fn bp_lay(
+    mode: u32,
+    size: u32,
+    cell: u32,
+    slot: u32,
+    subchannel: u32,
+    points: &[f32],
+    grid: &mut [f32],
+) -> u32
+    ensures { λ r. ⌜ record { refusal = r; buffer = now (grid .exit) } ≡ layOf (record { mode = mode; size = size; cell = cell }) slot subchannel (now (points .entry)) (now (grid .entry)) ⌝ }
+{
+    let of = setup(mode, size, cell);
+    let number = grid::lay(of, slot as usize, subchannel as usize, points, grid);
     number as u32
 }
 
