@@ -230,7 +230,8 @@ pub fn grid_len(mode: u32, size: u32) -> usize {
     unsafe { c::bp_grid_len(mode, size) }
 }
 
-/// Lays the ground of a slot's grid: the pilot point on pilots, 0.0 on every other carrier; the whole grid is written.
+/// The first move of filling a slot's grid: the pilot point on pilots, 0.0 on every other carrier, data too. The whole
+/// grid is written.
 pub fn ground(setup: Setup, slot: u32, pilot: Point, grid: &mut [f32]) -> Result<(), Refusal> {
     let Setup { mode, size, cell } = setup;
     // Safety: each pointer comes with its slice's own length, and a slice lent mutably overlaps no other.
@@ -247,7 +248,8 @@ pub fn ground(setup: Setup, slot: u32, pilot: Point, grid: &mut [f32]) -> Result
     })
 }
 
-/// Lays one subchannel's 48 points, 96 floats, on a slot's grid; no other float of the grid is written.
+/// The second move: lays one subchannel's 48 points, 96 floats, on the grid; no other float of it is written.
+/// Subchannels may be laid in any order, and again.
 pub fn lay(
     setup: Setup,
     slot: u32,
@@ -272,7 +274,7 @@ pub fn lay(
     })
 }
 
-/// Takes a slot's points off its grid; all points are written.
+/// Takes all points of a slot off its grid; all of `points` is written.
 pub fn empty(setup: Setup, slot: u32, grid: &[f32], points: &mut [f32]) -> Result<(), Refusal> {
     let Setup { mode, size, cell } = setup;
     // Safety: as in `ground`.
