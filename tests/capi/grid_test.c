@@ -321,10 +321,20 @@ static int looks_agree(const struct setup *s, const struct grid_row *row)
     return holds(&grid, sizeof grid, row->grid, grid_floats(s));
 }
 
-static int calls_agree(const struct setup *s, const struct grid_row *row)
+/* What differs first, or nothing. */
+static const char *difference(const struct setup *s, const struct grid_row *row)
 {
-    return ground_agrees(s, row) && lays_agree(s, row) && moves_agree(s, row) && looks_agree(s, row) &&
-           empty_agrees(s, row);
+    static const struct {
+        const char *name;
+        int (*agrees)(const struct setup *s, const struct grid_row *row);
+    } calls[] = {
+        {"ground", ground_agrees}, {"a lay alone", lays_agree}, {"the slot laid in any order", moves_agree},
+        {"look", looks_agree},     {"empty", empty_agrees},
+    };
+    for (size_t i = 0; i < COUNT(calls); i++)
+        if (!calls[i].agrees(s, row))
+            return calls[i].name;
+    return NULL;
 }
 
 /* Everything but data written over: empty and look go by the data alone, look sees nothing on guards and DC. */
@@ -336,11 +346,14 @@ static int data_alone_agrees(const struct setup *s, const struct grid_row *row)
     return empty_agrees(s, row) && looks_agree(s, row);
 }
 
-static int slot_agrees(const struct setup *s, uint32_t cell, uint32_t slot, const uint32_t pilot[2])
+static const char *slot_difference(const struct setup *s, uint32_t cell, uint32_t slot, const uint32_t pilot[2])
 {
     const struct grid_row row = {s->mode, s->size, cell, slot, {pilot[0], pilot[1]},
                                  want_points, want_places, want_ground, want_grid};
-    return work_out_ground(s, &row) && work_out_points(s, &row) && calls_agree(s, &row) && data_alone_agrees(s, &row);
+    if (!work_out_ground(s, &row) || !work_out_points(s, &row))
+        return "place or locate";
+    const char *what = difference(s, &row);
+    return what || data_alone_agrees(s, &row) ? what : "empty or look by the data alone";
 }
 
 static int test_slots(void)
@@ -353,11 +366,12 @@ static int test_slots(void)
         const uint32_t cells[] = {0, 1, s->cells / 2 + 1, s->cells - 1};
         for (size_t j = 0; j < COUNT(cells); j++) {
             for (size_t k = 0; k < COUNT(slots); k++) {
-                if (slot_agrees(s, cells[j], slots[k], pilots[turn++ % COUNT(pilots)]))
+                const char *what = slot_difference(s, cells[j], slots[k], pilots[turn++ % COUNT(pilots)]);
+                if (!what)
                     continue;
                 wrong = 1;
-                printf("grids differ: mode %" PRIu32 " size %" PRIu32 " cell %" PRIu32 " slot %" PRIu32 "\n", s->mode,
-                       s->size, cells[j], slots[k]);
+                printf("%s differs: mode %" PRIu32 " size %" PRIu32 " cell %" PRIu32 " slot %" PRIu32 "\n", what,
+                       s->mode, s->size, cells[j], slots[k]);
             }
         }
     }
@@ -370,10 +384,11 @@ static int test_rows(void)
     for (size_t i = 0; i < COUNT(grid_rows); i++) {
         const struct grid_row *row = &grid_rows[i];
         const struct setup *s = &setups[i];
-        if (row->mode == s->mode && row->size == s->size && calls_agree(s, row))
+        const char *what = row->mode == s->mode && row->size == s->size ? difference(s, row) : "the table";
+        if (!what)
             continue;
         wrong = 1;
-        printf("grid of the reference differs: mode %" PRIu32 " size %" PRIu32 "\n", row->mode, row->size);
+        printf("%s differs from the reference: mode %" PRIu32 " size %" PRIu32 "\n", what, row->mode, row->size);
     }
     return wrong;
 }
