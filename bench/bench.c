@@ -230,7 +230,7 @@ static void do_row(struct row r) {
 static const struct setup {
     const char *name;
     uint32_t mode, size;
-    bool between; // not its mode's smallest size nor its largest: only for the calls that write a grid or its points
+    bool between; // not its mode's smallest size nor its largest
 } setups[] = {
     {"PUSC downlink, 2048", PUSC_DL, 2048, false}, {"PUSC uplink, 2048", PUSC_UL, 2048, false},
     {"optional FUSC, 256", OFUSC, 256, false},     {"optional FUSC, 512", OFUSC, 512, true},
@@ -243,8 +243,8 @@ static const struct setup {
 };
 enum { SETUPS = sizeof setups / sizeof setups[0] };
 
-enum sizes { ENDS, ALL_SIZES };
-enum unit { CALL, POINT };
+enum sizes { ENDS, ALL_SIZES }; // whether the setups between are left out
+enum unit { CALL, POINT };      // what the times are for: a point is one of the slot's data points
 
 static void map_rows(const char *call, run_fn *run, enum sizes sizes, enum unit unit) {
     for (const struct setup *s = setups; s < setups + SETUPS; s++) {

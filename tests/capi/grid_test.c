@@ -286,9 +286,9 @@ static int empty_agrees(const struct setup *s, const struct grid_row *row)
     spoil(&points, sizeof points);
     spoil(&grid, sizeof grid);
     copy_bits(grid.at, row->grid, grid_floats(s));
-    return bp_empty(s->mode, s->size, row->cell, row->slot, grid.at, grid_floats(s), points.at, points_floats(s)) ==
-               0 &&
-           holds(&points, sizeof points, row->points, points_floats(s)) &&
+    uint32_t refusal =
+        bp_empty(s->mode, s->size, row->cell, row->slot, grid.at, grid_floats(s), points.at, points_floats(s));
+    return refusal == 0 && holds(&points, sizeof points, row->points, points_floats(s)) &&
            holds(&grid, sizeof grid, row->grid, grid_floats(s));
 }
 
