@@ -1,5 +1,5 @@
-// Holds the engine against plain C of the same formulas, call by call: first both must give the same answers, then both
-// are timed. bench --check leaves the timing out.
+// Holds the engine against plain C of the same formulas, call by call, and whole slots, which the engine fills in two
+// moves: first both must give the same answers, then both are timed. bench --check leaves the timing out.
 #include "bellpulsar.h"
 #include "plain.h"
 #include "plain_ranges.h"
@@ -11,14 +11,16 @@
 #include <time.h>
 
 enum { ROUNDS = 15, ROUND_MS = 10 }; // a round is as long as that or up to twice as long
-enum { MOST_POINTS = 2 * 48 * 192, MOST_GRID = 2 * 6 * 2048 };
+enum { LAID = 2 * INDICES, MOST_POINTS = LAID * 192, MOST_GRID = 2 * 6 * 2048 }; // floats; LAID of one subchannel
 
 // The calls of one side.
 struct side {
     uint32_t (*place)(uint32_t, uint32_t, uint32_t, uint32_t, uint32_t, uint32_t, uint32_t *, int32_t *);
     uint32_t (*locate)(uint32_t, uint32_t, uint32_t, uint32_t, int32_t, uint32_t *, uint32_t *, uint32_t *,
                        uint32_t *);
-    uint32_t (*fill)(uint32_t, uint32_t, uint32_t, uint32_t, const float *, const float *, size_t, float *, size_t);
+    uint32_t (*slot)(uint32_t, uint32_t, uint32_t, uint32_t, const float *, const float *, size_t, float *, size_t);
+    uint32_t (*ground)(uint32_t, uint32_t, uint32_t, uint32_t, const float *, float *, size_t);
+    uint32_t (*lay)(uint32_t, uint32_t, uint32_t, uint32_t, uint32_t, const float *, size_t, float *, size_t);
     uint32_t (*empty)(uint32_t, uint32_t, uint32_t, uint32_t, const float *, size_t, float *, size_t);
     uint32_t (*look)(uint32_t, uint32_t, uint32_t, uint32_t, const float *, size_t, int32_t, uint32_t *, float *,
                      uint32_t *, uint32_t *, uint32_t *);
@@ -28,12 +30,21 @@ struct side {
     uint32_t (*plan_write)(uint32_t, uint32_t, const uint32_t *, uint8_t *, size_t, uint32_t *);
 };
 
+// A whole slot as a caller of the engine fills it: its ground, then a lay for every 96 floats of its points.
+static uint32_t engine_slot(uint32_t mode, uint32_t size, uint32_t cell, uint32_t slot, const float *pilot,
+                            const float *points, size_t points_len, float *grid, size_t grid_len) {
+    uint32_t refusal = bp_ground(mode, size, cell, slot, pilot, grid, grid_len);
+    for (uint32_t s = 0; s < points_len / LAID && !refusal; s++)
+        refusal = bp_lay(mode, size, cell, slot, s, points + LAID * s, LAID, grid, grid_len);
+    return refusal;
+}
+
 static const struct side engine = {
-    bp_place,          bp_locate,    bp_fill,      bp_empty, bp_look, bp_ofusc_collisions,
-    bp_amc_collisions, bp_plan_read, bp_plan_write};
+    bp_place, bp_locate,           engine_slot,       bp_ground,    bp_lay,       bp_empty,
+    bp_look,  bp_ofusc_collisions, bp_amc_collisions, bp_plan_read, bp_plan_write};
 static const struct side plain = {
-    plain_place,          plain_locate,    plain_fill,      plain_empty, plain_look, plain_ofusc_collisions,
-    plain_amc_collisions, plain_plan_read, plain_plan_write};
+    plain_place, plain_locate,           plain_fill,           plain_ground,    plain_lay,       plain_empty,
+    plain_look,  plain_ofusc_collisions, plain_amc_collisions, plain_plan_read, plain_plan_write};
 
 // All that a call may write.
 struct outcome {
@@ -48,16 +59,35 @@ static float pilot[2] = {-1.0f, -2.0f}, source_points[MOST_POINTS], source_grid[
 
 // --- the calls -------------------------------------------------------------------------------------------------------
 
-// Each makes one call for every request from `from` to before `to` and gives the sum of their refusals. The calls stand
-// in other files, so that the compiler can neither leave one out nor take one out of the loop.
+// Each makes one call (run_slot those of a slot) for every request from `from` to before `to` and gives the sum of
+// their refusals. The calls stand in other files, so that the compiler can neither leave one out nor take one out of
+// the loop.
 
 typedef uint32_t run_fn(const struct side *side, struct outcome *o, uint32_t from, uint32_t to);
 
-static uint32_t run_fill(const struct side *side, struct outcome *o, uint32_t from, uint32_t to) {
+// The points are as many as the mode and size have, in the strays too. So question 8, which plain_fill puts once and
+// the engine with each lay, is answered yes; all the others are the ground's.
+static uint32_t run_slot(const struct side *side, struct outcome *o, uint32_t from, uint32_t to) {
+    uint32_t sum = 0;
+    for (const struct request *q = requests + from; q < requests + to; q++) {
+        size_t points_len = LAID * (size_t)subchannels(q->mode, q->size);
+        sum += side->slot(q->mode, q->size, q->cell, q->slot, pilot, source_points, points_len, o->grid, q->grid_len);
+    }
+    return sum;
+}
+
+static uint32_t run_ground(const struct side *side, struct outcome *o, uint32_t from, uint32_t to) {
     uint32_t sum = 0;
     for (const struct request *q = requests + from; q < requests + to; q++)
-        sum += side->fill(q->mode, q->size, q->cell, q->slot, pilot, source_points, q->points_len, o->grid,
-                          q->grid_len);
+        sum += side->ground(q->mode, q->size, q->cell, q->slot, pilot, o->grid, q->grid_len);
+    return sum;
+}
+
+static uint32_t run_lay(const struct side *side, struct outcome *o, uint32_t from, uint32_t to) {
+    uint32_t sum = 0;
+    for (const struct request *q = requests + from; q < requests + to; q++)
+        sum += side->lay(q->mode, q->size, q->cell, q->slot, q->subchannel, source_points, q->lay_len, o->grid,
+                         q->grid_len);
     return sum;
 }
 
@@ -200,7 +230,7 @@ static void do_row(struct row r) {
 static const struct setup {
     const char *name;
     uint32_t mode, size;
-    bool between; // not its mode's smallest size nor its largest: timed for fill and empty only
+    bool between; // not its mode's smallest size nor its largest
 } setups[] = {
     {"PUSC downlink, 2048", PUSC_DL, 2048, false}, {"PUSC uplink, 2048", PUSC_UL, 2048, false},
     {"optional FUSC, 256", OFUSC, 256, false},     {"optional FUSC, 512", OFUSC, 512, true},
@@ -213,12 +243,15 @@ static const struct setup {
 };
 enum { SETUPS = sizeof setups / sizeof setups[0] };
 
-static void map_rows(const char *call, run_fn *run, bool by_point) {
+enum sizes { ENDS, ALL_SIZES }; // whether the setups between are left out
+enum unit { CALL, POINT };      // what the times are for: a point is one of the slot's data points
+
+static void map_rows(const char *call, run_fn *run, enum sizes sizes, enum unit unit) {
     for (const struct setup *s = setups; s < setups + SETUPS; s++) {
-        if (s->between && !by_point) continue;
+        if (s->between && sizes == ENDS) continue;
         uint32_t points = INDICES * subchannels(s->mode, s->size);
         draw_requests(s->mode, s->size);
-        do_row((struct row){call, s->name, run, REQUESTS, by_point ? points : 1});
+        do_row((struct row){call, s->name, run, REQUESTS, unit == POINT ? points : 1});
     }
 }
 
@@ -239,7 +272,9 @@ static void plan_rows(const char *call, run_fn *run) {
 }
 
 static void heading(void) {
-    printf("ns a point for fill and empty, ns a call for the others; the loop around a call is in its time.\n"
+    printf("ns a data point of the slot for slot, ground and empty, ns a call for the others; the loop around a call\n"
+           "is in its time. slot: the engine's ground and a lay for each subchannel, questions and all, against plain\n"
+           "C that fills the slot in one call. lay: one subchannel, 48 points.\n"
            "Warm buffers: %d requests (%d plans), drawn at random from what the call accepts, again and again.\n"
            "Best of %d rounds of %d to %d ms of processor time, both sides in turn.\n"
            "Each row first compared both sides on its requests and on %d more, many of which are refused.\n"
@@ -259,11 +294,13 @@ int main(int argc, char **argv) {
     for (int i = 0; i < MOST_POINTS; i++) source_points[i] = (float)i + 0.5f;
     for (int i = 0; i < MOST_GRID; i++) source_grid[i] = (float)i + 0.25f;
     if (timing) heading();
-    map_rows("fill", run_fill, true);
-    map_rows("empty", run_empty, true);
-    map_rows("place", run_place, false);
-    map_rows("locate", run_locate, false);
-    map_rows("look", run_look, false);
+    map_rows("slot", run_slot, ALL_SIZES, POINT);
+    map_rows("ground", run_ground, ALL_SIZES, POINT);
+    map_rows("lay", run_lay, ALL_SIZES, CALL);
+    map_rows("empty", run_empty, ALL_SIZES, POINT);
+    map_rows("place", run_place, ENDS, CALL);
+    map_rows("locate", run_locate, ENDS, CALL);
+    map_rows("look", run_look, ENDS, CALL);
     collision_rows();
     plan_rows("plan read", run_plan_read);
     plan_rows("plan write", run_plan_write);

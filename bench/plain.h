@@ -1,8 +1,10 @@
 // The benchmark's other side: the engine's calls in plain C. The same formulas, the same questions in the same order,
 // the same signatures; bellpulsar.h says what they mean.
 //
-// Each place is worked out by itself from mode, size, cell, slot, subchannel and index, also in fill and empty. place
+// Each place is worked out by itself from mode, size, cell, slot, subchannel and index, also in lay and empty. place
 // goes by the inverse table of R, locate and look by those of Q, P and both B; plain_tables works them out once.
+// plain_fill is no call of the engine: it writes at once what the ground and a lay of each subchannel write, and puts
+// questions 1 2 3 4 8 9, 8 about the points of the whole slot.
 #ifndef PLAIN_H
 #define PLAIN_H
 
@@ -16,6 +18,10 @@ uint32_t plain_place(uint32_t mode, uint32_t size, uint32_t cell, uint32_t slot,
                      uint32_t *symbol, int32_t *carrier);
 uint32_t plain_locate(uint32_t mode, uint32_t size, uint32_t cell, uint32_t symbol, int32_t carrier, uint32_t *kind,
                       uint32_t *slot, uint32_t *subchannel, uint32_t *index);
+uint32_t plain_ground(uint32_t mode, uint32_t size, uint32_t cell, uint32_t slot, const float pilot[2], float *grid,
+                      size_t grid_len);
+uint32_t plain_lay(uint32_t mode, uint32_t size, uint32_t cell, uint32_t slot, uint32_t subchannel, const float *points,
+                   size_t points_len, float *grid, size_t grid_len);
 uint32_t plain_fill(uint32_t mode, uint32_t size, uint32_t cell, uint32_t slot, const float pilot[2],
                     const float *points, size_t points_len, float *grid, size_t grid_len);
 uint32_t plain_empty(uint32_t mode, uint32_t size, uint32_t cell, uint32_t slot, const float *grid, size_t grid_len,

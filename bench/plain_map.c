@@ -273,20 +273,51 @@ static uint32_t slot_refusal(uint32_t mode, uint32_t size, uint32_t cell, uint32
 
 static void copy_point(float *to, const float *from) { memcpy(to, from, 2 * sizeof(float)); }
 
-uint32_t plain_fill(uint32_t mode, uint32_t size, uint32_t cell, uint32_t slot, const float pilot[2],
-                    const float *points, size_t points_len, float *grid, size_t grid_len) {
-    uint32_t row, refusal = slot_refusal(mode, size, cell, slot, points_len, grid_len);
-    if (refusal) return refusal;
-    memset(grid, 0, sizeof(float) * grid_len);
-    for (row = 0; row < symbols(mode); row++)
+static inline void put_ground(uint32_t mode, uint32_t size, uint32_t slot, const float pilot[2], float *grid) {
+    memset(grid, 0, sizeof(float) * grid_floats(mode, size));
+    for (uint32_t row = 0; row < symbols(mode); row++)
         for (uint32_t used = 0; used < used_numbers(mode, size); used++)
             if (is_pilot(mode, slot * symbols(mode) + row, used))
                 copy_point(grid + 2 * (row * size + column_of(mode, size, used)), pilot);
+}
+
+static inline void put_points(uint32_t mode, uint32_t size, uint32_t cell, uint32_t slot, uint32_t subchannel,
+                              const float *points, float *grid) {
+    for (uint32_t m = 0; m < INDICES; m++) {
+        uint32_t row, column = place(mode, size, cell, slot, subchannel, m, &row);
+        copy_point(grid + 2 * (row * size + column), points + 2 * m);
+    }
+}
+
+uint32_t plain_ground(uint32_t mode, uint32_t size, uint32_t cell, uint32_t slot, const float pilot[2], float *grid,
+                      size_t grid_len) {
+    uint32_t refusal = setup_refusal(mode, size, cell);
+    if (refusal) return refusal;
+    if (slot >= SLOTS) return 4;
+    if (grid_len != grid_floats(mode, size)) return 9;
+    put_ground(mode, size, slot, pilot, grid);
+    return 0;
+}
+
+uint32_t plain_lay(uint32_t mode, uint32_t size, uint32_t cell, uint32_t slot, uint32_t subchannel, const float *points,
+                   size_t points_len, float *grid, size_t grid_len) {
+    uint32_t refusal = setup_refusal(mode, size, cell);
+    if (refusal) return refusal;
+    if (slot >= SLOTS) return 4;
+    if (subchannel >= subchannels(mode, size)) return 5;
+    if (points_len != 2 * INDICES) return 8;
+    if (grid_len != grid_floats(mode, size)) return 9;
+    put_points(mode, size, cell, slot, subchannel, points, grid);
+    return 0;
+}
+
+uint32_t plain_fill(uint32_t mode, uint32_t size, uint32_t cell, uint32_t slot, const float pilot[2],
+                    const float *points, size_t points_len, float *grid, size_t grid_len) {
+    uint32_t refusal = slot_refusal(mode, size, cell, slot, points_len, grid_len);
+    if (refusal) return refusal;
+    put_ground(mode, size, slot, pilot, grid);
     for (uint32_t s = 0; s < subchannels(mode, size); s++)
-        for (uint32_t m = 0; m < INDICES; m++) {
-            uint32_t column = place(mode, size, cell, slot, s, m, &row);
-            copy_point(grid + 2 * (row * size + column), points + 2 * (INDICES * s + m));
-        }
+        put_points(mode, size, cell, slot, s, points + 2 * INDICES * s, grid);
     return 0;
 }
 

@@ -35,6 +35,7 @@ static struct request accepted_request(uint32_t mode, uint32_t size) {
         .carrier = (int32_t)below(size) - (int32_t)(size / 2),
         .cell_b = below(cell_count),
         .subchannel_b = below(subchannel_count),
+        .lay_len = 2 * INDICES,
         .points_len = 2 * INDICES * subchannel_count,
         .grid_len = 2 * size * symbols(mode),
     };
@@ -55,6 +56,7 @@ static void disturb_request(struct request *q) {
         {(uint32_t *)&q->carrier, q->size / 2},
         {&q->cell_b, cell_count},
         {&q->subchannel_b, subchannel_count},
+        {&q->lay_len, q->lay_len},
         {&q->points_len, q->points_len},
         {&q->grid_len, q->grid_len},
     };

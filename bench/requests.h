@@ -8,9 +8,10 @@
 // their fields are changed to limits of document 01 and numbers next to them, so that many are refused.
 enum { REQUESTS = 512, PLANS = 128, STRAYS = 512, PLAN_ROOM = 48 };
 
-// All fields that a call of the map may have; the second cell and subchannel are those of the collision calls.
+// All fields that a call of the map may have; the second cell and subchannel are those of the collision calls, lay_len
+// is the points' length in lay.
 struct request {
-    uint32_t mode, size, cell, slot, subchannel, index, symbol, cell_b, subchannel_b, points_len, grid_len;
+    uint32_t mode, size, cell, slot, subchannel, index, symbol, cell_b, subchannel_b, lay_len, points_len, grid_len;
     int32_t carrier;
 };
 

@@ -77,10 +77,16 @@ expect 1 "refused 3: Is the cell in range?" collisions 48 2352
 expect 2 "" collisions 48
 
 expect 0 "symbol 1 carrier -647: point (48, -48) of slot 0 subchannel 1 index 0
+subchannel 1 again: 96 of 12288 floats changed
+symbol 1 carrier -647: point (-48, 48) of slot 0 subchannel 1 index 0
 3360 points: all back" slot 1 2048 0 0
 expect 0 "symbol 9 carrier -123: point (48, -48) of slot 9 subchannel 1 index 0
+subchannel 1 again: 96 of 1024 floats changed
+symbol 9 carrier -123: point (-48, 48) of slot 9 subchannel 1 index 0
 384 points: all back" slot 3 512 7 9
 expect 0 "symbol 29 carrier -196: point (48, -48) of slot 9 subchannel 1 index 0
+subchannel 1 again: 96 of 3072 floats changed
+symbol 29 carrier -196: point (-48, 48) of slot 9 subchannel 1 index 0
 1152 points: all back" slot 4 512 7 9
 expect 1 "refused 2: Is the size that mode's (of a plan: 256, 512, 1024 or 2048)?" slot 2 4294967295 0 0
 

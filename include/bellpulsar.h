@@ -1,6 +1,6 @@
 /* Bellpulsar: the subcarrier map of IEEE 802.16e OFDMA, proved.
  *
- * Link with libbellpulsar.a or the shared libbellpulsar.so.2; nothing else is needed but the C library. The engine keeps no
+ * Link with libbellpulsar.a or the shared libbellpulsar.so.3; nothing else is needed but the C library. The engine keeps no
  * state, so calls may run side by side on different buffers.
  *
  * ANSWERS. Every call but bp_points_len and bp_grid_len returns 0, or the number of the first question of document 01 that is
@@ -38,6 +38,8 @@
  *   6 AMC 1x6          2048   0..2351   0..191       0..511   0..3071        18432      24576
  *
  *   index: 0..47, the points of one subchannel in one slot. carrier: -size/2..size/2-1, by rising frequency, DC at 0.
+ *   points_len: all points of a slot, for bp_empty. bp_lay has those of one subchannel, and its points_len is 96 in
+ *   every mode.
  *
  * size is the FFT size, cell the permutation base. symbol is the symbol's number in the zone: the slot times the slot's
  * length (2 symbols in mode 0, 3 in mode 1, 1 in mode 2; 1, 3, 2 and 6 in modes 3 to 6) plus the offset in the slot.
@@ -47,6 +49,7 @@
  * POINTS AND GRIDS. A point is two floats, in-phase first; its bits are copied as they are, those of a NaN too. Lengths
  * count floats and are exact: a longer buffer is refused as a shorter one is.
  * The points of a slot stand by subchannel, then index: point `index` of `subchannel` is at 2 * (48 * subchannel + index).
+ * So the points of one subchannel are the 96 floats from 96 * subchannel on.
  * The grid of a slot stands symbol after symbol, each by rising carrier: the point on `carrier` in the symbol with this
  * offset in the slot is at 2 * (offset * size + size / 2 + carrier).
  * Complex numbers fit: an array of `float complex` (C) or `std::complex<float>` (C++) is such a buffer, cast to float *, with
@@ -64,14 +67,14 @@ extern "C" {
 #endif
 
 /* The version of this interface. It goes up where a call changes for its callers, and is in the shared library's soname,
- * libbellpulsar.so.2. In version 2 carriers are signed and count from DC; before that they were 0..size-1. A caller can
- * hold itself to it:
+ * libbellpulsar.so.3. Version 3 fills a slot in two moves, bp_ground and bp_lay, and no longer has bp_fill. Since
+ * version 2 carriers are signed and count from DC; before that they were 0..size-1. A caller can hold itself to it:
  *
- *     #if BP_VERSION != 2
- *     #error "this program is written for version 2 of bellpulsar.h"
+ *     #if BP_VERSION != 3
+ *     #error "this program is written for version 3 of bellpulsar.h"
  *     #endif
  */
-#define BP_VERSION 2
+#define BP_VERSION 3
 
 /* Numbers by name: modes, kinds and refusals, which are uint32_t wherever a call takes or gives one. */
 enum bp_mode {
@@ -102,7 +105,7 @@ enum bp_refusal {
     BP_REFUSED_SUBCHANNEL = 5,  /* the subchannel is out of range */
     BP_REFUSED_INDEX = 6,       /* the index is not below 48 */
     BP_REFUSED_CARRIER = 7,     /* the carrier is not from -size/2 to size/2 - 1 */
-    BP_REFUSED_POINTS_LEN = 8,  /* points_len is not that of the mode and size */
+    BP_REFUSED_POINTS_LEN = 8,  /* points_len is not that of the mode and size (bp_lay: not 96) */
     BP_REFUSED_GRID_LEN = 9,    /* grid_len is not that of the mode and size */
     BP_REFUSED_CUT_SHORT = 10,  /* a plan's bytes end within a value, before its third group */
     BP_REFUSED_FORM = 11,       /* a value goes on after its third group, or is not in its shortest form */
@@ -135,17 +138,34 @@ size_t bp_points_len(uint32_t mode, uint32_t size);
  * have. */
 size_t bp_grid_len(uint32_t mode, uint32_t size);
 
-/* Lays a slot's points on its grid.
+/* A slot is filled in two moves, with the same mode, size, cell and slot: the ground once, then each subchannel's
+ * points, in any order, and again where they change. With the points of the whole slot:
  *
- * pilot: the point for every pilot; it is read on a refusal too. points: points_len floats, all points of the slot.
- * grid: grid_len floats, whatever they hold.
- * Written where it is accepted: the whole grid, the points on data carriers, the pilot point on pilots, +0.0 on guards
- * and DC.
- * Refusals, in this order: 1 mode, 2 size, 3 cell, 4 slot, 8 points_len, 9 grid_len. */
-uint32_t bp_fill(uint32_t mode, uint32_t size, uint32_t cell, uint32_t slot, const float pilot[2],
-                 const float *points, size_t points_len, float *grid, size_t grid_len);
+ *     bp_ground(mode, size, cell, slot, pilot, grid, grid_len);
+ *     for (uint32_t s = 0; s < bp_points_len(mode, size) / 96; s++)
+ *         bp_lay(mode, size, cell, slot, s, points + 96 * s, 96, grid, grid_len);
+ *
+ * The grid then holds the point that was laid last on each data carrier, the pilot point on pilots, +0.0 on guards and
+ * DC. Another slot has a ground of its own: its pilots may be on other carriers. */
 
-/* Takes a slot's points off its grid: the reverse of bp_fill.
+/* Lays the ground of a slot's grid: pilots and zeros.
+ *
+ * pilot: the point for every pilot; it is read on a refusal too. grid: grid_len floats, whatever they hold.
+ * Written where it is accepted: the whole grid, the pilot point on pilots, +0.0 on every other carrier, data too.
+ * Refusals, in this order: 1 mode, 2 size, 3 cell, 4 slot, 9 grid_len. */
+uint32_t bp_ground(uint32_t mode, uint32_t size, uint32_t cell, uint32_t slot, const float pilot[2],
+                   float *grid, size_t grid_len);
+
+/* Lays one subchannel's points on a slot's grid.
+ *
+ * points: the subchannel's 48 points by index; points_len is 96. grid: grid_len floats, whatever they hold.
+ * Written where it is accepted: the 96 floats of the carriers where bp_place puts the subchannel's points. Every other
+ * float of the grid keeps its contents.
+ * Refusals, in this order: 1 mode, 2 size, 3 cell, 4 slot, 5 subchannel, 8 points_len, 9 grid_len. */
+uint32_t bp_lay(uint32_t mode, uint32_t size, uint32_t cell, uint32_t slot, uint32_t subchannel,
+                const float *points, size_t points_len, float *grid, size_t grid_len);
+
+/* Takes all points of a slot off its grid: the reverse of laying every subchannel.
  *
  * grid: grid_len floats; only data carriers are read, pilots, guards and DC may hold anything.
  * Written where it is accepted: all points_len floats of points.

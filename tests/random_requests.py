@@ -3,6 +3,7 @@
     python3 tests/random_requests.py [SEED]
 
 Ten thousand requests a call. Every answer, every byte that is written and every byte that is not is compared (lent.py).
+A thousand times a slot is filled in two moves: its ground, then lays of all its subchannels in any order with repeats.
 Fails where one differs, and also where a refusal, a kind of carrier, a mode and size that a call has (with carriers on
 both sides of DC, within the range and past it), or a mode after another that a plan may have, never occurred.
 """
@@ -11,7 +12,7 @@ import random
 import sys
 from array import array
 from collections import Counter
-from functools import lru_cache
+from functools import lru_cache, partial
 from operator import itemgetter
 
 import lent
@@ -21,12 +22,15 @@ from lent import Arena, signed_word, words
 SEED = 802
 REQUESTS = 10000
 ROUND = 40  # requests of each call over one mode, size, cell and slot
+SLOT_ROUND = 4  # slots filled in two moves, over the same
 SETUPS = [(mode, size) for mode in ref.MODES for size in ref.sizes(mode)]
 ORDERS = [(a, b) for a in ref.PLAN_MODES for b in ref.PLAN_MODES if a not in ref.SHAPES or b in ref.SHAPES]
 KINDS = {ref.GUARD: 0, ref.DC: 1, ref.PILOT: 2, ref.DATA: 3}
 LARGEST = 2**32 - 1
 LEAST_CARRIER, GREATEST_CARRIER = -(2**31), 2**31 - 1
-POINTS_ROOM, GRID_ROOM = 2 * 96 * 192, 2 * 2 * 6 * 2048  # floats, twice the largest
+LAID = 96  # floats of one subchannel's points
+MOST_POINTS, MOST_GRID = LAID * 192, 2 * 6 * 2048  # floats of the slot that has most
+POINTS_ROOM, GRID_ROOM = 2 * MOST_POINTS, 2 * MOST_GRID
 
 
 # --- fields -----------------------------------------------------------------------------------
@@ -157,10 +161,16 @@ class GridLen(PointsLen):
 
 
 @lru_cache(maxsize=64)
+def ground_sources(mode, size, cell, slot):
+    """For each float of the ground, which of (0, the pilot's two) it is: the reference lays it with these numbers."""
+    return itemgetter(*ref.ground(mode, size, cell, slot, [1, 2], [9] * ref.grid_floats(mode, size))[1])
+
+
+@lru_cache(maxsize=64)
 def fill_sources(mode, size, cell, slot):
     """For each float of the filled grid, which of (0, the pilot's two, the points') it is: the reference fills a grid
     with these numbers."""
-    points = list(range(3, 3 + 96 * ref.subchannels(mode, size)))
+    points = list(range(3, 3 + LAID * ref.subchannels(mode, size)))
     return itemgetter(*ref.fill(mode, size, cell, slot, [1, 2], points, [0] * ref.grid_floats(mode, size))[1])
 
 
@@ -171,31 +181,86 @@ def empty_sources(mode, size, cell, slot):
     return itemgetter(*ref.empty(mode, size, cell, slot, list(range(ref.grid_floats(mode, size))), points)[1])
 
 
-def buffer_fields(dice, mode, size, cell, slot, points_last):
-    """The fields and both lengths of fill or empty."""
-    fields = spoiled(dice, [mode, size, cell, slot], setup_limits(mode, size) + [ref.SLOTS], {1: other_size})
-    points, grid = 96 * ref.subchannels(mode, size), ref.grid_floats(mode, size)
-    points_len = some_length(dice, points, grid, POINTS_ROOM, points_last)
-    grid_len = some_length(dice, grid, points, GRID_ROOM, not points_last)
-    return fields, points_len, grid_len
+def slot_fields(dice, mode, size, cell, slot):
+    return spoiled(dice, [mode, size, cell, slot], setup_limits(mode, size) + [ref.SLOTS], {1: other_size})
 
 
-class Fill:
-    name, arena = "bp_fill", Arena(8, 4 * POINTS_ROOM, 4 * GRID_ROOM)
-    refusals, cases = [1, 2, 3, 4, 8, 9], SETUPS
+class Ground:
+    name, arena = "bp_ground", Arena(8, 4 * GRID_ROOM)
+    refusals, cases = [1, 2, 3, 4, 9], SETUPS
 
     def request(self, dice, noise, mode, size, cell, slot):
-        fields, points_len, grid_len = buffer_fields(dice, mode, size, cell, slot, points_last=False)
-        number = ref.buffers_refusal(*fields, points_len, grid_len)
-        pilot, points, grid = map(self.arena.address, range(3))
-        arguments = fields + [pilot, pointer(dice, points, points_len), points_len]
-        arguments += [pointer(dice, grid, grid_len), grid_len]
+        fields = slot_fields(dice, mode, size, cell, slot)
+        grid_len = some_length(dice, ref.grid_floats(mode, size), LAID * ref.subchannels(mode, size), GRID_ROOM, True)
+        number = ref.ground_refusal(*fields, grid_len)
+        pilot, grid = map(self.arena.address, range(2))
+        arguments = fields + [pilot, pointer(dice, grid, grid_len), grid_len]
         if number:
             return arguments, [], number, [], []
-        floats = array("I", noise.run(dice, 8 + 4 * points_len))
+        floats = array("I", noise.run(dice, 8))
+        after = ground_sources(*fields)(array("I", [0]) + floats)
+        return arguments, [(0, floats.tobytes())], 0, [(1, array("I", after).tobytes())], [tuple(fields[:2])]
+
+
+class Lay:
+    """The points lie before the grid or behind it, so that either's length can be one past 32 bits."""
+
+    name, arena = "bp_lay", Arena(4 * MOST_POINTS, 4 * GRID_ROOM, 4 * MOST_POINTS)
+    refusals, cases = [1, 2, 3, 4, 5, 8, 9], SETUPS
+
+    def lengths(self, dice, mode, size, points_last):
+        points, grid = LAID * ref.subchannels(mode, size), ref.grid_floats(mode, size)
+        points_len = some_length(dice, LAID, points, MOST_POINTS, points_last)
+        return points_len, some_length(dice, grid, points, GRID_ROOM, not points_last)
+
+    def request(self, dice, noise, mode, size, cell, slot):
+        limits = setup_limits(mode, size) + [ref.SLOTS, ref.subchannels(mode, size)]
+        fields = spoiled(dice, [mode, size, cell, slot, within(dice, limits[4])], limits, {1: other_size})
+        piece = dice.choice([0, 2])
+        points_len, grid_len = self.lengths(dice, mode, size, piece == 2)
+        number = ref.lay_refusal(*fields, points_len, grid_len)
+        points, grid = self.arena.address(piece), self.arena.address(1)
+        arguments = fields + [pointer(dice, points, points_len), points_len, pointer(dice, grid, grid_len), grid_len]
+        if number:
+            return arguments, [], number, [], []
+        laid, before = array("I", noise.run(dice, 4 * LAID)), array("I", noise.run(dice, 4 * grid_len))
+        after = array("I", ref.lay(*fields, laid, before)[1])
+        given = [(piece, laid.tobytes()), (1, before.tobytes())]
+        return arguments, given, 0, [(1, after.tobytes())], [tuple(fields[:2])]
+
+
+def ground_and_lays(library, fields, pilot, lays, grid, grid_len):
+    """Both moves; lays are pairs of a subchannel and where its points are. The greatest refusal, or 0."""
+    numbers = [library.bp_ground(*fields, pilot, grid, grid_len)]
+    numbers += [library.bp_lay(*fields, subchannel, points, LAID, grid, grid_len) for subchannel, points in lays]
+    return max(numbers)
+
+
+class Slot:
+    """A slot's points are laid in any order with repeats: any floats, and its own when a subchannel comes last. So the
+    grid is the one that the reference fills."""
+
+    OTHERS = 1000  # floats that any points are taken from
+    name, arena = "ground_and_lays", Arena(8, 4 * MOST_POINTS, 4 * OTHERS, 4 * MOST_GRID)
+    refusals, cases, a_round = [], SETUPS, SLOT_ROUND
+
+    def lays(self, dice, subchannels):
+        order = [*range(subchannels), *dice.choices(range(subchannels), k=dice.randrange(subchannels))]
+        dice.shuffle(order)
+        last = {subchannel: n for n, subchannel in enumerate(order)}
+        for n, subchannel in enumerate(order):
+            own = self.arena.address(1) + 4 * LAID * subchannel
+            other = self.arena.address(2) + 4 * dice.randrange(self.OTHERS - LAID)
+            yield subchannel, (own if last[subchannel] == n else other)
+
+    def request(self, dice, noise, mode, size, cell, slot):
+        fields, subchannels = (mode, size, cell, slot), ref.subchannels(mode, size)
+        pilot, grid = self.arena.address(0), self.arena.address(3)
+        arguments = [fields, pilot, list(self.lays(dice, subchannels)), grid, ref.grid_floats(mode, size)]
+        floats = array("I", noise.run(dice, 8 + 4 * LAID * subchannels))
         after = fill_sources(*fields)(array("I", [0]) + floats)
         given = [(0, floats[:2].tobytes()), (1, floats[2:].tobytes())]
-        return arguments, given, 0, [(2, array("I", after).tobytes())], [tuple(fields[:2])]
+        return arguments, given, 0, [(3, array("I", after).tobytes())], [(mode, size)]
 
 
 class Empty:
@@ -203,7 +268,10 @@ class Empty:
     refusals, cases = [1, 2, 3, 4, 8, 9], SETUPS
 
     def request(self, dice, noise, mode, size, cell, slot):
-        fields, points_len, grid_len = buffer_fields(dice, mode, size, cell, slot, points_last=True)
+        fields = slot_fields(dice, mode, size, cell, slot)
+        points_floats, grid_floats = LAID * ref.subchannels(mode, size), ref.grid_floats(mode, size)
+        points_len = some_length(dice, points_floats, grid_floats, POINTS_ROOM, True)
+        grid_len = some_length(dice, grid_floats, points_floats, GRID_ROOM, False)
         number = ref.buffers_refusal(*fields, points_len, grid_len)
         grid, points = map(self.arena.address, range(2))
         arguments = fields + [pointer(dice, grid, grid_len), grid_len, pointer(dice, points, points_len), points_len]
@@ -373,7 +441,8 @@ class PlanWrite:
         return arguments, [(0, words(numbers[2:]))], number, written, met
 
 
-CALLS = [Place, Locate, PointsLen, GridLen, Fill, Empty, Look, OfuscCollisions, AmcCollisions, PlanRead, PlanWrite]
+MAP_CALLS = [Place, Locate, PointsLen, GridLen, Ground, Lay, Slot, Empty, Look]
+CALLS = MAP_CALLS + [OfuscCollisions, AmcCollisions, PlanRead, PlanWrite]
 
 
 # --- the run ----------------------------------------------------------------------------------
@@ -384,6 +453,7 @@ class Tally:
 
     def __init__(self, call):
         self.call, self.numbers, self.met = call(), Counter(), set()
+        self.a_round = getattr(call, "a_round", ROUND)
 
     def add(self, number, met):
         self.numbers[number] += 1
@@ -418,17 +488,18 @@ def main():
     if not lent.HAS_LONG:
         print("lengths past 32 bits are left out: no address space for them here")
     library, dice = lent.load(), random.Random(seed)
+    library.ground_and_lays = partial(ground_and_lays, library)
     noise = lent.Noise(dice)
     tallies = [Tally(call) for call in CALLS]
     for turn in range(REQUESTS // ROUND):
         mode, size = SETUPS[turn % len(SETUPS)]
         setup = mode, size, within(dice, ref.cells(mode, size)), within(dice, ref.SLOTS)
         for tally in tallies:
-            for _ in range(ROUND):
+            for _ in range(tally.a_round):
                 put(library, dice, noise, tally, setup)
     for tally in tallies:
         print(tally.text())
-        if sum(tally.numbers.values()) < REQUESTS or tally.missing():
+        if sum(tally.numbers.values()) < REQUESTS // ROUND * tally.a_round or tally.missing():
             sys.exit("%s: too few requests, or never met: %s" % (tally.call.name, tally.missing()))
     print("random requests: all agree with the reference")
 

@@ -1,4 +1,4 @@
-"""Document 01, as changed by document 02's wishes 1 to 3, in plain Python, written from the papers alone.
+"""Document 01, as changed by document 02's wishes 1 to 4, in plain Python, written from the papers alone.
 
 The stored vectors and the tests through C are made from this file. It is as simple as it can be
 and slow where that is simpler: locating builds the whole slot by placing and looks the carrier up.
@@ -88,15 +88,27 @@ def setup_refusal(mode, size, cell):
     return 0 if cell < cells(mode, size) else 3
 
 
-def place_refusal(mode, size, cell, slot, subchannel, index):
-    """Questions 1 to 6."""
+def slot_refusal(mode, size, cell, slot):
+    """Questions 1 to 4 of a call that has a slot."""
     number = setup_refusal(mode, size, cell)
     if number:
         return number
-    if slot >= SLOTS:
-        return 4
-    if subchannel >= subchannels(mode, size):
-        return 5
+    return 0 if slot < SLOTS else 4
+
+
+def subchannel_refusal(mode, size, cell, slot, subchannel):
+    """Questions 1 to 5."""
+    number = slot_refusal(mode, size, cell, slot)
+    if number:
+        return number
+    return 0 if subchannel < subchannels(mode, size) else 5
+
+
+def place_refusal(mode, size, cell, slot, subchannel, index):
+    """Questions 1 to 6."""
+    number = subchannel_refusal(mode, size, cell, slot, subchannel)
+    if number:
+        return number
     return 0 if index < POINTS else 6
 
 
@@ -116,13 +128,29 @@ def locate_refusal(mode, size, cell, symbol, carrier):
     return 0 if carrier in carriers(size) else 7
 
 
-def buffers_refusal(mode, size, cell, slot, points_len, grid_len):
-    """Questions 1, 2, 3, 4, 8, 9 of fill and empty. Lengths count floats."""
-    number = setup_refusal(mode, size, cell)
+def ground_refusal(mode, size, cell, slot, grid_len):
+    """Questions 1, 2, 3, 4, 9. Lengths count floats."""
+    number = slot_refusal(mode, size, cell, slot)
     if number:
         return number
-    if slot >= SLOTS:
-        return 4
+    return 0 if grid_len == grid_floats(mode, size) else 9
+
+
+def lay_refusal(mode, size, cell, slot, subchannel, points_len, grid_len):
+    """Questions 1, 2, 3, 4, 5, 8, 9; here 8 is about 96 floats (document 02, wish 4)."""
+    number = subchannel_refusal(mode, size, cell, slot, subchannel)
+    if number:
+        return number
+    if points_len != 2 * POINTS:
+        return 8
+    return 0 if grid_len == grid_floats(mode, size) else 9
+
+
+def buffers_refusal(mode, size, cell, slot, points_len, grid_len):
+    """Questions 1, 2, 3, 4, 8, 9 of empty, and of fill as document 01 has it."""
+    number = slot_refusal(mode, size, cell, slot)
+    if number:
+        return number
     if points_len != 96 * subchannels(mode, size):
         return 8
     return 0 if grid_len == grid_floats(mode, size) else 9
@@ -337,15 +365,27 @@ def place(mode, size, cell, slot, subchannel, index):
 GUARD, DC, PILOT, DATA = "guard", "dc", "pilot", "data"
 
 
+def slot_symbols(mode, slot):
+    return range(slot * SLOT_LENGTH[mode], (slot + 1) * SLOT_LENGTH[mode])
+
+
+def slot_pilots(mode, size, slot):
+    """(symbol, carrier) of every pilot of a slot."""
+    return [
+        (symbol, carrier_of_used(mode, size, used))
+        for symbol in slot_symbols(mode, slot)
+        for used in range(used_numbers(mode, size))
+        if is_pilot(mode, symbol, used)
+    ]
+
+
 @lru_cache(maxsize=64)
 def slot_map(mode, size, cell, slot):
     """What stands on each (symbol, carrier) of a slot; every place is taken once."""
-    found = {}
-    for symbol in range(slot * SLOT_LENGTH[mode], (slot + 1) * SLOT_LENGTH[mode]):
-        found[symbol, 0] = (DC,)
-        for used in range(used_numbers(mode, size)):
-            if is_pilot(mode, symbol, used):
-                found[symbol, carrier_of_used(mode, size, used)] = (PILOT,)
+    found = {(symbol, 0): (DC,) for symbol in slot_symbols(mode, slot)}
+    for pilot in slot_pilots(mode, size, slot):
+        assert pilot not in found
+        found[pilot] = (PILOT,)
     for subchannel in range(subchannels(mode, size)):
         for index in range(POINTS):
             _, symbol, carrier = place(mode, size, cell, slot, subchannel, index)
@@ -380,8 +420,33 @@ def points_at(subchannel, index):
     return 2 * (POINTS * subchannel + index)
 
 
+def ground(mode, size, cell, slot, pilot, grid):
+    """(refusal, the grid afterwards): the pilot point on pilots, zeros elsewhere, on data carriers too."""
+    number = ground_refusal(mode, size, cell, slot, len(grid))
+    if number:
+        return number, list(grid)
+    after = [0] * len(grid)
+    for symbol, carrier in slot_pilots(mode, size, slot):
+        at = grid_at(mode, size, symbol, carrier)
+        after[at : at + 2] = pilot
+    return 0, after
+
+
+def lay(mode, size, cell, slot, subchannel, points, grid):
+    """(refusal, the grid afterwards): one subchannel's 48 points where they are placed, no other float touched."""
+    number = lay_refusal(mode, size, cell, slot, subchannel, len(points), len(grid))
+    if number:
+        return number, list(grid)
+    after = list(grid)
+    for index in range(POINTS):
+        _, symbol, carrier = place(mode, size, cell, slot, subchannel, index)
+        at = grid_at(mode, size, symbol, carrier)
+        after[at : at + 2] = points[2 * index : 2 * index + 2]
+    return 0, after
+
+
 def fill(mode, size, cell, slot, pilot, points, grid):
-    """(refusal, the grid afterwards)."""
+    """(refusal, the grid afterwards). No call any more, but what the ground and a lay of every subchannel must give."""
     number = buffers_refusal(mode, size, cell, slot, len(points), len(grid))
     if number:
         return number, list(grid)

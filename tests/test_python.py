@@ -6,6 +6,7 @@
 Standard library only; what concerns numpy is tried where numpy is installed.
 """
 
+import contextlib
 import ctypes
 import doctest
 import itertools
@@ -220,19 +221,60 @@ class Collisions(unittest.TestCase):
 # --- refusals ---------------------------------------------------------------------------------
 #
 # A call is tried with each field in range or not, in every combination; the number comes from the reference. Where a
-# field is a length, the call is made with buffers of that length.
+# field is a length, the call is made with buffers of that length, which a refusal leaves as they were.
+
+
+@contextlib.contextmanager
+def kept_by_refusals(*buffers):
+    before = [buffer.tobytes() for buffer in buffers]
+    try:
+        yield
+    except bp.Refusal:
+        assert [buffer.tobytes() for buffer in buffers] == before
+        raise
+
+
+def ground_with(mode, size, cell, slot, grid_len):
+    grid = floats(grid_len)
+    with kept_by_refusals(grid):
+        bp.ground(mode, size, cell, slot, (1.0, 0.0), grid)
+
+
+def lay_with(mode, size, cell, slot, subchannel, points_len, grid_len):
+    points, grid = floats(points_len, 3.0), floats(grid_len)
+    with kept_by_refusals(points, grid):
+        bp.lay(mode, size, cell, slot, subchannel, points, grid)
 
 
 def fill_with(mode, size, cell, slot, points_len, grid_len):
-    bp.fill(mode, size, cell, slot, (1.0, 0.0), floats(points_len), floats(grid_len))
+    points, grid = floats(points_len, 3.0), floats(grid_len)
+    with kept_by_refusals(points, grid):
+        bp.fill(mode, size, cell, slot, (1.0, 0.0), points, grid)
 
 
 def empty_with(mode, size, cell, slot, points_len, grid_len):
-    bp.empty(mode, size, cell, slot, floats(grid_len), floats(points_len))
+    points, grid = floats(points_len, 3.0), floats(grid_len)
+    with kept_by_refusals(points, grid):
+        bp.empty(mode, size, cell, slot, grid, points)
 
 
 def look_with(mode, size, cell, symbol, grid_len, carrier):
     bp.look(mode, size, cell, symbol, floats(grid_len), carrier)
+
+
+def ground_refusal(mode, size, cell, slot, grid_len):
+    """Questions 1, 2, 3, 4, 9."""
+    return lay_refusal(mode, size, cell, slot, 0, 96, grid_len)
+
+
+def lay_refusal(mode, size, cell, slot, subchannel, points_len, grid_len):
+    """Questions 1, 2, 3, 4, 5, 8, 9."""
+    number = ref.place_refusal(mode, size, cell, slot, subchannel, 0)
+    if number:
+        return number
+    if points_len != 96:
+        return 8
+    return 0 if grid_len == ref.grid_floats(mode, size) else 9
 
 
 def calls_of(mode, size):
@@ -243,6 +285,8 @@ def calls_of(mode, size):
     setup, past = (mode, size, cells - 1), (7, size + 1, cells)
     yield bp.place, ref.place_refusal, (*setup, 511, subs - 1, 47), (*past, 512, subs, 48)
     yield bp.locate, ref.locate_refusal, (*setup, symbols - 1, size // 2 - 1), (*past, symbols, size // 2)
+    yield ground_with, ground_refusal, (*setup, 511, grid), (*past, 512, grid + 2)
+    yield lay_with, lay_refusal, (*setup, 511, subs - 1, 96, grid), (*past, 512, subs, points, grid - 2)
     yield fill_with, ref.buffers_refusal, (*setup, 511, points, grid), (*past, 512, points + 1, grid + 1)
     yield empty_with, ref.buffers_refusal, (*setup, 511, points, grid), (*past, 512, points - 1, grid - 1)
     yield (
@@ -265,7 +309,7 @@ def amc_refusal(cell_a, cell_b):
 
 
 AMC_COLLISIONS = (bp.amc_collisions, amc_refusal, (2351, 2351), (2352, 2352))
-LENGTHS = {fill_with: (4, 5), empty_with: (4, 5), look_with: (4,)}
+LENGTHS = {ground_with: (4,), lay_with: (5, 6), fill_with: (4, 5), empty_with: (4, 5), look_with: (4,)}
 CARRIERS = {bp.locate: 4, look_with: 5}
 
 
@@ -317,6 +361,15 @@ class Refusals(unittest.TestCase):
 
     def test_a_bad_field_comes_before_a_bad_length(self):
         wrong = floats(1)
+        self.assertEqual(refusal(bp.ground, 2, 1024, 256, 512, (1, 0), wrong), 3)
+        self.assertEqual(refusal(bp.ground, 2, 1024, 255, 512, (1, 0), wrong), 4)
+        self.assertEqual(refusal(bp.ground, 2, 1024, 255, 511, (1, 0), wrong), 9)
+        self.assertEqual(refusal(bp.lay, 2, 1024, 255, 512, 16, wrong, wrong[:0]), 4)
+        self.assertEqual(refusal(bp.lay, 2, 1024, 255, 511, 16, wrong, wrong[:0]), 5)
+        self.assertEqual(refusal(bp.lay, 2, 1024, 255, 511, -1, wrong, wrong[:0]), 5)
+        self.assertEqual(refusal(bp.lay, 2, 1024, 255, 511, 15, wrong, wrong[:0]), 8)
+        self.assertEqual(refusal(bp.lay, 2, 1024, 255, 511, 15, floats(1536), wrong[:0]), 8)
+        self.assertEqual(refusal(bp.lay, 2, 1024, 255, 511, 15, floats(96), wrong[:0]), 9)
         self.assertEqual(refusal(bp.fill, 2, 1024, 256, 0, (1, 0), wrong, wrong[:0]), 3)
         self.assertEqual(refusal(bp.fill, 2, 1024, -1, 512, (1, 0), wrong, wrong[:0]), 3)
         self.assertEqual(refusal(bp.fill, 2, 1024, 255, 512, (1, 0), wrong, wrong[:0]), 4)
@@ -362,6 +415,8 @@ class Refusals(unittest.TestCase):
         names = {
             bp.place: "mode size cell slot subchannel index",
             bp.locate: "mode size cell symbol carrier",
+            ground_with: "mode size cell slot grid",
+            lay_with: "mode size cell slot subchannel points grid",
             look_with: "mode size cell symbol grid carrier",
             bp.ofusc_collisions: "size cell_a subchannel_a cell_b subchannel_b",
             bp.amc_collisions: "cell_a cell_b",
@@ -380,6 +435,10 @@ class Refusals(unittest.TestCase):
                 self.assertEqual(told.split(": ")[1], accepted.get(name, "0 to %d" % good[at]))
 
     def test_words_of_both_lengths(self):
+        self.assertEqual(words(ground_with, 2, 1024, 0, 0, 2046), "grid of 2046 floats, not 2048")
+        self.assertEqual(words(lay_with, 2, 1024, 0, 0, 0, 95, 2048), "points of 95 floats, not 96")
+        self.assertEqual(words(lay_with, 6, 2048, 0, 0, 191, 18432, 24576), "points of 18432 floats, not 96")
+        self.assertEqual(words(lay_with, 6, 2048, 0, 0, 191, 96, 4096), "grid of 4096 floats, not 24576")
         self.assertEqual(words(fill_with, 2, 1024, 0, 0, 95, 2048), "points of 95 floats, not 1536")
         self.assertEqual(words(empty_with, 2, 1024, 0, 0, 1536, 0), "grid of 0 floats, not 2048")
         self.assertEqual(words(look_with, 0, 2048, 0, 0, 5, 0), "grid of 5 floats, not 8192")
@@ -390,6 +449,7 @@ class Refusals(unittest.TestCase):
         self.assertEqual(words(bp.place, 7, 2048, 0, 0, 0, 0), "mode 7 is not one of the map's: 0 to 6")
         last = "subchannel 192 is not one of mode 6's at size 2048: 0 to 191"
         self.assertEqual(words(bp.place, 6, 2048, 0, 0, 192, 0), last)
+        self.assertEqual(words(lay_with, 6, 2048, 0, 0, 192, 96, 24576), last)
         self.assertEqual(words(bp.locate, 6, 256, 0, 3072, 0), "symbol 3072 is not one of mode 6's: 0 to 3071")
         self.assertEqual(words(bp.place, 4, 128, 0, 0, 0, 0), "size 128 is not one of mode 4's: 256, 512, 1024, 2048")
         self.assertEqual(words(bp.place, 5, 256, 2352, 0, 0, 0), "cell 2352 is not one of mode 5's: 0 to 2351")
@@ -467,7 +527,7 @@ class Refusals(unittest.TestCase):
             refusal(bp.place, 2, 1024, 0, 0, 16, 0),
             refusal(bp.place, 2, 1024, 0, 0, 0, 48),
             refusal(bp.locate, 2, 1024, 0, 0, 512),
-            refusal(bp.fill, 2, 1024, 0, 0, (0, 0), floats(0), floats(0)),
+            refusal(bp.lay, 2, 1024, 0, 0, 0, floats(0), floats(0)),
             refusal(bp.look, 2, 1024, 0, 0, floats(0), 0),
             read(""),
             read("8100"),
@@ -493,7 +553,58 @@ def as_floats(patterns):
     return memoryview(patterns).cast("B").cast("f")
 
 
+def own(points, subchannel):
+    """One subchannel's points, of all points of a slot."""
+    return memoryview(points)[96 * subchannel : 96 * (subchannel + 1)]
+
+
 class Grids(unittest.TestCase):
+    def test_the_ground_to_the_bit(self):
+        """Whatever the grid holds: the pilot point on pilots, +0.0 on every other carrier."""
+        rng = random.Random(11)
+        for mode, size in SETUPS:
+            for cell, slot in zip(some_cells(mode, size, 12, more=1), (0, 1, 511)):
+                pilot, grid = random_bits(rng, 2), random_bits(rng, ref.grid_floats(mode, size))
+                before, wanted = pilot[:], array("I", [0]) * len(grid)
+                for (symbol, carrier), what in ref.slot_map(mode, size, cell, slot).items():
+                    if what[0] == ref.PILOT:
+                        at = ref.grid_at(mode, size, symbol, carrier)
+                        wanted[at : at + 2] = pilot
+                bp.ground(mode, size, cell, slot, as_floats(pilot), as_floats(grid))
+                self.assertEqual((grid, pilot), (wanted, before), (mode, size, cell, slot))
+
+    def test_a_subchannel_and_no_other_float(self):
+        """Whatever the grid holds: only where the reference places the subchannel's points it changes."""
+        rng = random.Random(13)
+        for mode, size in SETUPS:
+            for cell, slot in zip(some_cells(mode, size, 14, more=1), (0, 1, 511)):
+                grid = random_bits(rng, ref.grid_floats(mode, size))
+                wanted = grid[:]
+                for subchannel in range(ref.subchannels(mode, size)):
+                    fields, points = (mode, size, cell, slot, subchannel), random_bits(rng, 96)
+                    before = points[:]
+                    for index in range(48):
+                        at = ref.grid_at(mode, size, *ref.place(*fields, index)[1:])
+                        wanted[at : at + 2] = points[2 * index : 2 * index + 2]
+                    bp.lay(*fields, as_floats(points), as_floats(grid))
+                    self.assertEqual((grid, points), (wanted, before), fields)
+
+    def test_any_order_and_again(self):
+        """The ground, then every subchannel in some order, some of them more than once: the last time counts."""
+        rng = random.Random(15)
+        for mode, size in SETUPS:
+            setup = (mode, size, rng.randrange(ref.cells(mode, size)), rng.randrange(512))
+            every = range(ref.subchannels(mode, size))
+            points, pilot = random_bits(rng, 96 * len(every)), random_bits(rng, 2)
+            wanted, grid = (random_bits(rng, ref.grid_floats(mode, size)) for _ in range(2))
+            bp.fill(*setup, as_floats(pilot), as_floats(points), as_floats(wanted))
+            order = rng.sample([*every, *rng.choices(every, k=len(every))], 2 * len(every))
+            bp.ground(*setup, as_floats(pilot), as_floats(grid))
+            for at, subchannel in enumerate(order):
+                laid = random_bits(rng, 96) if subchannel in order[at + 1 :] else own(points, subchannel)
+                bp.lay(*setup, subchannel, as_floats(laid), as_floats(grid))
+            self.assertEqual(grid, wanted, setup)
+
     def test_bits_as_the_reference_and_back(self):
         rng = random.Random(5)
         for mode, size in SETUPS:
@@ -534,18 +645,21 @@ class Grids(unittest.TestCase):
         pilots += [memoryview(array("f", [0.5, -2])), memoryview(array("f", [9, 0.5, -2]))[1:]]
         pilots += [0.5 - 2j, complex(0.5, -2.0)]
         for pilot in pilots:
-            grid = grid_for(2, 256)
-            bp.fill(2, 256, 0, 0, pilot, points, grid)
-            self.assertEqual(bp.look(2, 256, 0, 0, grid, -107), (Kind.PILOT, (0.5, -2.0), None, None, None))
+            grid, filled = grid_for(2, 256), grid_for(2, 256)
+            bp.ground(2, 256, 0, 0, pilot, grid)
+            bp.fill(2, 256, 0, 0, pilot, points, filled)
+            for after in (grid, filled):
+                self.assertEqual(bp.look(2, 256, 0, 0, after, -107), (Kind.PILOT, (0.5, -2.0), None, None, None))
 
     def test_pilot_may_stand_in_the_points_or_the_grid(self):
         points, grid = points_for(2, 256), grid_for(2, 256)
         bp.fill(2, 256, 0, 0, memoryview(points)[4:6], points, grid)
         self.assertEqual(bp.look(2, 256, 0, 0, grid, -107).point, (4.0, 5.0))
-        grid = floats(512, 3.0)
-        bp.fill(2, 256, 0, 0, memoryview(grid)[:2], points, grid)
-        self.assertEqual(bp.look(2, 256, 0, 0, grid, -107).point, (3.0, 3.0))
-        self.assertEqual(grid[0], 0.0)
+        for call, buffers in ((bp.ground, ()), (bp.fill, (points,))):
+            grid = floats(512, 3.0)
+            call(2, 256, 0, 0, memoryview(grid)[:2], *buffers, grid)
+            self.assertEqual(bp.look(2, 256, 0, 0, grid, -107).point, (3.0, 3.0))
+            self.assertEqual(grid[0], 0.0)
 
 
 class Lengths(unittest.TestCase):
@@ -575,6 +689,11 @@ class Lending(unittest.TestCase):
             large = floats(length + 12, 5.0)
             bp.fill(mode, size, 1, 3, (1, 2), points, memoryview(large)[5 : 5 + length])
             self.assertEqual(large, floats(5, 5.0) + plain + floats(7, 5.0))
+            moved = floats(length + 12, 5.0)
+            bp.ground(mode, size, 1, 3, (1, 2), memoryview(moved)[5 : 5 + length])
+            for subchannel in range(ref.subchannels(mode, size)):
+                bp.lay(mode, size, 1, 3, subchannel, own(points, subchannel), memoryview(moved)[5 : 5 + length])
+            self.assertEqual(moved, large)
             taken = floats(len(points) + 9, 6.0)
             bp.empty(mode, size, 1, 3, memoryview(large)[5 : 5 + length], memoryview(taken)[2:-7])
             self.assertEqual(taken, floats(2, 6.0) + points + floats(7, 6.0))
@@ -599,17 +718,53 @@ class Lending(unittest.TestCase):
             ((ctypes.c_float * 2) * 512)(),
         ]
         for source, grid in itertools.product(sources, grids):
+            ctypes.memset((ctypes.c_byte * 4096).from_buffer(grid), 1, 4096)
             bp.fill(3, 512, 100, 1, (1, 2), source, grid)
             self.assertEqual(memoryview(grid).tobytes(), plain.tobytes())
             again = floats(len(points))
             bp.empty(3, 512, 100, 1, memoryview(grid).toreadonly(), again)
             self.assertEqual(again, points)
 
+    def test_every_kind_of_buffer_in_two_moves(self):
+        points, plain = points_for(3, 512), grid_for(3, 512)
+        bp.fill(3, 512, 100, 1, (1, 2), points, plain)
+
+        def sources(laid):
+            """One subchannel's points."""
+            return [
+                laid,
+                memoryview(laid),
+                memoryview(laid).toreadonly(),
+                memoryview(laid.tobytes()).cast("f"),
+                memoryview(laid.tobytes()).cast("f", shape=[48, 2]),
+                (ctypes.c_float * 96)(*laid),
+                ((ctypes.c_float * 2) * 48).from_buffer_copy(laid),
+                memoryview(floats(3) + laid)[3:],
+            ]
+
+        grids = [
+            floats(1024),
+            memoryview(floats(1024)),
+            memoryview(bytearray(4096)).cast("f"),
+            memoryview(bytearray(4096)).cast("f", shape=[1, 512, 2]),
+            (ctypes.c_float * 1024)(),
+            ((ctypes.c_float * 2) * 512)(),
+        ]
+        for grid, first in itertools.product(grids, range(8)):
+            ctypes.memset((ctypes.c_byte * 4096).from_buffer(grid), 1, 4096)
+            bp.ground(3, 512, 100, 1, (1, 2), grid)
+            for subchannel in range(8):
+                kinds = sources(points[96 * subchannel : 96 * (subchannel + 1)])
+                bp.lay(3, 512, 100, 1, subchannel, kinds[(first + subchannel) % 8], grid)
+            self.assertEqual(memoryview(grid).tobytes(), plain.tobytes())
+
     def test_nothing_is_copied(self):
         points, grid = points_for(1, 2048), grid_for(1, 2048)
         source = memoryview(points.tobytes()).cast("f")
         bp.fill(1, 2048, 0, 0, (1, 2), source, grid)
         tracemalloc.start()
+        bp.ground(1, 2048, 0, 0, (1, 2), grid)
+        bp.lay(1, 2048, 0, 0, 69, own(source, 69), grid)
         bp.fill(1, 2048, 0, 0, (1, 2), source, grid)
         bp.empty(1, 2048, 0, 0, grid, points)
         bp.look(1, 2048, 0, 0, grid, 500)
@@ -622,6 +777,8 @@ class Lending(unittest.TestCase):
         points, grid = points_for(2, 256), grid_for(2, 256)
         dest, pilot = bytearray(9), array("f", [1, 2])
         for cell in (0, 16):
+            refusal(bp.ground, 2, 256, cell, 0, pilot, grid)
+            refusal(bp.lay, 2, 256, cell, 0, 0, points, grid)
             refusal(bp.fill, 2, 256, cell, 0, pilot, points, grid)
             refusal(bp.empty, 2, 256, cell, 0, grid, points)
             refusal(bp.look, 2, 256, cell, 0, grid, 0)
@@ -631,11 +788,17 @@ class Lending(unittest.TestCase):
         self.assertRaises(ValueError, bp.fill, 2, 256, 0, 0, floats(3), points, grid)
         self.assertRaises(ValueError, bp.fill, 2, 256, 0, 0, pilot, grid, grid)
         self.assertRaises(TypeError, bp.fill, 2, 256, 0, 0, pilot, points, dest)
+        self.assertRaises(TypeError, bp.ground, 2, 256, 0, 0, pilot, dest)
+        self.assertRaises(ValueError, bp.lay, 2, 256, 0, 0, 0, grid, grid)
+        self.assertRaises(TypeError, bp.lay, 2, 256, 0, 0, 0, points, dest)
         for buffer in (points, grid, dest, pilot):
             buffer.append(0)
 
     def test_empty_buffers(self):
         for none in (array("f"), memoryview(bytearray()).cast("f"), (ctypes.c_float * 0)()):
+            self.assertEqual(refusal(bp.ground, 2, 256, 0, 0, (1, 2), none), 9)
+            self.assertEqual(refusal(bp.lay, 2, 256, 0, 0, 0, none, none), 8)
+            self.assertEqual(refusal(bp.lay, 2, 256, 0, 0, 0, floats(96), none), 9)
             self.assertEqual(refusal(bp.fill, 2, 256, 0, 0, (1, 2), none, none), 8)
             self.assertEqual(refusal(bp.fill, 2, 256, 0, 0, (1, 2), points_for(2, 256), none), 9)
             self.assertEqual(refusal(bp.empty, 2, 256, 0, 0, none, none), 8)
@@ -647,9 +810,18 @@ class Lending(unittest.TestCase):
             short = points[:-1], grid[:-1]
             bads = [(9, size, 0, 0), (mode, 3, 0, 0), (mode, size, 4000, 0), (mode, size, 0, 512), (mode, size, 0, -1)]
             for fields in bads:
+                self.assertTrue(refusal(bp.ground, *fields, (1, 2), grid))
+                self.assertTrue(refusal(bp.lay, *fields, 0, own(points, 0), grid))
                 self.assertTrue(refusal(bp.fill, *fields, (1, 2), points, grid))
                 self.assertTrue(refusal(bp.empty, *fields, grid, points))
+            self.assertEqual(refusal(bp.ground, mode, size, 0, 0, (1, 2), short[1]), 9)
+            for subchannel in (ref.subchannels(mode, size), -1, 2**32):
+                self.assertEqual(refusal(bp.lay, mode, size, 0, 0, subchannel, own(points, 0), grid), 5)
+            for length in (0, 48, 94, 95, 97, 98, 192, len(points)):
+                self.assertEqual(refusal(bp.lay, mode, size, 0, 0, 0, memoryview(points)[:length], grid), 8)
+            self.assertEqual(refusal(bp.lay, mode, size, 0, 0, 0, own(points, 0), short[1]), 9)
             self.assertEqual(refusal(bp.fill, mode, size, 0, 0, (1, 2), short[0], grid), 8)
+            self.assertEqual(refusal(bp.fill, mode, size, 0, 0, (1, 2), own(points, 0), grid), 8)
             self.assertEqual(refusal(bp.fill, mode, size, 0, 0, (1, 2), points, short[1]), 9)
             self.assertEqual(refusal(bp.empty, mode, size, 0, 0, grid, short[0]), 8)
             self.assertEqual(refusal(bp.empty, mode, size, 0, 0, short[1], points), 9)
@@ -674,8 +846,10 @@ class NoRefusal(unittest.TestCase):
         """Of the two buffers one is bad; the other is good."""
         self.fails(error, bp.fill, 2, 256, 0, 0, (1, 2), points, grid)
         self.fails(error, bp.empty, 2, 256, 0, 0, grid, points)
+        self.fails(error, bp.lay, 2, 256, 0, 0, 0, own(points, 0) if points is self.points else points, grid)
         if grid is not self.grid:
             self.fails(error, bp.look, 2, 256, 0, 0, grid, 0)
+            self.fails(error, bp.ground, 2, 256, 0, 0, (1, 2), grid)
 
     def test_elements_that_are_no_32_bit_floats(self):
         for kind in "dbBhHiIlLqQ":
@@ -698,8 +872,12 @@ class NoRefusal(unittest.TestCase):
         self.fails_everywhere(BufferError, self.points, memoryview(floats(512))[::-1])
 
     def test_read_only_destination(self):
-        self.fails(BufferError, bp.fill, 2, 256, 0, 0, (1, 2), self.points, memoryview(self.grid).toreadonly())
-        self.fails(BufferError, bp.fill, 2, 256, 0, 0, (1, 2), self.points, memoryview(bytes(2048)).cast("f"))
+        kept = bytes(2048)
+        for grid in (memoryview(self.grid).toreadonly(), memoryview(kept).cast("f")):
+            self.fails(BufferError, bp.ground, 2, 256, 0, 0, (1, 2), grid)
+            self.fails(BufferError, bp.lay, 2, 256, 0, 0, 0, own(self.points, 0), grid)
+            self.fails(BufferError, bp.fill, 2, 256, 0, 0, (1, 2), self.points, grid)
+        self.assertEqual(kept, bytes(2048))
         self.fails(BufferError, bp.empty, 2, 256, 0, 0, self.grid, memoryview(self.points).toreadonly())
         kept = bytes(64)
         self.fails(BufferError, bp.plan_write, 1, 1024, [(2, 0, 1)] + [(0, 0, 0)] * 7, kept)
@@ -712,20 +890,25 @@ class NoRefusal(unittest.TestCase):
             self.fails_everywhere(ValueError, self.points, odd)
             self.assertEqual(odd.tobytes(), bytes(2048))
 
+    def fails_with_pilot(self, error, pilot):
+        self.fails(error, bp.ground, 2, 256, 0, 0, pilot, self.grid)
+        self.fails(error, bp.fill, 2, 256, 0, 0, pilot, self.points, self.grid)
+
     def test_pilot(self):
         for pilot in ((), (1,), (1, 2, 3), [1.0] * 3, floats(0), floats(1), floats(3), (ctypes.c_float * 4)()):
-            self.fails(ValueError, bp.fill, 2, 256, 0, 0, pilot, self.points, self.grid)
+            self.fails_with_pilot(ValueError, pilot)
         for pilot in (1, 1.0, None, "12", array("d", [1, 2]), bytes(8), iter((1, 2)), ("1", "2"), (1j, 0), (None, 0)):
-            self.fails(TypeError, bp.fill, 2, 256, 0, 0, pilot, self.points, self.grid)
-        self.fails(BufferError, bp.fill, 2, 256, 0, 0, memoryview(floats(4))[::2], self.points, self.grid)
+            self.fails_with_pilot(TypeError, pilot)
+        self.fails_with_pilot(BufferError, memoryview(floats(4))[::2])
 
     def test_a_pilot_that_no_float_holds(self):
         for number in (3.5e38, -3.5e38, 1e308, 2**128, -(10**400)):
             for pilot in ((number, 0), [0, number]):
-                self.fails(OverflowError, bp.fill, 2, 256, 0, 0, pilot, self.points, self.grid)
+                self.fails_with_pilot(OverflowError, pilot)
         for pilot in (3.5e38 + 0j, 3.5e38j):
-            self.fails(OverflowError, bp.fill, 2, 256, 0, 0, pilot, self.points, self.grid)
+            self.fails_with_pilot(OverflowError, pilot)
         for number in (3.4028234663852886e38, -3.4028234663852886e38, float("inf"), 1e-60):
+            bp.ground(2, 256, 0, 0, (number, 0), grid_for(2, 256))
             bp.fill(2, 256, 0, 0, (number, 0), points_for(2, 256), grid_for(2, 256))
 
     def test_points_and_grid_overlap(self):
@@ -734,9 +917,11 @@ class NoRefusal(unittest.TestCase):
             points, grid = memoryview(memory)[at : at + 384], memoryview(memory)[:512]
             self.fails(ValueError, bp.fill, 2, 256, 0, 0, (1, 2), points, grid)
             self.fails(ValueError, bp.empty, 2, 256, 0, 0, grid, points)
+            self.fails(ValueError, bp.lay, 2, 256, 0, 0, 0, points[:96], grid)
             grid = memoryview(memory)[at + 383 : at + 383 + 512]
             self.fails(ValueError, bp.fill, 2, 256, 0, 0, (1, 2), points, grid)
             self.fails(ValueError, bp.empty, 2, 256, 0, 0, grid, points)
+            self.fails(ValueError, bp.lay, 2, 256, 0, 0, 0, points[-96:], grid)
             self.assertEqual(memory, floats(1024))
 
     def test_neighbours_do_not_overlap(self):
@@ -745,12 +930,19 @@ class NoRefusal(unittest.TestCase):
         bp.fill(2, 256, 0, 0, (1, 2), view[:384], view[384:])
         self.assertEqual(memory[:384], floats(384))
         bp.empty(2, 256, 0, 0, view[:512], view[512:])
+        bp.lay(2, 256, 0, 0, 3, view[512 : 512 + 96], view[:512])
+        bp.lay(2, 256, 0, 0, 3, view[384 - 96 : 384], view[384:])
+        self.assertEqual(refusal(bp.lay, 2, 256, 0, 0, 0, view[5:5], view[:512]), 8)
         self.assertEqual(refusal(bp.fill, 2, 256, 0, 0, (1, 2), view[5:5], view[:512]), 8)
         self.assertEqual(refusal(bp.empty, 2, 256, 0, 0, view[5:5], view[:384]), 9)
 
     def test_they_come_before_every_question(self):
         self.fails(TypeError, bp.fill, 9, 256, 0, 0, (1, 2), array("d"), self.grid)
         self.fails(ValueError, bp.fill, 9, 256, 0, 0, (1,), self.points, self.grid)
+        self.fails(ValueError, bp.ground, 9, 256, 0, 0, (1,), self.grid)
+        self.fails(TypeError, bp.ground, 9, 256, 0, 0, (1, 2), array("d"))
+        self.fails(TypeError, bp.lay, 9, 256, 0, 0, 0, array("d"), self.grid)
+        self.fails(ValueError, bp.lay, 9, 256, 0, 0, 0, self.grid, self.grid)
         self.fails(ValueError, bp.empty, 9, 256, 0, 0, self.grid, self.grid)
 
     def test_zones_that_are_not_eight_by_three(self):
@@ -970,6 +1162,13 @@ class Numpy(unittest.TestCase):
         grid = numpy.ones((2, 2048), numpy.complex64)
         bp.fill(0, 2048, 3, 1, numpy.array([1 + 2j], numpy.complex64), points.view(numpy.complex64), grid)
         self.assertEqual(grid.tobytes(), plain.tobytes())
+        points = points.view(numpy.complex64).reshape(60, 48)
+        for kind, shape in ((numpy.float32, (2, 2048, 2)), (numpy.complex64, (2, 2048))):
+            grid = numpy.ones(shape, kind)
+            bp.ground(0, 2048, 3, 1, numpy.array([1, 2], numpy.float32), grid)
+            for subchannel in numpy.arange(60)[::-1]:
+                bp.lay(0, 2048, 3, 1, subchannel, points[subchannel], grid)
+            self.assertEqual(grid.tobytes(), plain.tobytes())
         again = numpy.zeros((60, 48), numpy.complex64)
         bp.empty(0, 2048, 3, 1, grid, again)
         self.assertEqual(again.tobytes(), points.tobytes())
@@ -977,9 +1176,15 @@ class Numpy(unittest.TestCase):
     def test_what_is_not_taken(self):
         points = numpy.zeros(96 * 4, numpy.float32)
         for grid in (numpy.zeros(512), numpy.zeros(256, complex), numpy.zeros(512, ">f4")):
+            self.assertRaises(TypeError, bp.ground, 2, 256, 0, 0, (1, 2), grid)
+            self.assertRaises(TypeError, bp.lay, 2, 256, 0, 0, 0, points[:96], grid)
             self.assertRaises(TypeError, bp.fill, 2, 256, 0, 0, (1, 2), points, grid)
         for grid in (numpy.zeros(1024, numpy.float32)[::2], numpy.zeros((256, 2), numpy.float32).T):
+            self.assertRaises(BufferError, bp.ground, 2, 256, 0, 0, (1, 2), grid)
+            self.assertRaises(BufferError, bp.lay, 2, 256, 0, 0, 0, points[:96], grid)
             self.assertRaises(BufferError, bp.fill, 2, 256, 0, 0, (1, 2), points, grid)
+        grid = numpy.zeros(512, numpy.float32)
+        self.assertRaises(BufferError, bp.lay, 2, 256, 0, 0, 0, points[:192:2], grid)
 
 
 if __name__ == "__main__":

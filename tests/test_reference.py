@@ -220,6 +220,123 @@ def test_planners_figures():
         assert ref.amc_collisions(a, b)[2] <= 3
 
 
+# --- the ground and lays: document 02, wish 4 -------------------------------------------------
+
+SETUPS = [(mode, size) for mode in ref.MODES for size in ref.sizes(mode)]
+
+
+def pilots_a_symbol(mode, size, offset):
+    """Two of each of 120 clusters; two of each of 420 tiles, none in the middle symbol; one of each of 6N bins."""
+    if mode == PUSC_UL:
+        return 0 if offset == 1 else 840
+    return 240 if mode == PUSC_DL else 6 * size // 64
+
+
+def test_ground():
+    """Pilots and zeros, on data carriers too; the cell has no part in it."""
+    for mode, size in SETUPS:
+        grid, last = [9] * ref.grid_floats(mode, size), ref.cells(mode, size) - 1
+        for slot in (0, 1, 2, 511):
+            number, after = ref.ground(mode, size, last, slot, [1, 2], grid)
+            assert number == 0 and ref.ground(mode, size, 0, slot, [1, 2], grid) == (0, after)
+            for offset in range(ref.SLOT_LENGTH[mode]):
+                row = after[2 * size * offset : 2 * size * (offset + 1)]
+                assert row.count(1) == row.count(2) == pilots_a_symbol(mode, size, offset)
+                assert row.count(0) == 2 * (size - pilots_a_symbol(mode, size, offset))
+                for carrier in range(-size // 2, size // 2):
+                    what = ref.locate(mode, size, last, slot * ref.SLOT_LENGTH[mode] + offset, carrier)[1]
+                    at = size + 2 * carrier
+                    assert row[at : at + 2] == ([1, 2] if what == (ref.PILOT,) else [0, 0])
+
+
+def test_known_ground():
+    """Carrier -840 of PUSC downlink is data in a slot's first symbol and a pilot in its second, whatever the cell."""
+    for cell in range(32):
+        after = ref.ground(PUSC_DL, 2048, cell, 3, [1, 2], [9] * 8192)[1]
+        assert after[368:370] == [0, 0] and after[4096 + 368 : 4096 + 370] == [1, 2]
+
+
+def test_known_lays():
+    """The known points of placing: 553 is carrier 41 as document 01 counts it, 552 is 40, 87 is -425; 1862 and 1861 are
+    838 and 837, 377 is -647."""
+    points = list(range(100, 196))
+    first, second = [9] * 2048, [9] * 2048
+    first = ref.lay(OFUSC, 1024, 0, 0, 3, points, first)[1]
+    second = ref.lay(OFUSC, 1024, 0, 1, 3, points, second)[1]
+    assert first[2 * 553 : 2 * 553 + 2] == second[2 * 552 : 2 * 552 + 2] == [110, 111]
+    assert ref.lay(OFUSC, 1024, 17, 0, 0, points, [9] * 2048)[1][2 * 87 : 2 * 87 + 2] == [100, 101]
+    down = ref.lay(PUSC_DL, 2048, 0, 0, 1, points, [9] * 8192)[1]
+    assert down[2 * 1862 : 2 * 1862 + 2] == [122, 123]
+    assert down[2 * (2048 + 1861) : 2 * (2048 + 1861) + 2] == [170, 171]
+    assert ref.lay(PUSC_UL, 2048, 0, 0, 1, points, [9] * 12288)[1][2 * (2048 + 377)] == 100
+
+
+def test_a_lay_changes_96_floats():
+    """Those at the places of its own points, and no other."""
+    dice = random.Random(5)
+    for mode, size in SETUPS:
+        cell, slot = dice.randrange(ref.cells(mode, size)), dice.randrange(512)
+        grid = list(range(1000, 1000 + ref.grid_floats(mode, size)))
+        points = list(range(96))
+        for subchannel in {0, ref.subchannels(mode, size) - 1, dice.randrange(ref.subchannels(mode, size))}:
+            number, after = ref.lay(mode, size, cell, slot, subchannel, points, grid)
+            assert number == 0 and len(after) == len(grid)
+            assert sorted(x for x, old in zip(after, grid) if x != old) == points
+            for index in range(48):
+                _, symbol, carrier = ref.place(mode, size, cell, slot, subchannel, index)
+                at = 2 * (symbol % ref.SLOT_LENGTH[mode] * size + size // 2 + carrier)
+                assert after[at : at + 2] == [2 * index, 2 * index + 1]
+
+
+def some_order(dice, subchannels):
+    """Each subchannel at least once, some more often, in any order."""
+    order = [*range(subchannels), *dice.choices(range(subchannels), k=subchannels // 2)]
+    dice.shuffle(order)
+    return order
+
+
+def test_both_moves_fill():
+    """The ground, then lays in any order: of several lays of a subchannel the last one counts."""
+    dice = random.Random(6)
+    for mode, size in SETUPS:
+        cell, slot = dice.randrange(ref.cells(mode, size)), dice.randrange(512)
+        subchannels = ref.subchannels(mode, size)
+        old, last = [9] * ref.grid_floats(mode, size), {}
+        number, grid = ref.ground(mode, size, cell, slot, [1, 2], old)
+        assert number == 0
+        for subchannel in some_order(dice, subchannels):
+            last[subchannel] = [dice.randrange(2**32) for _ in range(96)]
+            number, grid = ref.lay(mode, size, cell, slot, subchannel, last[subchannel], grid)
+            assert number == 0
+        points = [x for subchannel in range(subchannels) for x in last[subchannel]]
+        assert ref.fill(mode, size, cell, slot, [1, 2], points, old) == (0, grid)
+
+
+def check_order(call, questions, good, wrong):
+    """Every set of wrong fields meets the first question about one of them, and leaves the grid, the last field."""
+    for chosen in range(2 ** len(good)):
+        fields = [wrong[i] if chosen >> i & 1 else good[i] for i in range(len(good))]
+        met = [question for i, question in enumerate(questions) if chosen >> i & 1]
+        number, after = call(*fields)
+        assert number == (met[0] if met else 0)
+        assert (after == fields[-1]) == (number != 0)
+
+
+def test_questions_of_both_moves():
+    def ground(mode, size, cell, slot, grid):
+        return ref.ground(mode, size, cell, slot, [1, 2], grid)
+
+    for mode, size in SETUPS:
+        cells, subchannels, floats = ref.cells(mode, size), ref.subchannels(mode, size), ref.grid_floats(mode, size)
+        good, wrong = [mode, size, cells - 1, 511], [7, 128, cells, 512]
+        for length in (0, floats - 2, floats - 1, floats + 1, floats + 2):
+            check_order(ground, [1, 2, 3, 4, 9], good + [[9] * floats], wrong + [[9] * length])
+        for length in (0, 94, 95, 97, 98, 96 * subchannels):
+            good_lay = good + [subchannels - 1, [1] * 96, [9] * floats]
+            wrong_lay = wrong + [subchannels, [1] * length, [9] * (floats - 1)]
+            check_order(ref.lay, [1, 2, 3, 4, 5, 8, 9], good_lay, wrong_lay)
+
+
 # --- carriers count from DC -------------------------------------------------------------------
 
 

@@ -1,4 +1,4 @@
-//! Bellpulsar from Rust: version 2 of the C interface, `include/bellpulsar.h`, declared, and a safe wrapper over each of its
+//! Bellpulsar from Rust: version 3 of the C interface, `include/bellpulsar.h`, declared, and a safe wrapper over each of its
 //! calls.
 //!
 //! Put this file beside your program, write `mod bellpulsar;`, and link the static library:
@@ -29,8 +29,11 @@ mod c {
         ) -> u32;
         pub fn bp_points_len(mode: u32, size: u32) -> usize;
         pub fn bp_grid_len(mode: u32, size: u32) -> usize;
-        pub fn bp_fill(
-            mode: u32, size: u32, cell: u32, slot: u32, pilot: *const f32,
+        pub fn bp_ground(
+            mode: u32, size: u32, cell: u32, slot: u32, pilot: *const f32, grid: *mut f32, grid_len: usize,
+        ) -> u32;
+        pub fn bp_lay(
+            mode: u32, size: u32, cell: u32, slot: u32, subchannel: u32,
             points: *const f32, points_len: usize, grid: *mut f32, grid_len: usize,
         ) -> u32;
         pub fn bp_empty(
@@ -227,23 +230,42 @@ pub fn grid_len(mode: u32, size: u32) -> usize {
     unsafe { c::bp_grid_len(mode, size) }
 }
 
-/// Lays a slot's points on its grid; the whole grid is written.
-pub fn fill(
-    setup: Setup,
-    slot: u32,
-    pilot: Point,
-    points: &[f32],
-    grid: &mut [f32],
-) -> Result<(), Refusal> {
+/// The first move of filling a slot's grid: the pilot point on pilots, 0.0 on every other carrier, data too. The whole
+/// grid is written.
+pub fn ground(setup: Setup, slot: u32, pilot: Point, grid: &mut [f32]) -> Result<(), Refusal> {
     let Setup { mode, size, cell } = setup;
     // Safety: each pointer comes with its slice's own length, and a slice lent mutably overlaps no other.
     done(unsafe {
-        c::bp_fill(
+        c::bp_ground(
             mode,
             size,
             cell,
             slot,
             pilot.as_ptr(),
+            grid.as_mut_ptr(),
+            grid.len(),
+        )
+    })
+}
+
+/// The second move: lays one subchannel's 48 points, 96 floats, on the grid; no other float of it is written.
+/// Subchannels may be laid in any order, and again.
+pub fn lay(
+    setup: Setup,
+    slot: u32,
+    subchannel: u32,
+    points: &[f32],
+    grid: &mut [f32],
+) -> Result<(), Refusal> {
+    let Setup { mode, size, cell } = setup;
+    // Safety: as in `ground`.
+    done(unsafe {
+        c::bp_lay(
+            mode,
+            size,
+            cell,
+            slot,
+            subchannel,
             points.as_ptr(),
             points.len(),
             grid.as_mut_ptr(),
@@ -252,10 +274,10 @@ pub fn fill(
     })
 }
 
-/// Takes a slot's points off its grid; all points are written.
+/// Takes all points of a slot off its grid; all of `points` is written.
 pub fn empty(setup: Setup, slot: u32, grid: &[f32], points: &mut [f32]) -> Result<(), Refusal> {
     let Setup { mode, size, cell } = setup;
-    // Safety: as in `fill`.
+    // Safety: as in `ground`.
     done(unsafe {
         c::bp_empty(
             mode,

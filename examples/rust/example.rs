@@ -4,8 +4,8 @@
 //!     carrier MODE SIZE CELL SYMBOL CARRIER            what a carrier, counted from DC, holds in a symbol
 //!     collisions SIZE CELL SUBCHANNEL CELL SUBCHANNEL  where two cells collide in optional FUSC
 //!     collisions CELL CELL                             where two cells collide in AMC
-//!     slot MODE SIZE CELL SLOT                         fills a slot's grid, looks at the carrier of
-//!                                                      subchannel 1, index 0, and empties the grid again
+//!     slot MODE SIZE CELL SLOT                         fills a slot's grid in two moves, lays subchannel 1
+//!                                                      again, and takes all points off the grid
 //!     plan BYTE..                                      reads a zone plan (each byte two hex digits),
 //!                                                      prints its zones, and writes it again
 
@@ -102,27 +102,49 @@ fn collisions(what: &str, found: Result<Collisions, Refusal>) -> Result<String, 
     Ok(format!("{what}{hit}\ncount {}\n", found.count))
 }
 
+/// The point on a carrier, and whose it is.
+fn point_at(setup: Setup, at: Place, grid: &[f32]) -> Result<String, Refusal> {
+    let Place { symbol, carrier } = at;
+    Ok(match bellpulsar::look(setup, symbol, grid, carrier)? {
+        Seen::Data([i, q], of) => format!(
+            "symbol {symbol} carrier {carrier}: point ({i}, {q}) of slot {} subchannel {} index {}\n",
+            of.slot, of.subchannel, of.index
+        ),
+        _ => String::new(),
+    })
+}
+
 fn slot(setup: Setup, slot: u32) -> Result<String, Refusal> {
+    const OWN: usize = 96; // the floats of one subchannel's points
     let address = Address {
         slot,
         subchannel: 1,
         index: 0,
     };
-    let Place { symbol, carrier } = bellpulsar::place(setup, address)?;
+    let at = bellpulsar::place(setup, address)?;
     let count = bellpulsar::points_len(setup.mode, setup.size) / 2;
-    let points: Vec<f32> = (0..count).flat_map(|n| [n as f32, -(n as f32)]).collect();
+    let mut points: Vec<f32> = (0..count).flat_map(|n| [n as f32, -(n as f32)]).collect();
     let mut grid = vec![0.0; bellpulsar::grid_len(setup.mode, setup.size)];
-    let mut back = vec![0.0; points.len()];
-    bellpulsar::fill(setup, slot, [1.0, 0.0], &points, &mut grid)?;
-    let seen = bellpulsar::look(setup, symbol, &grid, carrier)?;
-    bellpulsar::empty(setup, slot, &grid, &mut back)?;
-    let mut text = String::new();
-    if let Seen::Data([i, q], of) = seen {
-        text += &format!(
-            "symbol {symbol} carrier {carrier}: point ({i}, {q}) of slot {} subchannel {} index {}\n",
-            of.slot, of.subchannel, of.index
-        );
+
+    // The ground once; then the subchannels, here from the last to the first: any order will do.
+    bellpulsar::ground(setup, slot, [1.0, 0.0], &mut grid)?;
+    for (subchannel, own) in points.chunks(OWN).enumerate().rev() {
+        bellpulsar::lay(setup, slot, subchannel as u32, own, &mut grid)?;
     }
+    let mut text = point_at(setup, at, &grid)?;
+
+    // Other points for subchannel 1: pilots, zeros and the other subchannels stay as they are.
+    let before = grid.clone();
+    let own = &mut points[OWN..2 * OWN];
+    own.iter_mut().for_each(|float| *float = -*float);
+    bellpulsar::lay(setup, slot, 1, own, &mut grid)?;
+    let changed = grid.iter().zip(&before).filter(|(a, b)| a != b).count();
+    let floats = grid.len();
+    text += &format!("subchannel 1 again: {changed} of {floats} floats changed\n");
+    text += &point_at(setup, at, &grid)?;
+
+    let mut back = vec![0.0; points.len()];
+    bellpulsar::empty(setup, slot, &grid, &mut back)?;
     let all = if back == points { "all" } else { "not all" };
     Ok(text + &format!("{count} points: {all} back\n"))
 }

@@ -12,12 +12,16 @@ A first example (`PYTHONPATH=python python3` at the repository's root, after ./b
         ...
     bellpulsar.Refusal: refused 3: cell 256 is not one of mode 2's at size 1024: 0 to 255
 
-A slot's points, laid on its grid and taken off again:
+A slot's grid is filled in two moves: the ground, which is pilots and zeros, and then the points of each subchannel, in
+any order, and again where they change. Here all of them are taken off again:
 
     >>> from array import array
     >>> points = array("f", range(bellpulsar.points_len(2, 1024)))
     >>> grid = array("f", [0.0]) * bellpulsar.grid_len(2, 1024)
-    >>> bellpulsar.fill(2, 1024, 17, 0, (1.0, 0.0), points, grid)
+    >>> bellpulsar.ground(2, 1024, 17, 0, (1.0, 0.0), grid)
+    >>> for subchannel in range(16):
+    ...     own = memoryview(points)[96 * subchannel : 96 * (subchannel + 1)]
+    ...     bellpulsar.lay(2, 1024, 17, 0, subchannel, own, grid)
     >>> at = 2 * (1024 // 2 - 425)  # a row starts with the lowest carrier, -512
     >>> grid[at : at + 2]
     array('f', [0.0, 1.0])
@@ -25,6 +29,8 @@ A slot's points, laid on its grid and taken off again:
     >>> bellpulsar.empty(2, 1024, 17, 0, grid, again)
     >>> again == points
     True
+
+`fill` makes both moves, with the points of a whole slot.
 
 Modes and their ranges; N is size / 64:
 
@@ -89,6 +95,8 @@ __all__ = [
     "locate",
     "points_len",
     "grid_len",
+    "ground",
+    "lay",
     "fill",
     "empty",
     "look",
@@ -238,43 +246,94 @@ def grid_len(mode, size):
     return engine.bp_grid_len(*numbers(mode, size))
 
 
-def _buffers_refusal(refused, mode, size, cell, slot, points, grid):
-    """Of fill and empty."""
+_SUBCHANNEL_LEN = 2 * refusals.POINTS  # the floats of one subchannel's points
+
+
+def ground(mode, size, cell, slot, pilot, grid):
+    """Lays the ground of a slot's grid, the first move of filling it. Refusals 1, 2, 3, 4, 9.
+
+    The whole grid is written: the pilot point on pilots, 0.0 on every other carrier, data carriers too.
+
+    pilot: a complex number or two numbers (rounded to 32-bit floats), or a buffer of two floats, whose bits are copied
+    as they are.
+    grid: `grid_len(mode, size)` floats, symbol after symbol, each by rising carrier: the point of `carrier` in the
+    symbol with this offset in the slot is at 2 * (offset * size + size // 2 + carrier).
+    """
+    fields, pilot = numbers(mode, size, cell, slot), pilot_point(pilot)
+    with lent(grid, "grid", FLOAT, writable=True) as target:
+        refused = engine.bp_ground(*fields, pilot, target.address, target.length)
+    if refused:
+        lengths = (target.length, grid_len(mode, size))
+        raise _refusal(refused, mode=mode, size=size, cell=cell, slot=slot, grid=lengths)
+
+
+def lay(mode, size, cell, slot, subchannel, points, grid):
+    """Lays one subchannel's points on a slot's grid, the second move of filling it. Refusals 1, 2, 3, 4, 5, 8, 9.
+
+    No other float of the grid is written. Subchannels may be laid in any order, and again: the last time counts. Bits
+    are copied as they are, those of a NaN too.
+
+    points: the subchannel's 48 points by index, in-phase first: 96 floats. Of a slot's points they are those from
+    96 * subchannel on.
+    grid: as in `ground`, which is given the same mode, size, cell and slot.
+    """
+    fields = numbers(mode, size, cell, slot, subchannel)
+    with lent(points, "points", FLOAT) as source, lent(grid, "grid", FLOAT, writable=True) as target:
+        apart(source, target)
+        refused = engine.bp_lay(*fields, source.address, source.length, target.address, target.length)
+    if refused:
+        lengths = {"points": (source.length, _SUBCHANNEL_LEN), "grid": (target.length, grid_len(mode, size))}
+        raise _refusal(refused, mode=mode, size=size, cell=cell, slot=slot, subchannel=subchannel, **lengths)
+
+
+def _slot_refusal(refused, mode, size, cell, slot, points, grid):
+    """Of fill and empty, which have all points of a slot."""
     lengths = {"points": (points.length, points_len(mode, size)), "grid": (grid.length, grid_len(mode, size))}
     return _refusal(refused, mode=mode, size=size, cell=cell, slot=slot, **lengths)
 
 
+def _fill_refusal(fields, pilot, points, grid):
+    """The first of fill's questions that is answered no, or 0. The engine is asked for a ground of no floats, which it
+    refuses, by 9 at the latest: so nothing is written."""
+    refused = engine.bp_ground(*fields, pilot, grid.address, 0)
+    if refused != 9:
+        return refused
+    if points.length != engine.bp_points_len(*fields[:2]):
+        return 8
+    return 9 if grid.length != engine.bp_grid_len(*fields[:2]) else 0
+
+
 def fill(mode, size, cell, slot, pilot, points, grid):
-    """Lays a slot's points on its grid. Refusals 1, 2, 3, 4, 8, 9.
+    """`ground`, and then `lay` for each subchannel. Refusals 1, 2, 3, 4, 8, 9.
 
-    The whole grid is written: the points on data carriers, the pilot point on pilots, 0.0 on guards and DC. Bits are
-    copied as they are, those of a NaN too.
+    A convenience of this package: the engine has the two moves only. Every question is put before the first of them.
 
-    pilot: a complex number or two numbers (rounded to 32-bit floats), or a buffer of two floats.
     points: `points_len(mode, size)` floats, by subchannel and index, in-phase first.
-    grid: `grid_len(mode, size)` floats, symbol after symbol, each by rising carrier: the point of `carrier` in the
-    symbol with this offset in the slot is at 2 * (offset * size + size // 2 + carrier).
+    pilot, grid: as in `ground`.
     """
-    fields = numbers(mode, size, cell, slot)
-    pilot = pilot_point(pilot)
+    fields, pilot = numbers(mode, size, cell, slot), pilot_point(pilot)
     with lent(points, "points", FLOAT) as source, lent(grid, "grid", FLOAT, writable=True) as target:
         apart(source, target)
-        refused = engine.bp_fill(*fields, pilot, source.address, source.length, target.address, target.length)
+        refused = _fill_refusal(fields, pilot, source, target)
         if refused:
-            raise _buffers_refusal(refused, mode, size, cell, slot, source, target)
+            raise _slot_refusal(refused, mode, size, cell, slot, source, target)
+        engine.bp_ground(*fields, pilot, target.address, target.length)
+        for subchannel in range(source.length // _SUBCHANNEL_LEN):
+            own = source.address + FLOAT.bytes * _SUBCHANNEL_LEN * subchannel
+            engine.bp_lay(*fields, subchannel, own, _SUBCHANNEL_LEN, target.address, target.length)
 
 
 def empty(mode, size, cell, slot, grid, points):
     """Takes a slot's points off its grid, into `points`. Refusals 1, 2, 3, 4, 8, 9.
 
-    All points are written; only data carriers are read. The lengths are those of `fill`.
+    All points are written; only data carriers are read. Both buffers are as in `fill`.
     """
     fields = numbers(mode, size, cell, slot)
     with lent(grid, "grid", FLOAT) as source, lent(points, "points", FLOAT, writable=True) as target:
         apart(target, source)
         refused = engine.bp_empty(*fields, source.address, source.length, target.address, target.length)
         if refused:
-            raise _buffers_refusal(refused, mode, size, cell, slot, target, source)
+            raise _slot_refusal(refused, mode, size, cell, slot, target, source)
 
 
 _SEEN = {0: Kind.NOTHING, 2: Kind.PILOT, 3: Kind.DATA}

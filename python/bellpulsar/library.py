@@ -9,7 +9,7 @@ import sys
 
 ROOT = os.path.dirname(os.path.dirname(os.path.dirname(os.path.abspath(__file__))))
 BUILDER = os.path.join(ROOT, "build.sh")
-VERSION = 2  # of the interface as it is called here: the header's BP_VERSION
+VERSION = 3  # of the interface as it is called here: the header's BP_VERSION
 BUILT = os.path.join(ROOT, "build", "libbellpulsar.so.%d" % VERSION)
 
 uint = ctypes.c_uint32
@@ -27,7 +27,8 @@ _PROTOTYPES = {
     "bp_locate": [uint] * 4 + [int32] + [_out] * 4,
     "bp_points_len": [uint] * 2,
     "bp_grid_len": [uint] * 2,
-    "bp_fill": [uint] * 4 + [Pair, _address, _length, _address, _length],
+    "bp_ground": [uint] * 4 + [Pair, _address, _length],
+    "bp_lay": [uint] * 5 + [_address, _length, _address, _length],
     "bp_empty": [uint] * 4 + [_address, _length, _address, _length],
     "bp_look": [uint] * 4 + [_address, _length, int32, _out, Pair] + [_out] * 3,
     "bp_ofusc_collisions": [uint] * 5 + [Hits, _out],

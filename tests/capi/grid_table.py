@@ -41,6 +41,20 @@ def case(dice, mode, size):
     return cell, slot, pilot, points, grid
 
 
+def grounded(mode, size, cell, slot, pilot):
+    """The ground of a slot's grid."""
+    number, grid = ref.ground(mode, size, cell, slot, pilot, [1] * ref.grid_floats(mode, size))
+    assert number == 0
+    return grid
+
+
+def places(mode, size, cell, slot):
+    """Where the two floats of each point start in a slot's grid, by subchannel and index."""
+    addresses = [(s, m) for s in range(ref.subchannels(mode, size)) for m in range(ref.POINTS)]
+    placed = [ref.place(mode, size, cell, slot, s, m) for s, m in addresses]
+    return [ref.grid_at(mode, size, symbol, carrier) for _, symbol, carrier in placed]
+
+
 def words(numbers):
     return ", ".join("0x%Xu" % number for number in numbers)
 
@@ -51,10 +65,17 @@ def main():
     for mode in ref.MODES:
         for size in ref.sizes(mode):
             cell, slot, pilot, points, grid = case(dice, mode, size)
+            arrays = {
+                "points": points,
+                "places": places(mode, size, cell, slot),
+                "ground": grounded(mode, size, cell, slot, pilot),
+                "grid": grid,
+            }
             n = len(rows)
-            print("static const uint32_t points_%d[] = {%s};" % (n, words(points)))
-            print("static const uint32_t grid_%d[] = {%s};" % (n, words(grid)))
-            rows.append("{%s, {%s}, points_%d, grid_%d}" % (words([mode, size, cell, slot]), words(pilot), n, n))
+            for name, numbers in arrays.items():
+                print("static const uint32_t %s_%d[] = {%s};" % (name, n, words(numbers)))
+            names = ", ".join("%s_%d" % (name, n) for name in arrays)
+            rows.append("{%s, {%s}, %s}" % (words([mode, size, cell, slot]), words(pilot), names))
     print("static const struct grid_row grid_rows[] = {\n    %s,\n};" % ",\n    ".join(rows))
 
 

@@ -1,7 +1,9 @@
-/* Holds fill, empty and look to the bits of every float: the whole grids of grid_table.h, which the reference made, and
-   grids of every mode and size worked out here by place and locate. NaNs of both kinds with payloads, infinities, signed
-   zeros and subnormals stand among the points and in the pilot point. Then every set of wrong fields: the first refusal,
-   and nothing written. Floats are read and written as bit patterns only. Run by run.sh. */
+/* Holds ground, lay, empty and look to the bits of every float: the whole grids of grid_table.h, which the reference
+   made, and grids of every mode and size worked out here by place and locate. NaNs of both kinds with payloads,
+   infinities, signed zeros and subnormals stand among the points and in the pilot point. Each lay is made alone, where
+   every float but its own keeps its bits, and all are made in a shuffled order with repeats, where the last one of a
+   subchannel counts. Then every set of wrong fields: the first refusal, and nothing written. Floats are read and
+   written as bit patterns only. Run by run.sh. */
 #include <inttypes.h>
 #include <stddef.h>
 #include <stdint.h>
@@ -10,9 +12,11 @@
 
 #include "bellpulsar.h"
 
+/* A slot and the bits that its buffers hold: its points, its ground, and its grid when every subchannel is laid.
+   places: where the two floats of each point start in the grid. */
 struct grid_row {
     uint32_t mode, size, cell, slot, pilot[2];
-    const uint32_t *points, *grid;
+    const uint32_t *points, *places, *ground, *grid;
 };
 
 #include "grid_table.h"
@@ -20,7 +24,8 @@ struct grid_row {
 #define COUNT(rows) (sizeof(rows) / sizeof((rows)[0]))
 
 enum { KIND_GUARD = 0, KIND_DC = 1, KIND_PILOT = 2, KIND_DATA = 3, SLOTS = 512, POINTS = 48 };
-enum { MOST_POINTS = 96 * 192, MOST_GRID = 2 * 6 * 2048, EDGE = 4 };
+enum { LAID = 2 * POINTS }; /* the floats of one subchannel */
+enum { MOST_SUBCHANNELS = 192, MOST_POINTS = LAID * MOST_SUBCHANNELS, MOST_GRID = 2 * 6 * 2048, EDGE = 4 };
 enum { UNLISTED = 7 }; /* the first number that is no mode */
 
 struct setup {
@@ -39,13 +44,18 @@ static const struct setup setups[] = {
 /* The lowest carrier is minus half the size, the highest is half the size less 1. */
 static int32_t half(const struct setup *s) { return (int32_t)(s->size / 2); }
 
-static size_t points_floats(const struct setup *s) { return 96 * (size_t)s->subchannels; }
+static size_t points_floats(const struct setup *s) { return LAID * (size_t)s->subchannels; }
 static size_t grid_floats(const struct setup *s) { return 2 * (size_t)s->size * s->symbols; }
 
 /* --- buffers between guard words ------------------------------------------------------------- */
 
 struct points {
     float before[EDGE], at[MOST_POINTS], after[EDGE];
+};
+
+/* The points of one subchannel. */
+struct laid {
+    float before[EDGE], at[LAID], after[EDGE];
 };
 
 struct grid {
@@ -136,45 +146,48 @@ static const uint32_t pilots[][2] = {
 
 /* --- a slot's grid by place and locate ------------------------------------------------------- */
 
-struct expected {
-    uint32_t points[MOST_POINTS], grid[MOST_GRID];
-    unsigned char kinds[MOST_GRID / 2];
-};
-
-static struct expected want;
+static uint32_t want_points[MOST_POINTS], want_places[MOST_POINTS / 2], want_ground[MOST_GRID], want_grid[MOST_GRID];
+static unsigned char want_kinds[MOST_GRID / 2];
 
 static size_t grid_at(const struct setup *s, uint32_t symbol, int32_t carrier)
 {
     return 2 * ((size_t)(symbol % s->symbols) * s->size + (size_t)(half(s) + carrier));
 }
 
-static int work_out(const struct setup *s, uint32_t cell, uint32_t slot, const uint32_t pilot[2])
+/* The kinds of all carriers, and the pilot point on pilots. */
+static int work_out_ground(const struct setup *s, const struct grid_row *row)
 {
-    memset(&want, 0, sizeof want);
-    for (uint32_t n = 0; n < points_floats(s); n++)
-        want.points[n] = point_bits(n);
-    for (uint32_t row = 0; row < s->symbols; row++) {
+    memset(want_ground, 0, sizeof want_ground);
+    for (uint32_t offset = 0; offset < s->symbols; offset++) {
         for (int32_t carrier = -half(s); carrier < half(s); carrier++) {
-            uint32_t kind, of, subchannel, index;
-            size_t at = grid_at(s, row, carrier);
-            if (bp_locate(s->mode, s->size, cell, slot * s->symbols + row, carrier, &kind, &of, &subchannel, &index))
+            uint32_t symbol = row->slot * s->symbols + offset, kind, of, subchannel, index;
+            size_t at = grid_at(s, symbol, carrier);
+            if (bp_locate(s->mode, s->size, row->cell, symbol, carrier, &kind, &of, &subchannel, &index))
                 return 0;
-            want.kinds[at / 2] = (unsigned char)kind;
+            want_kinds[at / 2] = (unsigned char)kind;
             if (kind == KIND_PILOT)
-                memcpy(want.grid + at, pilot, 2 * sizeof *pilot);
+                memcpy(want_ground + at, row->pilot, sizeof row->pilot);
         }
     }
-    for (uint32_t subchannel = 0; subchannel < s->subchannels; subchannel++) {
-        for (uint32_t index = 0; index < POINTS; index++) {
-            uint32_t symbol;
-            int32_t carrier;
-            if (bp_place(s->mode, s->size, cell, slot, subchannel, index, &symbol, &carrier))
-                return 0;
-            size_t at = grid_at(s, symbol, carrier);
-            if (want.kinds[at / 2] != KIND_DATA)
-                return 0;
-            memcpy(want.grid + at, want.points + 2 * (POINTS * subchannel + index), 2 * sizeof *want.points);
-        }
+    return 1;
+}
+
+/* Every point, its place, and the ground with all of them on it. */
+static int work_out_points(const struct setup *s, const struct grid_row *row)
+{
+    memcpy(want_grid, want_ground, sizeof want_grid);
+    for (uint32_t n = 0; n < points_floats(s); n++)
+        want_points[n] = point_bits(n);
+    for (uint32_t n = 0; n < points_floats(s) / 2; n++) {
+        uint32_t symbol;
+        int32_t carrier;
+        if (bp_place(s->mode, s->size, row->cell, row->slot, n / POINTS, n % POINTS, &symbol, &carrier))
+            return 0;
+        size_t at = grid_at(s, symbol, carrier);
+        if (want_kinds[at / 2] != KIND_DATA)
+            return 0;
+        want_places[n] = (uint32_t)at;
+        memcpy(want_grid + at, want_points + 2 * n, 2 * sizeof *want_points);
     }
     return 1;
 }
@@ -182,31 +195,101 @@ static int work_out(const struct setup *s, uint32_t cell, uint32_t slot, const u
 /* --- the calls ------------------------------------------------------------------------------- */
 
 static struct points points;
+static struct laid laid;
 static struct grid grid;
 static struct pair pair;
 
-static int fill_agrees(const struct setup *s, uint32_t cell, uint32_t slot, const uint32_t pilot[2],
-                       const uint32_t *point_words, const uint32_t *grid_words)
+static int ground_agrees(const struct setup *s, const struct grid_row *row)
 {
-    spoil(&points, sizeof points);
     spoil(&grid, sizeof grid);
     spoil(&pair, sizeof pair);
-    copy_bits(points.at, point_words, points_floats(s));
-    copy_bits(pair.at, pilot, 2);
-    return bp_fill(s->mode, s->size, cell, slot, pair.at, points.at, points_floats(s), grid.at, grid_floats(s)) == 0 &&
-           holds(&grid, sizeof grid, grid_words, grid_floats(s)) &&
-           holds(&points, sizeof points, point_words, points_floats(s)) && holds(&pair, sizeof pair, pilot, 2);
+    copy_bits(pair.at, row->pilot, 2);
+    return bp_ground(s->mode, s->size, row->cell, row->slot, pair.at, grid.at, grid_floats(s)) == 0 &&
+           holds(&grid, sizeof grid, row->ground, grid_floats(s)) && holds(&pair, sizeof pair, row->pilot, 2);
 }
 
-static int empty_agrees(const struct setup *s, uint32_t cell, uint32_t slot, const uint32_t *point_words,
-                        const uint32_t *grid_words)
+/* Lays these bits on the grid as it stands. */
+static int lay(const struct setup *s, const struct grid_row *row, uint32_t subchannel, const uint32_t *bits)
+{
+    spoil(&laid, sizeof laid);
+    copy_bits(laid.at, bits, LAID);
+    return bp_lay(s->mode, s->size, row->cell, row->slot, subchannel, laid.at, LAID, grid.at, grid_floats(s)) == 0 &&
+           holds(&laid, sizeof laid, bits, LAID);
+}
+
+/* One lay alone, on a grid of its own bits: just the subchannel's floats change. */
+static int lay_agrees(const struct setup *s, const struct grid_row *row, uint32_t subchannel)
+{
+    static uint32_t after[MOST_GRID];
+    const uint32_t *bits = row->points + LAID * subchannel, *places = row->places + POINTS * subchannel;
+    spoil(&grid, sizeof grid);
+    memcpy(after, old_bits + EDGE, sizeof after);
+    for (uint32_t index = 0; index < POINTS; index++)
+        memcpy(after + places[index], bits + 2 * index, 2 * sizeof *bits);
+    return lay(s, row, subchannel, bits) && holds(&grid, sizeof grid, after, grid_floats(s));
+}
+
+static int lays_agree(const struct setup *s, const struct grid_row *row)
+{
+    for (uint32_t subchannel = 0; subchannel < s->subchannels; subchannel++)
+        if (!lay_agrees(s, row, subchannel))
+            return 0;
+    return 1;
+}
+
+/* A number below n, from a fixed seed. */
+static uint32_t below(uint32_t n)
+{
+    static uint32_t state = 4;
+    state = state * 1664525u + 1013904223u;
+    return (uint32_t)((uint64_t)state * n >> 32);
+}
+
+/* Each subchannel once and as many drawn at random, shuffled. */
+static void draw_order(uint32_t *order, uint32_t subchannels)
+{
+    for (uint32_t n = 0; n < 2 * subchannels; n++)
+        order[n] = n < subchannels ? n : below(subchannels);
+    for (uint32_t n = 2 * subchannels; n > 1; n--) {
+        uint32_t m = below(n), last = order[n - 1];
+        order[n - 1] = order[m];
+        order[m] = last;
+    }
+}
+
+static int occurs(const uint32_t *from, const uint32_t *to, uint32_t number)
+{
+    while (from < to && *from != number)
+        from++;
+    return from < to;
+}
+
+/* The ground, then lays in any order with repeats: every bit turned over, but not when a subchannel comes last. */
+static int moves_agree(const struct setup *s, const struct grid_row *row)
+{
+    uint32_t order[2 * MOST_SUBCHANNELS], bits[LAID], *end = order + 2 * s->subchannels;
+    draw_order(order, s->subchannels);
+    if (!ground_agrees(s, row))
+        return 0;
+    for (const uint32_t *subchannel = order; subchannel < end; subchannel++) {
+        uint32_t turned = occurs(subchannel + 1, end, *subchannel) ? UINT32_MAX : 0;
+        for (uint32_t n = 0; n < LAID; n++)
+            bits[n] = row->points[LAID * *subchannel + n] ^ turned;
+        if (!lay(s, row, *subchannel, bits))
+            return 0;
+    }
+    return holds(&grid, sizeof grid, row->grid, grid_floats(s));
+}
+
+static int empty_agrees(const struct setup *s, const struct grid_row *row)
 {
     spoil(&points, sizeof points);
     spoil(&grid, sizeof grid);
-    copy_bits(grid.at, grid_words, grid_floats(s));
-    return bp_empty(s->mode, s->size, cell, slot, grid.at, grid_floats(s), points.at, points_floats(s)) == 0 &&
-           holds(&points, sizeof points, point_words, points_floats(s)) &&
-           holds(&grid, sizeof grid, grid_words, grid_floats(s));
+    copy_bits(grid.at, row->grid, grid_floats(s));
+    uint32_t refusal =
+        bp_empty(s->mode, s->size, row->cell, row->slot, grid.at, grid_floats(s), points.at, points_floats(s));
+    return refusal == 0 && holds(&points, sizeof points, row->points, points_floats(s)) &&
+           holds(&grid, sizeof grid, row->grid, grid_floats(s));
 }
 
 /* Look at one carrier of the grid as it stands, which has these bits. */
@@ -227,31 +310,50 @@ static int look_agrees(const struct setup *s, uint32_t cell, uint32_t symbol, in
                     : holds(&pair, sizeof pair, grid_words + grid_at(s, symbol, carrier), 2));
 }
 
-static int looks_agree(const struct setup *s, uint32_t cell, uint32_t slot, const uint32_t *grid_words)
+static int looks_agree(const struct setup *s, const struct grid_row *row)
 {
     spoil(&grid, sizeof grid);
-    copy_bits(grid.at, grid_words, grid_floats(s));
-    for (uint32_t row = 0; row < s->symbols; row++)
+    copy_bits(grid.at, row->grid, grid_floats(s));
+    for (uint32_t offset = 0; offset < s->symbols; offset++)
         for (int32_t carrier = -half(s); carrier < half(s); carrier++)
-            if (!look_agrees(s, cell, slot * s->symbols + row, carrier, grid_words))
+            if (!look_agrees(s, row->cell, row->slot * s->symbols + offset, carrier, row->grid))
                 return 0;
-    return holds(&grid, sizeof grid, grid_words, grid_floats(s));
+    return holds(&grid, sizeof grid, row->grid, grid_floats(s));
+}
+
+/* What differs first, or nothing. */
+static const char *difference(const struct setup *s, const struct grid_row *row)
+{
+    static const struct {
+        const char *name;
+        int (*agrees)(const struct setup *s, const struct grid_row *row);
+    } calls[] = {
+        {"ground", ground_agrees}, {"a lay alone", lays_agree}, {"the slot laid in any order", moves_agree},
+        {"look", looks_agree},     {"empty", empty_agrees},
+    };
+    for (size_t i = 0; i < COUNT(calls); i++)
+        if (!calls[i].agrees(s, row))
+            return calls[i].name;
+    return NULL;
 }
 
 /* Everything but data written over: empty and look go by the data alone, look sees nothing on guards and DC. */
-static int data_alone_agrees(const struct setup *s, uint32_t cell, uint32_t slot)
+static int data_alone_agrees(const struct setup *s, const struct grid_row *row)
 {
     for (uint32_t n = 0; n < grid_floats(s); n++)
-        if (want.kinds[n / 2] != KIND_DATA)
-            want.grid[n] = 0x7F812345u + n;
-    return empty_agrees(s, cell, slot, want.points, want.grid) && looks_agree(s, cell, slot, want.grid);
+        if (want_kinds[n / 2] != KIND_DATA)
+            want_grid[n] = 0x7F812345u + n;
+    return empty_agrees(s, row) && looks_agree(s, row);
 }
 
-static int slot_agrees(const struct setup *s, uint32_t cell, uint32_t slot, const uint32_t pilot[2])
+static const char *slot_difference(const struct setup *s, uint32_t cell, uint32_t slot, const uint32_t pilot[2])
 {
-    return work_out(s, cell, slot, pilot) && fill_agrees(s, cell, slot, pilot, want.points, want.grid) &&
-           looks_agree(s, cell, slot, want.grid) && empty_agrees(s, cell, slot, want.points, want.grid) &&
-           data_alone_agrees(s, cell, slot);
+    const struct grid_row row = {s->mode, s->size, cell, slot, {pilot[0], pilot[1]},
+                                 want_points, want_places, want_ground, want_grid};
+    if (!work_out_ground(s, &row) || !work_out_points(s, &row))
+        return "place or locate";
+    const char *what = difference(s, &row);
+    return what || data_alone_agrees(s, &row) ? what : "empty or look by the data alone";
 }
 
 static int test_slots(void)
@@ -264,11 +366,12 @@ static int test_slots(void)
         const uint32_t cells[] = {0, 1, s->cells / 2 + 1, s->cells - 1};
         for (size_t j = 0; j < COUNT(cells); j++) {
             for (size_t k = 0; k < COUNT(slots); k++) {
-                if (slot_agrees(s, cells[j], slots[k], pilots[turn++ % COUNT(pilots)]))
+                const char *what = slot_difference(s, cells[j], slots[k], pilots[turn++ % COUNT(pilots)]);
+                if (!what)
                     continue;
                 wrong = 1;
-                printf("grids differ: mode %" PRIu32 " size %" PRIu32 " cell %" PRIu32 " slot %" PRIu32 "\n", s->mode,
-                       s->size, cells[j], slots[k]);
+                printf("%s differs: mode %" PRIu32 " size %" PRIu32 " cell %" PRIu32 " slot %" PRIu32 "\n", what,
+                       s->mode, s->size, cells[j], slots[k]);
             }
         }
     }
@@ -281,28 +384,51 @@ static int test_rows(void)
     for (size_t i = 0; i < COUNT(grid_rows); i++) {
         const struct grid_row *row = &grid_rows[i];
         const struct setup *s = &setups[i];
-        if (row->mode == s->mode && row->size == s->size &&
-            fill_agrees(s, row->cell, row->slot, row->pilot, row->points, row->grid) &&
-            looks_agree(s, row->cell, row->slot, row->grid) &&
-            empty_agrees(s, row->cell, row->slot, row->points, row->grid))
+        const char *what = row->mode == s->mode && row->size == s->size ? difference(s, row) : "the table";
+        if (!what)
             continue;
         wrong = 1;
-        printf("grid of the reference differs: mode %" PRIu32 " size %" PRIu32 "\n", row->mode, row->size);
+        printf("%s differs from the reference: mode %" PRIu32 " size %" PRIu32 "\n", what, row->mode, row->size);
     }
     return wrong;
 }
 
 /* --- refusals -------------------------------------------------------------------------------- */
 
-/* A set of wrong fields, a bit a field, in the order of the questions. */
-enum { FIELDS = 6, SETS = 1 << FIELDS };
-
-static uint32_t first_refusal(unsigned wrong_fields, const uint32_t questions[FIELDS])
+/* A set of wrong fields is a bit a field, in the order of the questions, which end with 0. */
+static uint32_t first_refusal(unsigned wrong_fields, const uint32_t *questions)
 {
-    for (int f = 0; f < FIELDS; f++)
-        if (wrong_fields >> f & 1)
-            return questions[f];
-    return 0;
+    while (*questions && !(wrong_fields & 1)) {
+        wrong_fields >>= 1;
+        questions++;
+    }
+    return *questions;
+}
+
+/* A number past a range: the first, the last, or one that is cut to the last within it. */
+static uint32_t past(uint32_t limit, unsigned turn)
+{
+    const uint32_t numbers[] = {limit, UINT32_MAX, limit - 1 + 0x10000u, limit - 1 + 0x80000000u};
+    return numbers[turn % COUNT(numbers)];
+}
+
+/* The fields that every call has, the first four of a set. Look has the zone's symbol for the slot. */
+struct fields {
+    uint32_t mode, size, cell, slot;
+};
+
+static struct fields fields_of(const struct setup *s, uint32_t slots, unsigned wrong_fields, unsigned turn)
+{
+    struct fields f = {s->mode, s->size, s->cells - 1, slots - 1};
+    if (wrong_fields & 1)
+        f.mode = past(UNLISTED, turn);
+    if (wrong_fields & 2)
+        f.size = turn % 2 ? 128 : s->size + 0x10000u;
+    if (wrong_fields & 4)
+        f.cell = past(s->cells, turn);
+    if (wrong_fields & 8)
+        f.slot = past(slots, turn);
+    return f;
 }
 
 /* A wrong length: one or two floats more or less, or none. */
@@ -312,22 +438,59 @@ static size_t wrong_length(size_t right, unsigned turn)
     return lengths[turn % COUNT(lengths)];
 }
 
-static int slot_refusal_agrees(const struct setup *s, unsigned wrong_fields, unsigned turn)
+/* Of one subchannel's points: these too, half or twice as many, or the whole slot's. */
+static size_t wrong_laid(const struct setup *s, unsigned turn)
 {
-    static const uint32_t questions[FIELDS] = {1, 2, 3, 4, 8, 9};
-    uint32_t refusal = first_refusal(wrong_fields, questions);
-    uint32_t mode = wrong_fields & 1 ? UNLISTED : s->mode;
-    uint32_t size = wrong_fields & 2 ? 128 : s->size;
-    uint32_t cell = wrong_fields & 4 ? s->cells : s->cells - 1;
-    uint32_t slot = wrong_fields & 8 ? SLOTS : SLOTS - 1;
-    size_t points_len = wrong_fields & 16 ? wrong_length(points_floats(s), turn) : points_floats(s);
-    size_t grid_len = wrong_fields & 32 ? wrong_length(grid_floats(s), turn / 2) : grid_floats(s);
+    const size_t others[] = {points_floats(s), LAID / 2, 2 * LAID};
+    return turn % 8 < COUNT(others) ? others[turn % 8] : wrong_length(LAID, turn % 8 - COUNT(others));
+}
+
+static void spoil_all(void)
+{
     spoil(&points, sizeof points);
     spoil(&grid, sizeof grid);
     spoil(&pair, sizeof pair);
-    return bp_fill(mode, size, cell, slot, pair.at, points.at, points_len, grid.at, grid_len) == refusal &&
-           bp_empty(mode, size, cell, slot, grid.at, grid_len, points.at, points_len) == refusal &&
-           untouched(&points, sizeof points) && untouched(&grid, sizeof grid) && untouched(&pair, sizeof pair);
+}
+
+static int all_untouched(void)
+{
+    return untouched(&points, sizeof points) && untouched(&grid, sizeof grid) && untouched(&pair, sizeof pair);
+}
+
+static int ground_refusal_agrees(const struct setup *s, unsigned wrong_fields, unsigned turn)
+{
+    static const uint32_t questions[] = {1, 2, 3, 4, 9, 0};
+    struct fields f = fields_of(s, SLOTS, wrong_fields, turn);
+    size_t grid_len = wrong_fields & 16 ? wrong_length(grid_floats(s), turn) : grid_floats(s);
+    spoil_all();
+    return bp_ground(f.mode, f.size, f.cell, f.slot, pair.at, grid.at, grid_len) ==
+               first_refusal(wrong_fields, questions) &&
+           all_untouched();
+}
+
+static int lay_refusal_agrees(const struct setup *s, unsigned wrong_fields, unsigned turn)
+{
+    static const uint32_t questions[] = {1, 2, 3, 4, 5, 8, 9, 0};
+    struct fields f = fields_of(s, SLOTS, wrong_fields, turn);
+    uint32_t subchannel = wrong_fields & 16 ? past(s->subchannels, turn) : s->subchannels - 1;
+    size_t points_len = wrong_fields & 32 ? wrong_laid(s, turn) : LAID;
+    size_t grid_len = wrong_fields & 64 ? wrong_length(grid_floats(s), turn / 2) : grid_floats(s);
+    spoil_all();
+    return bp_lay(f.mode, f.size, f.cell, f.slot, subchannel, points.at, points_len, grid.at, grid_len) ==
+               first_refusal(wrong_fields, questions) &&
+           all_untouched();
+}
+
+static int empty_refusal_agrees(const struct setup *s, unsigned wrong_fields, unsigned turn)
+{
+    static const uint32_t questions[] = {1, 2, 3, 4, 8, 9, 0};
+    struct fields f = fields_of(s, SLOTS, wrong_fields, turn);
+    size_t points_len = wrong_fields & 16 ? wrong_length(points_floats(s), turn) : points_floats(s);
+    size_t grid_len = wrong_fields & 32 ? wrong_length(grid_floats(s), turn / 2) : grid_floats(s);
+    spoil_all();
+    return bp_empty(f.mode, f.size, f.cell, f.slot, grid.at, grid_len, points.at, points_len) ==
+               first_refusal(wrong_fields, questions) &&
+           all_untouched();
 }
 
 /* A wrong carrier: just past the range, at the ends of 32 bits, counted from 0, or cut to a right one, on either side. */
@@ -340,38 +503,52 @@ static int32_t wrong_carrier(const struct setup *s, unsigned turn)
 
 static int look_refusal_agrees(const struct setup *s, unsigned wrong_fields, unsigned turn)
 {
-    static const uint32_t questions[FIELDS] = {1, 2, 3, 4, 7, 9};
-    uint32_t refusal = first_refusal(wrong_fields, questions);
-    uint32_t mode = wrong_fields & 1 ? UNLISTED : s->mode;
-    uint32_t size = wrong_fields & 2 ? 128 : s->size;
-    uint32_t cell = wrong_fields & 4 ? s->cells : s->cells - 1;
-    uint32_t symbol = wrong_fields & 8 ? SLOTS * s->symbols : SLOTS * s->symbols - 1;
+    static const uint32_t questions[] = {1, 2, 3, 4, 7, 9, 0};
+    struct fields f = fields_of(s, SLOTS * s->symbols, wrong_fields, turn);
     int32_t right = turn % 2 ? -half(s) : half(s) - 1;
     int32_t carrier = wrong_fields & 16 ? wrong_carrier(s, turn) : right;
     size_t grid_len = wrong_fields & 32 ? wrong_length(grid_floats(s), turn) : grid_floats(s);
     struct out kind = fresh(), slot = fresh(), subchannel = fresh(), index = fresh();
-    spoil(&grid, sizeof grid);
-    spoil(&pair, sizeof pair);
-    return bp_look(mode, size, cell, symbol, grid.at, grid_len, carrier, &kind.value, pair.at, &slot.value,
-                   &subchannel.value, &index.value) == refusal &&
+    spoil_all();
+    return bp_look(f.mode, f.size, f.cell, f.slot, grid.at, grid_len, carrier, &kind.value, pair.at, &slot.value,
+                   &subchannel.value, &index.value) == first_refusal(wrong_fields, questions) &&
            told(&kind, untold) && told(&slot, untold) && told(&subchannel, untold) && told(&index, untold) &&
-           untouched(&grid, sizeof grid) && untouched(&pair, sizeof pair);
+           all_untouched();
+}
+
+/* Each call and how many of its fields can be wrong. */
+static const struct refusing {
+    const char *name;
+    unsigned fields;
+    int (*agrees)(const struct setup *s, unsigned wrong_fields, unsigned turn);
+} refusing[] = {
+    {"ground", 5, ground_refusal_agrees},
+    {"lay", 7, lay_refusal_agrees},
+    {"empty", 6, empty_refusal_agrees},
+    {"look", 6, look_refusal_agrees},
+};
+
+static int call_refuses(const struct refusing *call, const struct setup *s)
+{
+    int right = 1;
+    for (unsigned turn = 0; turn < 10; turn++) {
+        for (unsigned wrong_fields = 1; wrong_fields < 1u << call->fields; wrong_fields++) {
+            if (call->agrees(s, wrong_fields, turn))
+                continue;
+            right = 0;
+            printf("a refusal of %s differs: mode %" PRIu32 " size %" PRIu32 " fields %u\n", call->name, s->mode,
+                   s->size, wrong_fields);
+        }
+    }
+    return right;
 }
 
 static int test_refusals(void)
 {
     int wrong = 0;
-    for (size_t i = 0; i < COUNT(setups); i++) {
-        for (unsigned turn = 0; turn < 10; turn++) {
-            for (unsigned fields = 1; fields < SETS; fields++) {
-                if (slot_refusal_agrees(&setups[i], fields, turn) && look_refusal_agrees(&setups[i], fields, turn))
-                    continue;
-                wrong = 1;
-                printf("a refusal differs: mode %" PRIu32 " size %" PRIu32 " fields %u\n", setups[i].mode,
-                       setups[i].size, fields);
-            }
-        }
-    }
+    for (size_t i = 0; i < COUNT(setups); i++)
+        for (size_t j = 0; j < COUNT(refusing); j++)
+            wrong |= !call_refuses(&refusing[j], &setups[i]);
     return wrong;
 }
 
@@ -380,6 +557,6 @@ int main(void)
     make_old_bits();
     int wrong = test_rows() | test_slots() | test_refusals();
     if (!wrong)
-        puts("capi: fill, empty and look keep every bit");
+        puts("capi: ground, lay, empty and look keep every bit");
     return wrong;
 }

@@ -5,8 +5,8 @@
 
 #include <stdio.h>
 
-#if BP_VERSION != 2
-#error "written for version 2 of the header"
+#if BP_VERSION != 3
+#error "written for version 3 of the header"
 #endif
 
 #ifdef __cplusplus
@@ -56,10 +56,26 @@ static int shapes_are_right(void)
            bp_place(BP_AMC_1X6, 512, 0, 1, 47, 2, &symbol, &carrier) == BP_ACCEPTED && symbol == 10 && carrier == 209;
 }
 
-/* Every point of a slot of optional FUSC at 256 goes onto the grid and comes back; one is looked at, and nothing at DC. */
-static int grid_is_right(void)
+/* The ground of a slot of optional FUSC at 256 has the pilot point on its 24 pilots, and nothing but zeros beside them,
+   whatever the grid held. */
+static int ground_is_right(void)
 {
     const float pilot[2] = {-1, 0};
+    int pilots = 0, zeros = 0;
+    for (int n = 0; n < 512; n++)
+        floats(grid)[n] = 7;
+    if (bp_ground(BP_OFUSC, 256, 5, 0, pilot, floats(grid), 512) != BP_ACCEPTED)
+        return 0;
+    for (int n = 0; n < 512; n += 2) {
+        pilots += floats(grid)[n] == -1 && floats(grid)[n + 1] == 0;
+        zeros += floats(grid)[n] == 0 && floats(grid)[n + 1] == 0;
+    }
+    return pilots == 24 && zeros == 256 - 24;
+}
+
+/* Every point of the slot goes onto that ground, by subchannel, and comes back; one is looked at, and nothing at DC. */
+static int grid_is_right(void)
+{
     const size_t points_len = bp_points_len(BP_OFUSC, 256), grid_len = bp_grid_len(BP_OFUSC, 256);
     float point[2];
     uint32_t symbol, kind, slot, subchannel, index;
@@ -70,8 +86,10 @@ static int grid_is_right(void)
         return 0;
     for (int n = 0; n < 384; n++)
         floats(points)[n] = (float)n;
-    if (bp_fill(BP_OFUSC, 256, 5, 0, pilot, floats(points), points_len, floats(grid), grid_len) != BP_ACCEPTED ||
-        bp_empty(BP_OFUSC, 256, 5, 0, floats(grid), grid_len, floats(back), points_len) != BP_ACCEPTED)
+    for (uint32_t s = 0; s < 4; s++)
+        if (bp_lay(BP_OFUSC, 256, 5, 0, s, floats(points) + 96 * s, 96, floats(grid), grid_len) != BP_ACCEPTED)
+            return 0;
+    if (bp_empty(BP_OFUSC, 256, 5, 0, floats(grid), grid_len, floats(back), points_len) != BP_ACCEPTED)
         return 0;
     for (int n = 0; n < 192; n++)
         if (back[n] != points[n])
@@ -102,8 +120,8 @@ static int refusals_are_right(void)
         bp_place(BP_AMC, 256, 0, 0, 4, 0, &u[0], &carrier),
         bp_place(BP_AMC, 256, 0, 0, 0, 48, &u[0], &carrier),
         bp_locate(BP_AMC, 256, 0, 0, 128, &u[0], &u[1], &u[2], &u[3]),
-        bp_fill(BP_OFUSC, 256, 0, 0, pilot, floats(points), 1, floats(grid), 512),
-        bp_fill(BP_OFUSC, 256, 0, 0, pilot, floats(points), 384, floats(grid), 1),
+        bp_lay(BP_OFUSC, 256, 0, 0, 0, floats(points), 384, floats(grid), 512),
+        bp_ground(BP_OFUSC, 256, 0, 0, pilot, floats(grid), 511),
         bp_plan_read(none, 1, &u[0], &u[1], zones),
         bp_plan_read(form, 2, &u[0], &u[1], zones),
         bp_plan_read(count, 1, &u[0], &u[1], zones),
@@ -150,8 +168,8 @@ static int plan_is_right(void)
 
 int main(void)
 {
-    if (map_is_right() && shapes_are_right() && grid_is_right() && refusals_are_right() && collisions_are_right() &&
-        plan_is_right())
+    if (map_is_right() && shapes_are_right() && ground_is_right() && grid_is_right() && refusals_are_right() &&
+        collisions_are_right() && plan_is_right())
         return 0;
     puts("a call through the header gave a wrong answer");
     return 1;

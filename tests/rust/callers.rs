@@ -143,13 +143,47 @@ struct Grid {
     setup: Setup,
     slot: u32,
     pilot: Point,
-    points: Lent,
+    points: Vec<u32>,
+    places: Vec<u32>,
+    ground: Lent,
     grid: Lent,
+}
+
+/// The floats that one subchannel has.
+const LAID: usize = 96;
+
+impl Grid {
+    fn subchannels(&self) -> usize {
+        self.points.len() / LAID
+    }
+
+    /// One subchannel's points.
+    fn laid(&self, subchannel: usize) -> &[u32] {
+        &self.points[LAID * subchannel..LAID * (subchannel + 1)]
+    }
+
+    /// Lays these bits, which are only read.
+    fn lay(&self, subchannel: usize, bits: &[u32], grid: &mut Lent) {
+        let points = Lent::new(bits);
+        assert_eq!(
+            lay(
+                self.setup,
+                self.slot,
+                subchannel as u32,
+                points.at(),
+                grid.at_mut()
+            ),
+            Ok(())
+        );
+        assert!(points.is(&Lent::new(bits)), "points {:?}", self.setup);
+    }
 }
 
 fn grids() -> Vec<Grid> {
     let read = |row: Vec<u32>| {
-        let (points, grid) = row[7..].split_at(row[6] as usize);
+        let (points, rest) = row[7..].split_at(LAID * row[6] as usize);
+        let (places, rest) = rest.split_at(points.len() / 2);
+        let (ground, grid) = rest.split_at(rest.len() / 2);
         Grid {
             setup: Setup {
                 mode: row[0],
@@ -158,7 +192,9 @@ fn grids() -> Vec<Grid> {
             },
             slot: row[3],
             pilot: point_of(&row[4..6]),
-            points: Lent::new(points),
+            points: points.to_vec(),
+            places: places.to_vec(),
+            ground: Lent::new(ground),
             grid: Lent::new(grid),
         }
     };
@@ -166,54 +202,117 @@ fn grids() -> Vec<Grid> {
 }
 
 #[test]
-fn fill_and_empty_keep_every_bit() {
-    for Grid {
-        setup,
-        slot,
-        pilot,
-        points,
-        grid,
-    } in grids()
-    {
-        let mut filled = Lent::spoiled(grid.at().len());
-        assert_eq!(
-            fill(setup, slot, pilot, points.at(), filled.at_mut()),
-            Ok(())
-        );
-        assert!(filled.is(&grid), "fill {setup:?}");
-        let mut back = Lent::spoiled(points.at().len());
-        assert_eq!(empty(setup, slot, grid.at(), back.at_mut()), Ok(()));
-        assert!(back.is(&points), "empty {setup:?}");
+fn ground_keeps_every_bit() {
+    for of in grids() {
+        let mut grid = Lent::spoiled(of.ground.at().len());
+        assert_eq!(ground(of.setup, of.slot, of.pilot, grid.at_mut()), Ok(()));
+        assert!(grid.is(&of.ground), "ground {:?}", of.setup);
     }
 }
 
 #[test]
-fn fill_and_empty_refuse_and_write_nothing() {
-    for row in rows("lengths", 4000) {
+fn a_lay_writes_its_own_floats_alone() {
+    for of in grids() {
+        for subchannel in 0..of.subchannels() {
+            let mut grid = Lent::spoiled(of.grid.at().len());
+            let mut expected = Lent::spoiled(of.grid.at().len());
+            let places = &of.places[LAID / 2 * subchannel..];
+            for (place, point) in places.iter().zip(of.laid(subchannel).chunks(2)) {
+                let at = *place as usize;
+                expected.at_mut()[at..at + 2].copy_from_slice(&point_of(point));
+            }
+            of.lay(subchannel, of.laid(subchannel), &mut grid);
+            assert!(grid.is(&expected), "lay {subchannel} {:?}", of.setup);
+        }
+    }
+}
+
+/// In any order with repeats: every bit turned over, but not when a subchannel comes last.
+#[test]
+fn ground_and_lays_give_the_grid() {
+    let grids = grids();
+    for row in rows("order", 22) {
+        let (of, order) = (&grids[row[0] as usize], &row[1..]);
+        let mut grid = Lent::spoiled(of.grid.at().len());
+        assert_eq!(ground(of.setup, of.slot, of.pilot, grid.at_mut()), Ok(()));
+        for (n, subchannel) in order.iter().enumerate() {
+            let turned = if order[n + 1..].contains(subchannel) {
+                u32::MAX
+            } else {
+                0
+            };
+            let subchannel = *subchannel as usize;
+            let bits: Vec<u32> = of.laid(subchannel).iter().map(|x| x ^ turned).collect();
+            of.lay(subchannel, &bits, &mut grid);
+        }
+        assert!(grid.is(&of.grid), "lays {:?}", of.setup);
+    }
+}
+
+#[test]
+fn empty_keeps_every_bit() {
+    for of in grids() {
+        let mut back = Lent::spoiled(of.points.len());
+        assert_eq!(
+            empty(of.setup, of.slot, of.grid.at(), back.at_mut()),
+            Ok(())
+        );
+        assert!(back.is(&Lent::new(&of.points)), "empty {:?}", of.setup);
+    }
+}
+
+#[test]
+fn ground_refuses_and_writes_nothing() {
+    for row in rows("ground", 4000) {
+        let [mode, size, cell, slot, grid_len, refusal] = row[..] else {
+            panic!("{row:?}")
+        };
+        let mut grid = Lent::spoiled(grid_len as usize);
+        let setup = Setup { mode, size, cell };
+        assert_eq!(
+            ground(setup, slot, [1.0, -1.0], grid.at_mut()),
+            Err(Refusal(refusal)),
+            "{row:?}"
+        );
+        assert!(grid.is(&Lent::spoiled(grid_len as usize)), "{row:?}");
+    }
+}
+
+#[test]
+fn lay_refuses_and_writes_nothing() {
+    for row in rows("lay", 16000) {
+        let [mode, size, cell, slot, subchannel, points_len, grid_len, refusal] = row[..] else {
+            panic!("{row:?}")
+        };
+        let points = Lent::spoiled(points_len as usize);
+        let mut grid = Lent::spoiled(grid_len as usize);
+        let setup = Setup { mode, size, cell };
+        assert_eq!(
+            lay(setup, slot, subchannel, points.at(), grid.at_mut()),
+            Err(Refusal(refusal)),
+            "{row:?}"
+        );
+        assert!(points.is(&Lent::spoiled(points_len as usize)), "{row:?}");
+        assert!(grid.is(&Lent::spoiled(grid_len as usize)), "{row:?}");
+    }
+}
+
+#[test]
+fn empty_refuses_and_writes_nothing() {
+    for row in rows("empty", 4000) {
         let [mode, size, cell, slot, points_len, grid_len, refusal] = row[..] else {
             panic!("{row:?}")
         };
+        let mut points = Lent::spoiled(points_len as usize);
+        let grid = Lent::spoiled(grid_len as usize);
         let setup = Setup { mode, size, cell };
-        let (mut points, mut grid) = (
-            Lent::spoiled(points_len as usize),
-            Lent::spoiled(grid_len as usize),
-        );
-        let refused = Err(Refusal(refusal));
-        assert_eq!(
-            fill(setup, slot, [1.0, -1.0], points.at(), grid.at_mut()),
-            refused,
-            "fill {row:?}"
-        );
         assert_eq!(
             empty(setup, slot, grid.at(), points.at_mut()),
-            refused,
-            "empty {row:?}"
+            Err(Refusal(refusal)),
+            "{row:?}"
         );
-        assert!(
-            points.is(&Lent::spoiled(points_len as usize)),
-            "points {row:?}"
-        );
-        assert!(grid.is(&Lent::spoiled(grid_len as usize)), "grid {row:?}");
+        assert!(points.is(&Lent::spoiled(points_len as usize)), "{row:?}");
+        assert!(grid.is(&Lent::spoiled(grid_len as usize)), "{row:?}");
     }
 }
 

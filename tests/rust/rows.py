@@ -5,8 +5,12 @@
     place     mode size cell slot subchannel index; refusal symbol carrier
     locate    mode size cell symbol carrier; refusal kind slot subchannel index
     length    mode size; points_len grid_len
-    grid      mode size cell slot pilot(2) points_len; the points, the grid, as bit patterns
-    lengths   mode size cell slot points_len grid_len; refusal of fill and empty
+    grid      mode size cell slot pilot(2) subchannels; the points, where each one's floats start in the grid, the
+              ground, the grid; floats as bit patterns
+    order     the number of a grid above; subchannels to lay, each at least once
+    ground    mode size cell slot grid_len; refusal of ground
+    lay       mode size cell slot subchannel points_len grid_len; refusal of lay
+    empty     mode size cell slot points_len grid_len; refusal of empty
     look      the number of a grid above, symbol carrier; kind point(2) slot subchannel index
     unseen    mode size cell symbol carrier grid_len; refusal of look
     ofusc     size cell subchannel cell subchannel; refusal count hits(48)
@@ -46,7 +50,25 @@ def wrong_sets(good, wrong):
         yield [wrong[i] if chosen >> i & 1 else good[i] for i in range(len(good))]
 
 
-def lengths_rows(dice, mode, size):
+def ground_rows(dice, mode, size):
+    points, grid = 96 * ref.subchannels(mode, size), ref.grid_floats(mode, size)
+    good, wrong = [mode, size, ref.cells(mode, size) - 1, 511, grid], [ref.UNLISTED, 128, ref.cells(mode, size), 512]
+    for _ in range(6):
+        for fields in wrong_sets(good, wrong + [wrong_length(dice, grid, points)]):
+            yield fields + [ref.ground_refusal(*fields)]
+
+
+def lay_rows(dice, mode, size):
+    """Wrong lengths of the points: about 96, and the whole slot's."""
+    subchannels, grid = ref.subchannels(mode, size), ref.grid_floats(mode, size)
+    good = [mode, size, ref.cells(mode, size) - 1, 511, subchannels - 1, 96, grid]
+    wrong = [ref.UNLISTED, 128, ref.cells(mode, size), 512, subchannels]
+    for length in (0, 94, 95, 97, 98, 96 * subchannels):
+        for fields in wrong_sets(good, wrong + [length, wrong_length(dice, grid, 96 * subchannels)]):
+            yield fields + [ref.lay_refusal(*fields)]
+
+
+def empty_rows(dice, mode, size):
     points, grid = 96 * ref.subchannels(mode, size), ref.grid_floats(mode, size)
     good = [mode, size, ref.cells(mode, size) - 1, 511, points, grid]
     for _ in range(3):
@@ -75,10 +97,21 @@ def look_rows(dice, number, mode, size, cell, slot, grid):
             yield [number, symbol, carrier, KINDS[what[0]]] + told + [0] * (5 - len(told))
 
 
+def some_order(dice, subchannels):
+    """Each subchannel at least once, some more often, in any order."""
+    order = [*range(subchannels), *dice.choices(range(subchannels), k=subchannels)]
+    dice.shuffle(order)
+    return order
+
+
 def print_grids(dice):
     for number, (mode, size) in enumerate(table.SETUPS):
         cell, slot, pilot, points, grid = grid_table.case(dice, mode, size)
-        line("grid", [mode, size, cell, slot] + pilot + [len(points)] + points + grid)
+        subchannels = ref.subchannels(mode, size)
+        places = grid_table.places(mode, size, cell, slot)
+        ground = grid_table.grounded(mode, size, cell, slot, pilot)
+        line("grid", [mode, size, cell, slot] + pilot + [subchannels] + points + places + ground + grid)
+        line("order", [number] + some_order(dice, subchannels))
         for row in look_rows(dice, number, mode, size, cell, slot, grid):
             line("look", row)
 
@@ -102,7 +135,9 @@ def main():
         for name, rows in [
             ("place", table.place_rows),
             ("locate", table.locate_rows),
-            ("lengths", lengths_rows),
+            ("ground", ground_rows),
+            ("lay", lay_rows),
+            ("empty", empty_rows),
             ("unseen", unseen_rows),
         ]:
             for row in rows(dice, mode, size):
