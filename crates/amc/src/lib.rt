@@ -252,13 +252,13 @@ fn first_carrier(shape: Shape, n: u16, first: u16, v: u16) -> u16
 }
 
 // The carriers of P's entries in subchannel 0 of a slot, once for all subchannels.
-pub fn table(shape: Shape, n: usize, slot: usize, cell: usize) -> [u16; 188]
+pub fn table(shape: Shape, n: usize, slot: usize, cell: usize) -> [u16; 48]
     requires { ⌜ IsShape shape × EvenWidth n × (cell < 2352) ⌝ }
     ensures { λ r. ⌜ Starts 48 (sequenceCarrier shape n (slot * shape .symbols) cell 0) r ⌝ }
 {
     let p = SEQUENCE;
     let first = (slot % 3 * shape.symbols % 3) as u16;
-    let mut table = [0; 188];
+    let mut table = [0; 48];
     let mut i = 0;
     while i < 48 {
         table[i] = first_carrier(shape, n as u16, first, sequence_place(&p, cell, i));
@@ -284,7 +284,7 @@ pub fn carrier_row(
     slot: usize,
     cell: usize,
     subchannel: usize,
-    table: &[u16; 188],
+    table: &[u16; 48],
 ) -> [u16; 48]
     requires { ⌜ IsShape shape × EvenWidth n × (cell < 2352) × (subchannel < n * shape .symbols) ⌝ }
     requires { ⌜ Starts 48 (sequenceCarrier shape n (slot * shape .symbols) cell 0) (now table) ⌝ }

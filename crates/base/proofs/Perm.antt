@@ -1,7 +1,7 @@
 -- A permutation of 0..n-1 with its inverse; the rotation, and the composition of two.
-use mathlib.Core.Path.{_≡_, ap, _∙_}
-use Prim.Native.Nat.{ℕ, _+_, _-_, _*_, _/_, _%_, _<_}
-use native.Mathlib.Nat.{mod-lt, mod-eq-of-lt, mod-add-mod, add-mul-mod-self-right, div-add-mod', add-assoc, add-mul, one-mul}
+use mathlib.Core.Path.{_≡_, sym, ap, _∙_}
+use Prim.Native.Nat.{ℕ, _+_, _-_, _*_, _/_, _%_, _<_, _≤_}
+use native.Mathlib.Nat.{mod-lt, mod-eq-of-lt, mod-eq-sub-mod, mod-add-mod, add-mul-mod-self-right, div-add-mod', add-assoc, add-mul, one-mul}
 use native.Mathlib.Omega.{arith}
 use Rattle.base.specs.Steps.{rotate, unrotate}
 
@@ -20,6 +20,10 @@ compose {n} {f} {f′} {g} {g′} p q =
       back = λ x h. ap f′ (q .back (f x) (p .to-lt x h)) ∙ p .back x h;
       forth = λ y h. ap g (p .forth (g′ y) (q .from-lt y h)) ∙ q .forth y h;
     }
+
+-- a number below 2n by one comparison
+pub reduced : (n x : ℕ) → n ≤ x → x < n + n → (x - n ≡ x % n) × (x - n < n)
+reduced n x le h = let lt : x - n < n = omega arith in (sym (mod-eq-sub-mod le ∙ mod-eq-of-lt lt), lt)
 
 -- c and what it lacks to the next multiple of n make whole turns
 turns : (n c : ℕ) → 0 < n → c + (n - c % n) ≡ (c / n + 1) * n

@@ -1,6 +1,6 @@
 // The steps that the permutations are made of.
 ghost use mathlib.Core.Path.{_≡_};
-ghost use Prim.Native.Nat.{_+_, _≤_, _<_};
+ghost use Prim.Native.Nat.{_+_, _%_, _≤_, _<_};
 ghost use Rattle.base.specs.Steps.{rotate as Rotate, unrotate as Unrotate, skip as Skip, unskip as Unskip};
 
 // An entry of a table, as a number to count with.
@@ -14,6 +14,21 @@ pub fn wide16(x: u16) -> usize
     ensures { λ r. ⌜ (r ≡ x) × (r < 65536) ⌝ }
 {
     x as usize
+}
+
+// x mod n of a number below 2n, without a division.
+pub fn reduce(n: usize, x: usize) -> usize
+    requires { ⌜ x < n + n ⌝ }
+    ensures { λ r. ⌜ (r ≡ x % n) × (r < n) ⌝ }
+{
+    if x < n { x } else { x - n }
+}
+
+pub fn reduce16(n: u16, x: u16) -> u16
+    requires { ⌜ x < n + n ⌝ }
+    ensures { λ r. ⌜ (r ≡ x % n) × (r < n) ⌝ }
+{
+    if x < n { x } else { x - n }
 }
 
 // x moved on, modulo n.

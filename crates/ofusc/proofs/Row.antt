@@ -1,6 +1,7 @@
 -- A row of data numbers: the subchannel is added to what the cell fixes.
 use mathlib.Core.Path.{_≡_, refl, ap, ap₂, _∙_, subst⁻¹}
-use Prim.Native.Nat.{ℕ, _+_, _*_, _/_, _%_, _^_, _<_}
+use Prim.Native.Nat.{ℕ, _+_, _-_, _*_, _/_, _%_, _^_, _<_, _≤_}
+use native.Mathlib.Nat.{add-mul, add-mod-right}
 use native.Mathlib.Omega.{arith}
 use lib.Arith.{digits-lt}
 use lib.Bits.{bitXor, xor-block, xor-zero-r, xor-comm}
@@ -8,13 +9,24 @@ use Rattle.base.specs.Steps.{entry}
 use Rattle.ofusc.specs.Width.{Width}
 use Rattle.ofusc.specs.Map.{groupOf, term, mask, dataNumber}
 use Rattle.ofusc.specs.Model.{cellNumber, groupNumber}
-use Rattle.ofusc.proofs.Sequence.{size, mask-lt}
+use Rattle.ofusc.proofs.Sequence.{size, mask-lt, mask-as}
 use Rattle.ofusc.proofs.Tables.{rows1, rows2, mask-is}
 
 module _ {n : ℕ} (w : Width n) (cell : ℕ) where
   pub cell-number-lt : (k : ℕ) → k < 48 → cellNumber n cell k < 1536
   unfolding cellNumber
   cell-number-lt k h = omega (arith, digits-lt h (mask-lt w cell k), size w .most)
+
+  -- N-1 groups on it is the same but for their numbers
+  cell-again : (k : ℕ) → cellNumber n cell k + (n - 1) * n ≡ cellNumber n cell (k + (n - 1))
+  unfolding cellNumber
+  cell-again k = rw (mask-as n cell (k + (n - 1)) k (add-mod-right k (n - 1)), add-mul) (omega arith)
+
+  -- the entry of group k, from the entry N-1 groups before it
+  pub again-entry : (k x : ℕ) → n - 1 ≤ k → k < 48 → x ≡ cellNumber n cell (k - (n - 1)) → (x + (n - 1) * n ≡ cellNumber n cell k) × (x + (n - 1) * n < 1536)
+  again-entry k x le h e =
+      let back : k - (n - 1) + (n - 1) ≡ k = omega arith in
+      rw (e, cell-again (k - (n - 1)), back) (refl, cell-number-lt k h)
 
   -- the entry of group k, from both terms by the code's tables
   pub cell-entry : (k a b : ℕ) → k < 48 → a ≡ term (λ i. entry rows1 (n + i)) n (cell % n) k → b ≡ term (λ i. entry rows2 (n + i)) n (cell / n) k

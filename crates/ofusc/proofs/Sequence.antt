@@ -101,3 +101,8 @@ unfolding mask
 mask-lt {n} w cell k =
     sum-lt w (term (p1 n) n (cell % n) k) (term (p2 n) n (cell / n) k)
     (term-lt w (p1 n) (p1-lt w) (cell % n) k) (term-lt w (p2 n) (λ i h. p2-lt w i) (cell / n) k)
+
+-- the mask goes by k mod (N-1)
+pub mask-as : (n cell j k : ℕ) → j % (n - 1) ≡ k % (n - 1) → mask n cell j ≡ mask n cell k
+unfolding mask term
+mask-as n cell j k e = rw e

@@ -1,4 +1,5 @@
 // Optional FUSC: the field's sequences and the group permutation.
+use base::reduce;
 use base::unrotate;
 use base::wide;
 use carriers::Address;
@@ -196,16 +197,16 @@ fn parts(n: usize, x: usize) -> ByWidth
     }
 }
 
-// What the cell adds by one sequence in group k: its entry at (k'+c) mod (N-1), or nothing where c is 0.
+// What the cell adds by one sequence in group k, below N-1: its entry at (k+c) mod (N-1), or nothing where c is 0.
 fn term(rows: &[u8; 63], n: usize, c: usize, k: usize) -> usize
     requires { ⌜ Width n ⌝ }
-    requires { ⌜ (c < n) × (k < 48) ⌝ }
+    requires { ⌜ (c < n) × (k < n - 1) ⌝ }
     ensures { λ r. ⌜ r ≡ Term (λ i. entry (now (rows .entry)) (n + i)) n c k ⌝ }
 {
     if c == 0 {
         return 0;
     }
-    let i = n + turn(n, k + c);
+    let i = n + reduce(n - 1, k + c);
     wide(rows[i])
 }
 
@@ -218,7 +219,8 @@ fn mask(n: usize, cell: usize, k: usize) -> usize
     let first = SEQUENCE_1;
     let second = SEQUENCE_2;
     let c = parts(n, cell);
-    term(&first, n, c.remainder, k) ^ term(&second, n, c.quotient, k)
+    let turned = turn(n, k);
+    term(&first, n, c.remainder, turned) ^ term(&second, n, c.quotient, turned)
 }
 
 // The group of index m of subchannel s.
@@ -254,19 +256,20 @@ pub fn address(n: usize, cell: usize, d: usize) -> Address
     }
 }
 
-// What the cell alone fixes of the data number in each group, once for all subchannels.
-pub fn table(n: usize, cell: usize) -> [u16; 188]
+// What the cell alone fixes of the data number in each of the first N-1 groups.
+fn first_groups(n: usize, cell: usize) -> [u16; 48]
     requires { ⌜ Width n ⌝ }
     requires { ⌜ cell < n * n ⌝ }
-    ensures { λ r. ⌜ Starts 48 (cellNumber n cell) r ⌝ }
+    ensures { λ r. ⌜ Starts (n - 1) (cellNumber n cell) r ⌝ }
 {
     let first = SEQUENCE_1;
     let second = SEQUENCE_2;
-    let c1 = cell % n;
-    let c2 = cell / n;
-    let mut table = [0; 188];
+    let c = parts(n, cell);
+    let c1 = c.remainder;
+    let c2 = c.quotient;
+    let mut table = [0; 48];
     let mut k = 0;
-    while k < 48 {
+    while k < n - 1 {
         let element = term(&first, n, c1, k) ^ term(&second, n, c2, k);
         table[k] = (k * n + element) as u16;
         k += 1;
@@ -274,8 +277,25 @@ pub fn table(n: usize, cell: usize) -> [u16; 188]
     table
 }
 
+// The same in each group, once for all subchannels: what the cell adds comes again after N-1 groups.
+pub fn table(n: usize, cell: usize) -> [u16; 48]
+    requires { ⌜ Width n ⌝ }
+    requires { ⌜ cell < n * n ⌝ }
+    ensures { λ r. ⌜ Starts 48 (cellNumber n cell) r ⌝ }
+{
+    let period = n - 1;
+    let step = (period * n) as u16;
+    let mut table = first_groups(n, cell);
+    let mut k = period;
+    while k < 48 {
+        table[k] = table[k - period] + step;
+        k += 1;
+    }
+    table
+}
+
 // The data numbers of a subchannel, by group.
-pub fn numbers(n: usize, cell: usize, subchannel: usize, table: &[u16; 188]) -> [u16; 48]
+pub fn numbers(n: usize, cell: usize, subchannel: usize, table: &[u16; 48]) -> [u16; 48]
     requires { ⌜ Width n ⌝ }
     requires { ⌜ subchannel < n ⌝ }
     requires { ⌜ Starts 48 (cellNumber n cell) (now table) ⌝ }

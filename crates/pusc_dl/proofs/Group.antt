@@ -18,6 +18,10 @@ pub size-pos : (g : ℕ) → 0 < groupSize g
 unfolding groupSize
 size-pos g = cases (eqb (g % 2) 0) (λ e. rw e (lit< tt)) (λ e. rw e (lit< tt))
 
+pub size-most : (g : ℕ) → groupSize g ≤ 12
+unfolding groupSize
+size-most g = cases (eqb (g % 2) 0) (λ e. rw e (omega arith)) (λ e. rw e (omega arith))
+
 -- a size that is not 12 is 8
 pub size-8 : (g size : ℕ) → size ≡ groupSize g → (size ≡ 12 → ⊥) → groupSize g ≡ 8
 unfolding groupSize

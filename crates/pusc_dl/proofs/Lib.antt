@@ -1,4 +1,4 @@
--- The law of PUSC downlink, and the facts that it is made of; and rows of spots from the table of a cell.
+-- The law of PUSC downlink, and the facts that it is made of; and rows of spots.
 pub mod Tables
 pub mod Cluster
 pub mod Group

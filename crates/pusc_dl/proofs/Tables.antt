@@ -1,12 +1,16 @@
--- R and the bases B are permutations, by one computed test for each direction; and pilots go by the parity of the symbol.
+-- R and the bases B are permutations, by one computed test for each direction; a base goes on past M; and pilots go by the parity of the symbol.
 use mathlib.Core.Path.{_≡_, refl}
-use Prim.Native.Nat.{ℕ, _+_, _*_, _%_}
+use mathlib.Core.List.{List}
+use Prim.Native.Nat.{ℕ, _+_, _*_, _%_, _<_}
+use native.Mathlib.Nat.{mod-lt}
 use native.Mathlib.Omega.{arith}
+use lib.Dec.{T, eqb, eqb→eq, lit<}
 use Rattle.base.specs.Steps.{entry}
 use Rattle.base.proofs.Perm.{Perm}
-use Rattle.base.proofs.Table.{table-perm}
+use Rattle.base.proofs.Table.{all, all-at, table-perm}
 use Rattle.pusc_dl.specs.Table.{renumbering, renumberingInverse, base12, base12Inverse, base8, base8Inverse}
 use Rattle.pusc_dl.specs.Cluster.{isClusterPilot, firstPilot, secondPilot}
+use Rattle.pusc_dl.specs.Model.{base12Thrice, base8FourTimes}
 
 pub r-perm : Perm 120 (entry renumbering) (entry renumberingInverse)
 r-perm = table-perm 120 renumbering renumberingInverse refl refl tt tt
@@ -16,6 +20,23 @@ b12-perm = table-perm 12 base12 base12Inverse refl refl tt tt
 
 pub b8-perm : Perm 8 (entry base8) (entry base8Inverse)
 b8-perm = table-perm 8 base8 base8Inverse refl refl tt tt
+
+-- a base on past M goes by i mod M
+pub record GoesOn (m n : ℕ) (long base : List ℕ) : Type 0 where
+  pub is : (i : ℕ) → i < n → entry long i ≡ entry base (i % m)
+  pub below : (i : ℕ) → i < n → entry long i < m
+
+goes-on : (m n : ℕ) (long base inverse : List ℕ) → 0 < m → T (all (λ i. eqb (entry long i) (entry base (i % m))) n) → Perm m (entry base) (entry inverse) → GoesOn m n long base
+goes-on m n long base inverse pos test perm =
+    let same : (i : ℕ) → i < n → entry long i ≡ entry base (i % m) =
+    λ i h. eqb→eq _ _ (all-at (λ i. eqb (entry long i) (entry base (i % m))) n test i h) in
+    record { is = same; below = λ i h. rw (same i h) (perm .to-lt (i % m) (mod-lt i pos)) }
+
+pub b12-goes-on : GoesOn 12 36 base12Thrice base12
+b12-goes-on = goes-on 12 36 base12Thrice base12 base12Inverse (lit< tt) tt b12-perm
+
+pub b8-goes-on : GoesOn 8 32 base8FourTimes base8
+b8-goes-on = goes-on 8 32 base8FourTimes base8 base8Inverse (lit< tt) tt b8-perm
 
 -- a slot has two symbols, so the offset in the slot tells the parity
 pub pilot-parity : (slot o u : ℕ) → isClusterPilot (slot * 2 + o) u ≡ isClusterPilot o u

@@ -1,4 +1,6 @@
 // PUSC downlink: clusters, their renumbering, major groups and the inner permutation.
+use base::reduce;
+use base::reduce16;
 use base::rotate;
 use base::skip;
 use base::unrotate;
@@ -14,12 +16,11 @@ ghost use Rattle.base.specs.Steps.{entry, unrotate as Unrotate};
 ghost use Rattle.base.specs.Tabulate.{tabulate};
 ghost use Rattle.base.specs.Model.{Starts};
 ghost use Rattle.carriers.specs.Model.{spotNumber};
-ghost use Rattle.pusc_dl.specs.Table.{renumberingInverse, base12, base8};
 ghost use Rattle.pusc_dl.specs.Cluster as cluster;
 ghost use Rattle.pusc_dl.specs.Cluster.{firstPilot, secondPilot, isClusterPilot, clusterPlace, clusterData};
-ghost use Rattle.pusc_dl.specs.Group.{groupIn, groupSize, ofSize, groupData, groupSubchannel, groupIndex};
+ghost use Rattle.pusc_dl.specs.Group.{clusterStarts, subchannelStarts, groupIn, groupSize, ofSize, groupData, groupSubchannel, groupIndex};
 ghost use Rattle.pusc_dl.specs.Map.{groupUsed, usedGroup, usedData, spotOf, addressOf};
-ghost use Rattle.pusc_dl.specs.Model.{tableEntry, baseStart, groupSpot};
+ghost use Rattle.pusc_dl.specs.Model.{base12Thrice, base8FourTimes, turnedBase, groupCluster, groupSpot};
 
 // A cluster's number in the order of the carriers, and its number after the renumbering. They are never added or compared.
 pub struct Physical(pub usize);
@@ -273,12 +274,82 @@ const RENUMBERING_INVERSE: [u8; 120] = [
     29,
 ];
 
-// B of a group of 12 subchannels and of one of 8, and their inverses.
-const BASE_12: [u8; 12] = [6, 9, 4, 8, 10, 11, 5, 2, 7, 3, 1, 0];
+// B of a group of 12 subchannels and of one of 8, on past M so that no sum is reduced, and their inverses.
+const BASE_12: [u8; 36] = [
+    6,
+    9,
+    4,
+    8,
+    10,
+    11,
+    5,
+    2,
+    7,
+    3,
+    1,
+    0,
+    6,
+    9,
+    4,
+    8,
+    10,
+    11,
+    5,
+    2,
+    7,
+    3,
+    1,
+    0,
+    6,
+    9,
+    4,
+    8,
+    10,
+    11,
+    5,
+    2,
+    7,
+    3,
+    1,
+    0,
+];
 
 const BASE_12_INVERSE: [u8; 12] = [11, 10, 7, 9, 2, 6, 0, 8, 3, 1, 4, 5];
 
-const BASE_8: [u8; 8] = [7, 4, 0, 2, 1, 5, 3, 6];
+const BASE_8: [u8; 32] = [
+    7,
+    4,
+    0,
+    2,
+    1,
+    5,
+    3,
+    6,
+    7,
+    4,
+    0,
+    2,
+    1,
+    5,
+    3,
+    6,
+    7,
+    4,
+    0,
+    2,
+    1,
+    5,
+    3,
+    6,
+    7,
+    4,
+    0,
+    2,
+    1,
+    5,
+    3,
+    6,
+];
 
 const BASE_8_INVERSE: [u8; 8] = [2, 4, 3, 6, 1, 5, 7, 0];
 
@@ -296,13 +367,13 @@ fn renumber(cell: usize, p: Physical) -> Logical
     Logical(wide(RENUMBERING[i]))
 }
 
-// The reverse, by a copy of its table, which a loop takes once.
-fn unrenumber(inverse: &[u8; 120], cell: usize, l: Logical) -> Physical
-    requires { ⌜ (now inverse ≡ renumberingInverse) × (cell < 32) × (l .0 < 120) ⌝ }
+// The reverse.
+fn unrenumber(cell: usize, l: Logical) -> Physical
+    requires { ⌜ (cell < 32) × (l .0 < 120) ⌝ }
     ensures { λ r. ⌜ (r ≡ cluster.unrenumber cell l) × (r .0 < 120) ⌝ }
 {
     let i = l.0;
-    Physical(unrotate(120, 13 * cell, wide(inverse[i])))
+    Physical(unrotate(120, 13 * cell, wide(RENUMBERING_INVERSE[i])))
 }
 
 // The two pilots of a cluster.
@@ -379,6 +450,21 @@ fn group_in(starts: [usize; 6], x: usize) -> usize
     5
 }
 
+// The first logical cluster of a group, and its first subchannel.
+fn cluster_start(g: usize) -> usize
+    requires { ⌜ g < 6 ⌝ }
+    ensures { λ r. ⌜ r ≡ entry clusterStarts g ⌝ }
+{
+    20 * g + 4 * (g % 2)
+}
+
+fn subchannel_start(g: usize) -> usize
+    requires { ⌜ g < 6 ⌝ }
+    ensures { λ r. ⌜ r ≡ entry subchannelStarts g ⌝ }
+{
+    10 * g + 2 * (g % 2)
+}
+
 // The number of subchannels of a group.
 fn group_size(g: usize) -> usize
     ensures { λ size. ⌜ (size ≡ groupSize g) × (0 < size) × (size < 13) ⌝ }
@@ -420,6 +506,18 @@ fn of_size(g: usize, twelve: [u8; 12], eight: [u8; 8], i: usize) -> usize
     }
 }
 
+// B at i mod M, turned by the cell, by copies of the bases, which a loop takes once.
+fn turned_base(twelve: &[u8; 36], eight: &[u8; 32], g: usize, cell: usize, i: usize) -> u16
+    requires { ⌜ (now twelve ≡ base12Thrice) × (now eight ≡ base8FourTimes) × (i < 24 + groupSize g) ⌝ }
+    ensures { λ r. ⌜ (r ≡ turnedBase g cell i) × (r < groupSize g) ⌝ }
+{
+    if group_size(g) == 12 {
+        reduce16(12, twelve[i] as u16 + (cell % 12) as u16)
+    } else {
+        reduce16(8, eight[i] as u16 + (cell % 8) as u16)
+    }
+}
+
 // The group data number of index k, below 24, of subchannel s, counted in the group.
 fn group_data(g: usize, cell: usize, s: usize, k: usize) -> usize
     requires { ⌜ (cell < 32) × (s < groupSize g) × (k < 24) ⌝ }
@@ -427,8 +525,7 @@ fn group_data(g: usize, cell: usize, s: usize, k: usize) -> usize
 {
     let size = group_size(g);
     let n = rotate(24, 13 * s, k);
-    let base = of_size(g, BASE_12, BASE_8, size_remainder(g, s + n));
-    n * size + size_remainder(g, base + cell)
+    n * size + wide16(turned_base(&BASE_12, &BASE_8, g, cell, s + n))
 }
 
 // The reverse: the subchannel, counted in the group, and the index, below 24, of a group data number.
@@ -452,8 +549,8 @@ fn group_used(cell: usize, symbol: usize, g: usize, d: usize) -> usize
     requires { ⌜ (cell < 32) × (g < 6) × (d < 24 * groupSize g) ⌝ }
     ensures { λ r. ⌜ r ≡ groupUsed cell symbol g d ⌝ }
 {
-    let logical = Logical(CLUSTER_STARTS[g] + d / 12);
-    let physical = unrenumber(&RENUMBERING_INVERSE, cell, logical);
+    let logical = Logical(cluster_start(g) + d / 12);
+    let physical = unrenumber(cell, logical);
     physical.0 * 14 + cluster_place(symbol, d % 12)
 }
 
@@ -463,7 +560,7 @@ pub fn spot(cell: usize, subchannel: usize, index: usize) -> Spot
     ensures { λ r. ⌜ r ≡ spotOf cell subchannel index ⌝ }
 {
     let g = group_in(SUBCHANNEL_STARTS, subchannel);
-    let s = subchannel - SUBCHANNEL_STARTS[g];
+    let s = subchannel - subchannel_start(g);
     let d = group_data(g, cell, s, index % 24);
     let offset = index / 24;
     Spot {
@@ -489,7 +586,7 @@ fn used_data(cell: usize, symbol: usize, used: usize) -> Datum
     let g = group_in(CLUSTER_STARTS, l);
     Datum {
         group: g,
-        number: (l - CLUSTER_STARTS[g]) * 12 + cluster_data(symbol, used % 14),
+        number: (l - cluster_start(g)) * 12 + cluster_data(symbol, used % 14),
     }
 }
 
@@ -502,62 +599,43 @@ pub fn address(cell: usize, offset: usize, used: usize) -> Address
     let g = d.group;
     let a = group_address(g, cell, d.number);
     Address {
-        subchannel: SUBCHANNEL_STARTS[g] + a.subchannel,
+        subchannel: subchannel_start(g) + a.subchannel,
         index: offset * 24 + a.index,
     }
 }
 
-// An entry of the table of a cell, by copies of the constant tables.
-fn table_entry(
-    inverse: &[u8; 120],
-    twelve: &[u8; 12],
-    eight: &[u8; 8],
-    cell: usize,
-    i: usize,
-) -> u16
-    requires { ⌜ (now inverse ≡ renumberingInverse) × (now twelve ≡ base12) × (now eight ≡ base8) × (cell < 32) × (i < 188) ⌝ }
-    ensures { λ r. ⌜ r ≡ tableEntry cell i ⌝ }
-{
-    if i < 120 {
-        let p = unrenumber(inverse, cell, Logical(i));
-        (p.0 * 14) as u16
-    } else if i < 156 {
-        rotate(12, cell, wide(twelve[(i - 120) % 12])) as u16
-    } else {
-        rotate(8, cell, wide(eight[(i - 156) % 8])) as u16
-    }
-}
-
-// The table of a cell: the first used number of each logical cluster; then both bases turned by the cell, on past M so that no sum is reduced.
-pub fn table(cell: usize) -> [u16; 188]
-    requires { ⌜ cell < 32 ⌝ }
-    ensures { λ r. ⌜ Starts 188 (tableEntry cell) r ⌝ }
+// The first used number of each cluster of a group.
+fn group_clusters(cell: usize, g: usize) -> [u16; 24]
+    requires { ⌜ (cell < 32) × (g < 6) ⌝ }
+    ensures { λ r. ⌜ Starts (2 * groupSize g) (groupCluster cell g) r ⌝ }
 {
     let inverse = RENUMBERING_INVERSE;
-    let twelve = BASE_12;
-    let eight = BASE_8;
-    let mut table = [0; 188];
+    let start = cluster_start(g);
+    let count = 2 * group_size(g);
+    let back = (120 - 13 * cell % 120) as u16;
+    let mut clusters = [0; 24];
     let mut i = 0;
-    while i < 188 {
-        table[i] = table_entry(&inverse, &twelve, &eight, cell, i);
+    while i < count {
+        clusters[i] = reduce16(120, inverse[start + i] as u16 + back) * 14;
         i += 1;
     }
-    table
+    clusters
 }
 
-// Where the base of a group's size starts in the table.
-fn base_start(g: usize) -> usize
-    ensures { λ r. ⌜ (r ≡ baseStart g) × (r < 157) ⌝ }
+// The bases of subchannel s, counted in its group, turned by the cell, one for each n.
+fn group_bases(g: usize, cell: usize, s: usize) -> [u16; 24]
+    requires { ⌜ s < groupSize g ⌝ }
+    ensures { λ r. ⌜ r ≡ tabulate 24 (λ n. turnedBase g cell (s + n)) ⌝ }
 {
-    if group_size(g) == 12 { 120 } else { 156 }
-}
-
-// x mod 24, without a division.
-fn mod_24(x: usize) -> usize
-    requires { ⌜ x < 48 ⌝ }
-    ensures { λ r. ⌜ (r ≡ x % 24) × (r < 24) ⌝ }
-{
-    if x < 24 { x } else { x - 24 }
+    let twelve = BASE_12;
+    let eight = BASE_8;
+    let mut bases = [0; 24];
+    let mut n = 0;
+    while n < 24 {
+        bases[n] = turned_base(&twelve, &eight, g, cell, s + n);
+        n += 1;
+    }
+    bases
 }
 
 // The spots of a group data number in the two symbols of a slot, as numbers.
@@ -566,12 +644,12 @@ struct SpotNumbers {
     second: u16,
 }
 
-// Those of data number d of the group whose lowest logical cluster is `start`.
-fn spot_numbers(start: usize, d: usize, table: &[u16; 188]) -> SpotNumbers
-    requires { ⌜ (start + d / 12 < 120) × (entry (now table) (start + d / 12) < 1680) ⌝ }
-    ensures { λ r. ⌜ (r .first ≡ entry (now (table .entry)) (start + d / 12) + clusterPlace 0 (d % 12)) × (r .second ≡ 2048 + (entry (now (table .entry)) (start + d / 12) + clusterPlace 1 (d % 12))) ⌝ }
+// Those of data number d of the group that has these clusters.
+fn spot_numbers(d: usize, clusters: &[u16; 24]) -> SpotNumbers
+    requires { ⌜ (d / 12 < 24) × (entry (now clusters) (d / 12) < 1680) ⌝ }
+    ensures { λ r. ⌜ (r .first ≡ entry (now (clusters .entry)) (d / 12) + clusterPlace 0 (d % 12)) × (r .second ≡ 2048 + (entry (now (clusters .entry)) (d / 12) + clusterPlace 1 (d % 12))) ⌝ }
 {
-    let cluster = wide16(table[start + d / 12]);
+    let cluster = wide16(clusters[d / 12]);
     let r = d % 12;
     SpotNumbers {
         first: (cluster + cluster_place(0, r)) as u16,
@@ -580,19 +658,19 @@ fn spot_numbers(start: usize, d: usize, table: &[u16; 188]) -> SpotNumbers
 }
 
 // The spots of subchannel s, counted in its group, as numbers by index.
-fn group_spots(cell: usize, g: usize, s: usize, table: &[u16; 188]) -> [u16; 48]
-    requires { ⌜ (cell < 32) × (g < 6) × (s < groupSize g) × Starts 188 (tableEntry cell) (now table) ⌝ }
+fn group_spots(cell: usize, g: usize, s: usize) -> [u16; 48]
+    requires { ⌜ (cell < 32) × (g < 6) × (s < groupSize g) ⌝ }
     ensures { λ r. ⌜ r ≡ tabulate 48 (groupSpot cell g s) ⌝ }
 {
-    let start = CLUSTER_STARTS[g];
+    let clusters = group_clusters(cell, g);
+    let bases = group_bases(g, cell, s);
     let size = group_size(g);
-    let base = base_start(g) + s;
     let turn = 13 * s % 24;
     let mut row = [0; 48];
     let mut k = 0;
     while k < 24 {
-        let n = mod_24(k + turn);
-        let both = spot_numbers(start, n * size + wide16(table[base + n]), table);
+        let n = reduce(24, k + turn);
+        let both = spot_numbers(n * size + wide16(bases[n]), &clusters);
         row[k] = both.first;
         row[k + 24] = both.second;
         k += 1;
@@ -601,10 +679,10 @@ fn group_spots(cell: usize, g: usize, s: usize, table: &[u16; 188]) -> [u16; 48]
 }
 
 // The spots of a subchannel as numbers, by index.
-pub fn spots(cell: usize, subchannel: usize, table: &[u16; 188]) -> [u16; 48]
-    requires { ⌜ (cell < 32) × (subchannel < 60) × Starts 188 (tableEntry cell) (now table) ⌝ }
+pub fn spots(cell: usize, subchannel: usize) -> [u16; 48]
+    requires { ⌜ (cell < 32) × (subchannel < 60) ⌝ }
     ensures { λ r. ⌜ r ≡ tabulate 48 (λ index. spotNumber (spotOf cell subchannel index)) ⌝ }
 {
     let g = group_in(SUBCHANNEL_STARTS, subchannel);
-    group_spots(cell, g, subchannel - SUBCHANNEL_STARTS[g], table)
+    group_spots(cell, g, subchannel - subchannel_start(g))
 }

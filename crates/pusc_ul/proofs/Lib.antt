@@ -1,4 +1,4 @@
--- The law of PUSC uplink, and the facts that it is made of; and rows of spots from the table of a cell.
+-- The law of PUSC uplink, and the facts that it is made of; and rows of carriers.
 pub mod Tables
 pub mod Place
 pub mod Law

@@ -1,4 +1,4 @@
--- The carriers of a subchannel from the table of the cell, eight for each tile.
+-- The carriers of a subchannel, eight for each tile.
 use mathlib.Core.Path.{_≡_, ap, _∙_}
 use mathlib.Core.Bool.{false}
 use mathlib.Core.List.{List}
@@ -18,7 +18,7 @@ use Rattle.carriers.specs.Model.{carrierNumber}
 use Rattle.pusc_ul.specs.Table.{tilePermutation}
 use Rattle.pusc_ul.specs.Tile.{tileOf, isTilePilot, placeTile, dataPlace}
 use Rattle.pusc_ul.specs.Map.{spotOf}
-use Rattle.pusc_ul.specs.Model.{tableEntry, placeNumber, tileStart, putTwo}
+use Rattle.pusc_ul.specs.Model.{tileOfSeventy, placeNumber, tileStart, putTwo}
 use Rattle.pusc_ul.proofs.Place.{on-carrier, on-place}
 
 -- index m is on data place (m+13s) mod 48
@@ -43,7 +43,7 @@ Two f j x = (x ≡ f (j * 2)) × (x + 1 ≡ f (j * 2 + 1))
 -- the numbers on data carriers of tile t in symbol o of the slot
 module _ (cell s t : ℕ) (ht : t < 6) where
   number-of : (q o c x : ℕ) → q ≡ dataPlace o t c → o < 3 → c < 4 → isTilePilot o c ≡ false → x ≡ tileStart cell s t + (o * 2048 + c) → x ≡ placeNumber cell s q
-  unfolding placeNumber tileOf tableEntry tileStart
+  unfolding placeNumber tileOf tileOfSeventy tileStart
   number-of q o c x e ho hc np v =
       let p = on-place o t c ho ht hc np in
       rw (e, p .symbol, p .tile, p .carrier)
@@ -120,7 +120,3 @@ tiles-all {f = f} {row = row} w h = tabulated 0 row 48 f (w .known .long) (λ k 
 pub start-lt : (t : ℕ) → t < 6 → carrierOf puscBand (t * 280) < 2048
 unfolding carrierOf
 start-lt t h = omega (arith, skip-le 840 (t * 280))
-
-pub table-entry-lt : (cell i : ℕ) → tableEntry cell i < 280
-unfolding tableEntry
-table-entry-lt cell i = omega arith

@@ -7,9 +7,9 @@ use Rattle.carriers.specs.Band.{puscBand, carrierOf}
 use Rattle.pusc_ul.specs.Table.{tilePermutation}
 use Rattle.pusc_ul.specs.Tile.{tileOf, placeSymbol, placeTile, placeCarrier}
 
--- Document 01, "Partial usage": (Q[i mod 70] + cell) mod 70, as the first used number of that tile of the first seventy.
-unfoldable pub tableEntry : (cell i : ℕ) → ℕ
-tableEntry cell i = (entry tilePermutation (i % 70) + cell) % 70 * 4
+-- tile t of a subchannel, counted from 70t
+unfoldable pub tileOfSeventy : (cell subchannel t : ℕ) → ℕ
+tileOfSeventy cell subchannel t = (entry tilePermutation ((subchannel + t) % 70) + cell) % 70
 
 -- the carrier of data place q of a subchannel, 2048 for each symbol of the slot
 unfoldable pub placeNumber : (cell subchannel q : ℕ) → ℕ
@@ -17,7 +17,7 @@ placeNumber cell subchannel q = placeSymbol q * 2048 + carrierOf puscBand (tileO
 
 -- the first carrier of tile t of a subchannel
 unfoldable pub tileStart : (cell subchannel t : ℕ) → ℕ
-tileStart cell subchannel t = tableEntry cell (subchannel + t) + carrierOf puscBand (t * 280)
+tileStart cell subchannel t = tileOfSeventy cell subchannel t * 4 + carrierOf puscBand (t * 280)
 
 -- a row with x and the next number as pair j
 unfoldable pub putTwo : (row : List ℕ) (j x : ℕ) → List ℕ

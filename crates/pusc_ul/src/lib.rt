@@ -1,4 +1,5 @@
 // PUSC uplink: tiles, their permutation, and the data places of a slot.
+use base::reduce;
 use base::wide;
 use carriers::Address;
 use carriers::Spot;
@@ -6,10 +7,10 @@ ghost use mathlib.Core.Path.{_≡_};
 ghost use mathlib.Core.Bool.{false};
 ghost use Prim.Native.Nat.{_<_};
 ghost use Rattle.base.specs.Tabulate.{tabulate};
-ghost use Rattle.base.specs.Model.{Starts};
+ghost use Rattle.pusc_ul.specs.Table.{tilePermutation};
 ghost use Rattle.pusc_ul.specs.Tile.{tileOf, tileSubchannel, isTilePilot, placeSymbol, placeTile, placeCarrier, dataPlace};
 ghost use Rattle.pusc_ul.specs.Map.{spotOf, addressOf};
-ghost use Rattle.pusc_ul.specs.Model.{tableEntry, placeNumber, tileStart, putTwo};
+ghost use Rattle.pusc_ul.specs.Model.{tileOfSeventy, placeNumber, tileStart, putTwo};
 
 // Q of document 01, as document 000 prints it, and its inverse.
 const TILE_PERMUTATION: [u8; 70] = [
@@ -158,13 +159,21 @@ const TILE_PERMUTATION_INVERSE: [u8; 70] = [
     34,
 ];
 
+// Tile t of a subchannel, counted from the first of its seventy tiles, by a copy of Q, which a loop takes once.
+fn tile_of_seventy(permutation: &[u8; 70], cell: usize, subchannel: usize, t: usize) -> usize
+    requires { ⌜ (now permutation ≡ tilePermutation) × (cell < 70) × (subchannel < 70) × (t < 6) ⌝ }
+    ensures { λ r. ⌜ (r ≡ tileOfSeventy cell subchannel t) × (r < 70) ⌝ }
+{
+    let i = reduce(70, subchannel + t);
+    reduce(70, wide(permutation[i]) + cell)
+}
+
 // Tile t of a subchannel.
 fn tile(cell: usize, subchannel: usize, t: usize) -> usize
     requires { ⌜ (cell < 70) × (subchannel < 70) × (t < 6) ⌝ }
     ensures { λ r. ⌜ (r ≡ tileOf cell subchannel t) × (r < 420) ⌝ }
 {
-    let i = (subchannel + t) % 70;
-    t * 70 + (wide(TILE_PERMUTATION[i]) + cell) % 70
+    t * 70 + tile_of_seventy(&TILE_PERMUTATION, cell, subchannel, t)
 }
 
 // The reverse: the subchannel that has a tile.
@@ -264,28 +273,13 @@ pub fn address(cell: usize, offset: usize, used: usize) -> Address
     }
 }
 
-// Entry s + t is the first used number of tile t of subchannel s, counted from the start of its seventy tiles; 76 entries,
-// so that s + t needs no reduction.
-pub fn table(cell: usize) -> [u16; 188]
-    requires { ⌜ cell < 70 ⌝ }
-    ensures { λ r. ⌜ Starts 76 (tableEntry cell) r ⌝ }
-{
-    let permutation = TILE_PERMUTATION;
-    let mut table = [0; 188];
-    let mut i = 0;
-    while i < 76 {
-        table[i] = ((wide(permutation[i % 70]) + cell) % 70 * 4) as u16;
-        i += 1;
-    }
-    table
-}
-
 // The first carrier of tile t of a subchannel. Seventy tiles lie on one side of DC.
-fn tile_start(cell: usize, subchannel: usize, t: usize, table: &[u16; 188]) -> u16
-    requires { ⌜ (cell < 70) × (subchannel < 70) × (t < 6) × Starts 76 (tableEntry cell) (now table) ⌝ }
+fn tile_start(permutation: &[u8; 70], cell: usize, subchannel: usize, t: usize) -> u16
+    requires { ⌜ (now permutation ≡ tilePermutation) × (cell < 70) × (subchannel < 70) × (t < 6) ⌝ }
     ensures { λ r. ⌜ (r ≡ tileStart cell subchannel t) × (r < 4096) ⌝ }
 {
-    table[subchannel + t] + carriers::carrier(carriers::pusc_band(), t * 280) as u16
+    let tile = tile_of_seventy(permutation, cell, subchannel, t);
+    (tile * 4 + carriers::carrier(carriers::pusc_band(), t * 280)) as u16
 }
 
 // Writes x and the next number as pair j of a row.
@@ -299,14 +293,15 @@ fn put_two(row: &mut [u16; 48], j: usize, x: u16)
 
 // The carriers of a subchannel as numbers, by data place: tile after tile, its inner carriers in the first and the last
 // symbol, all four in the middle one.
-pub fn carrier_row(cell: usize, subchannel: usize, table: &[u16; 188]) -> [u16; 48]
-    requires { ⌜ (cell < 70) × (subchannel < 70) × Starts 76 (tableEntry cell) (now table) ⌝ }
+pub fn carrier_row(cell: usize, subchannel: usize) -> [u16; 48]
+    requires { ⌜ (cell < 70) × (subchannel < 70) ⌝ }
     ensures { λ r. ⌜ r ≡ tabulate 48 (placeNumber cell subchannel) ⌝ }
 {
+    let permutation = TILE_PERMUTATION;
     let mut row = [0; 48];
     let mut t = 0;
     while t < 6 {
-        let first = tile_start(cell, subchannel, t, table);
+        let first = tile_start(&permutation, cell, subchannel, t);
         put_two(&mut row, t, first + 1);
         put_two(&mut row, t * 2 + 6, first + 2048);
         put_two(&mut row, t * 2 + 7, first + 2050);

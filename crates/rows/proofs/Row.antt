@@ -4,6 +4,7 @@ use mathlib.Core.List.{List}
 use Prim.Native.Nat.{ℕ, _+_, _*_, _%_, _<_, _≤_}
 use lib.Arith.{digits-lt}
 use lib.Dec.{lit<, eqb, ltb}
+use borrow.Author.Tests.{eqb-false}
 use Rattle.base.proofs.Test.{cases}
 use native.Mathlib.Omega.{arith}
 use Rattle.base.specs.Steps.{entry}
@@ -30,7 +31,6 @@ use Rattle.rows.specs.Model.{tableLength, tableEntry, TableOf, shiftOf}
 use Rattle.map.proofs.Choice.{amc-shape, mode-0, mode-1, mode-2, mode-amc, mode-other, last-mode}
 use Rattle.map.proofs.ByMode.{in-pusc-dl, in-pusc-ul, in-ofusc, in-amc, bin-width, amc-width, amc-spot, shape-symbols, few}
 use Rattle.map.proofs.Slot.{slot-law}
-use Rattle.pusc_dl.specs.Model as pusc-dl
 use Rattle.pusc_ul.specs.Model as pusc-ul
 use Rattle.ofusc.specs.Model as ofusc
 use Rattle.amc.specs.Model as amc
@@ -43,15 +43,18 @@ pub record TableAs (c : Setup) (slot n : ℕ) (f : ℕ → ℕ) : Type 0 where
   pub length-is : n ≡ tableLength c
   pub entry-is : (i : ℕ) → f i ≡ tableEntry c slot i
 
+-- PUSC has none
+pub no-table : (c : Setup) (slot : ℕ) → c .mode < 2 → (table : List ℕ) → TableOf c slot table
+unfolding tableLength
+no-table c slot h table k k-lt = absurd (omega (arith, none))
+  where
+    none : 0 ≡ tableLength c
+    none =
+        cases (eqb (c .mode) 0)
+        (λ e. rw e)
+        (λ e. let n = eqb-false (c .mode) 0 e in mode-1 (c .mode) 0 0 48 48 0 (omega arith))
+
 module _ {c : Setup} {slot : ℕ} where
-  pub as-0 : c .mode ≡ 0 → TableAs c slot 188 (pusc-dl.tableEntry (c .cell))
-  unfolding tableLength tableEntry
-  as-0 e = record { length-is = mode-0 _ _ _ _ _ _ e; entry-is = λ i. mode-0 _ _ _ _ _ _ e }
-
-  pub as-1 : c .mode ≡ 1 → TableAs c slot 76 (pusc-ul.tableEntry (c .cell))
-  unfolding tableLength tableEntry
-  as-1 e = record { length-is = mode-1 _ _ _ _ _ _ e; entry-is = λ i. mode-1 _ _ _ _ _ _ e }
-
   pub as-2 : c .mode ≡ 2 → TableAs c slot 48 (ofusc.cellNumber (width c) (c .cell))
   unfolding tableLength tableEntry
   as-2 e = record { length-is = mode-2 _ _ _ _ _ _ e; entry-is = λ i. mode-2 _ _ _ _ _ _ e }
@@ -88,14 +91,16 @@ pub table-asks : {c : Setup} → Valid c → IsAmc (c .mode) → (shape : Shape)
     → IsShape shape × EvenWidth n × (c .cell < 2352)
 table-asks {c} v q shape e n f = rw (e, f) (amc-shape (c .mode) q, even-width (amc-width v q), in-amc v q .cell-lt)
 
--- what each mode's row asks, and that it is the setup's
+-- what each mode's row asks
+module _ {c : Setup} (v : Valid c) (s : ℕ) (hs : s < subchannels c) where
+  pub asks-0 : c .mode ≡ 0 → (c .cell < 32) × (s < 60)
+  asks-0 e = let r = in-pusc-dl v e in (r .cell-lt, rw (r .subchannels-are) at hs)
+
+  pub asks-1 : c .mode ≡ 1 → (c .cell < 70) × (s < 70)
+  asks-1 e = let r = in-pusc-ul v e in (r .cell-lt, rw (r .subchannels-are) at hs)
+
+-- and of the table
 module _ {c : Setup} (v : Valid c) (s : ℕ) (hs : s < subchannels c) (slot : ℕ) (table : List ℕ) (t : TableOf c slot table) where
-  pub asks-0 : c .mode ≡ 0 → (c .cell < 32) × (s < 60) × Starts 188 (pusc-dl.tableEntry (c .cell)) table
-  asks-0 e = let r = in-pusc-dl v e in (r .cell-lt, rw (r .subchannels-are) at hs, from-table table (as-0 e) t)
-
-  pub asks-1 : c .mode ≡ 1 → (c .cell < 70) × (s < 70) × Starts 76 (pusc-ul.tableEntry (c .cell)) table
-  asks-1 e = let r = in-pusc-ul v e in (r .cell-lt, rw (r .subchannels-are) at hs, from-table table (as-1 e) t)
-
   pub asks-2 : (n : ℕ) → n ≡ width c → c .mode ≡ 2 → Width n × (s < n) × Starts 48 (ofusc.cellNumber n (c .cell)) table
   asks-2 n q e =
       let r = in-ofusc v e in

@@ -9,21 +9,19 @@ use Rattle.pusc_dl.specs.Cluster.{firstPilot, secondPilot}
 use Rattle.map.specs.declared.Setup.{Setup}
 use Rattle.map.specs.Mode.{shapeOf, byMode, width}
 use Rattle.rows.specs.declared.Comb.{Comb}
-use Rattle.pusc_dl.specs.Model as pusc-dl
-use Rattle.pusc_ul.specs.Model as pusc-ul
 use Rattle.ofusc.specs.Model as ofusc
 use Rattle.amc.specs.Model as amc
 
--- what setup and slot fix for all subchannels, in the table of the mode: how many entries, and entry i
+-- what setup and slot fix for all subchannels, in the table of the mode: how many entries, none in PUSC, and entry i
 unfoldable pub tableLength : (setup : Setup) → ℕ
-tableLength setup = byMode (setup .mode) 188 76 48 48 0
+tableLength setup = byMode (setup .mode) 0 0 48 48 0
 
 unfoldable pub tableEntry : (setup : Setup) (slot i : ℕ) → ℕ
 tableEntry setup slot i =
     let shape = shapeOf (setup .mode) in
     byMode (setup .mode)
-    (pusc-dl.tableEntry (setup .cell) i)
-    (pusc-ul.tableEntry (setup .cell) i)
+    0
+    0
     (ofusc.cellNumber (width setup) (setup .cell) i)
     (amc.sequenceCarrier shape (width setup) (slot * shape .symbols) (setup .cell) 0 i)
     0

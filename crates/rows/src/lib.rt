@@ -17,16 +17,13 @@ pub struct Comb {
     pub count: usize,
 }
 
-// What setup and slot fix of the places of a slot, for all its subchannels.
-pub fn table(setup: Setup, slot: usize) -> [u16; 188]
+// What setup and slot fix of the places of a slot, for all its subchannels; nothing in PUSC, where a row needs no more than the cell.
+pub fn table(setup: Setup, slot: usize) -> [u16; 48]
     requires { ⌜ Valid setup ⌝ }
     ensures { λ r. ⌜ TableOf setup slot r ⌝ }
 {
-    if setup.mode == 0 {
-        return pusc_dl::table(setup.cell);
-    }
-    if setup.mode == 1 {
-        return pusc_ul::table(setup.cell);
+    if setup.mode < 2 {
+        return [0; 48];
     }
     if setup.mode == 2 {
         return ofusc::table(map::width(setup), setup.cell);
@@ -55,13 +52,13 @@ pub fn shift(setup: Setup, subchannel: usize) -> usize
 }
 
 // Where the points of a subchannel of PUSC downlink or optional FUSC lie in its slot, as numbers, index 0 at place `shift`.
-fn spots(setup: Setup, slot: usize, subchannel: usize, table: &[u16; 188]) -> [u16; 48]
+fn spots(setup: Setup, slot: usize, subchannel: usize, table: &[u16; 48]) -> [u16; 48]
     requires { ⌜ Valid setup ⌝ }
     requires { ⌜ (setup .mode < 3) × (setup .mode ≡ 1 → ⊥) × (subchannel < subchannels setup) × TableOf setup slot (now table) ⌝ }
     ensures { λ r. ⌜ Turned (shiftOf setup subchannel) (λ m. spotNumber (spotOf setup slot subchannel m)) r ⌝ }
 {
     if setup.mode == 0 {
-        return pusc_dl::spots(setup.cell, subchannel, table);
+        return pusc_dl::spots(setup.cell, subchannel);
     }
     carriers::used_numbers(
         slot,
@@ -70,13 +67,13 @@ fn spots(setup: Setup, slot: usize, subchannel: usize, table: &[u16; 188]) -> [u
 }
 
 // The carriers of a subchannel's points as numbers, the size for each symbol of the slot, index 0 at place `shift`.
-pub fn carrier_row(setup: Setup, slot: usize, subchannel: usize, table: &[u16; 188]) -> [u16; 48]
+pub fn carrier_row(setup: Setup, slot: usize, subchannel: usize, table: &[u16; 48]) -> [u16; 48]
     requires { ⌜ Valid setup ⌝ }
     requires { ⌜ (subchannel < subchannels setup) × TableOf setup slot (now table) ⌝ }
     ensures { λ r. ⌜ Turned (shiftOf setup subchannel) (λ m. carrierNumber (setup .size) (band setup) (spotOf setup slot subchannel m)) r ⌝ }
 {
     if setup.mode == 1 {
-        return pusc_ul::carrier_row(setup.cell, subchannel, table);
+        return pusc_ul::carrier_row(setup.cell, subchannel);
     }
     if 3 <= setup.mode {
         return amc::carrier_row(

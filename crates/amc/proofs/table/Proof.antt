@@ -11,7 +11,7 @@ use Rattle.amc.proofs.table.Statement.{statement}
 use Rattle.amc.proofs.table.Tie as tie
 
 abbrev Inv-loop : tie.InvT-loop
-Inv-loop shape n slot cell p first table₀ i₀ table i = Written 188 (sequenceCarrier shape n (slot * shape .symbols) cell 0) table i
+Inv-loop shape n slot cell p first table₀ i₀ table i = Written 48 (sequenceCarrier shape n (slot * shape .symbols) cell 0) table i
 
 abbrev μ-loop : tie.MeasureT-loop
 μ-loop shape n slot cell p first table₀ i₀ table i = 48 - i
@@ -35,6 +35,6 @@ pub table-spec : {M : Type 1} → statement M
 table-spec =
     tie.close
     (tie.spec
-    Inv-loop μ-loop mul-first (λ c. search needs) (λ c. written-none 188 _) (λ c. search needs) (λ c κs. search needs)
+    Inv-loop μ-loop mul-first (λ c. search needs) (λ c. written-none 48 _) (λ c. search needs) (λ c κs. search needs)
     first-carrier-requires (λ c. search needs) (λ c. search needs) (λ c. search needs) (λ c. search needs) loop-again
     (λ c. written-starts (c .before .loop .inv) 48 (c .loop-test .left)))

@@ -1,18 +1,31 @@
 -- `ofusc::mask` meets its contract.
-use native.Mathlib.Nat.{mod-lt, div-lt-iff-lt-mul}
-use Rattle.ofusc.proofs.Sequence.{pos}
+use mathlib.Core.Path.{_∙_}
+use Prim.Native.Nat.{_-_, _<_}
+use native.Mathlib.Nat.{mod-lt, mod-mod, div-lt-iff-lt-mul}
+use borrow.Author.Needs.{needs}
+use Rattle.ofusc.proofs.Sequence.{pos, turn-pos, mask-as}
 use Rattle.ofusc.proofs.Tables.{mask-is}
 use Rattle.ofusc.proofs.mask.Statement.{statement}
 use Rattle.ofusc.proofs.mask.Tie as tie
 
+turned-lt : (c : tie.After-turn) → c .turn .result < c .before .before .args .n - 1
+turned-lt c = rw (c .turn .ensures) (mod-lt _ (turn-pos (c .before .before .pre .0)))
+
 term-requires : tie.Need-term-requires
-term-requires c κs = (c .before .before .pre .0, (rw (c .before .parts .ensures .1) (mod-lt _ (pos (c .before .before .pre .0))), c .before .before .pre .1 .1))
+term-requires c κs =
+    let p = c .before .before .before .pre in
+    (p .0, (rw (c .before .before .parts .ensures .1) (mod-lt _ (pos (p .0))), turned-lt (c .before)))
 
 term-requires-2 : tie.Need-term-requires-2
-term-requires-2 c κs = (c .before .before .before .before .pre .0, (rw (c .before .before .before .parts .ensures .0) (div-lt-iff-lt-mul (pos (c .before .before .before .before .pre .0)) .1 (c .before .before .before .before .pre .1 .0)), c .before .before .before .before .pre .1 .1))
+term-requires-2 c κs =
+    let p = c .before .before .before .before .before .pre in
+    (p .0, (rw (c .before .before .before .before .parts .ensures .0) (div-lt-iff-lt-mul (pos (p .0)) .1 (p .1 .0)), turned-lt (c .before .before .before)))
 
 returns : tie.Need-returns
-returns c = rw (c .before .before .term .ensures, c .term2 .ensures, c .before .before .before .before .parts .ensures .0, c .before .before .before .before .parts .ensures .1) (mask-is (c .before .before .before .before .before .pre .0) _ _)
+returns c =
+    let parts = c .before .before .before .before .before in
+    rw (c .before .before .term .ensures, c .term2 .ensures, parts .parts .ensures .0, parts .parts .ensures .1, c .before .before .before .before .turn .ensures)
+    (mask-is (parts .before .pre .0) _ _ ∙ mask-as _ _ _ _ (mod-mod _ _))
 
 pub mask-spec : {M : Type 1} → statement M
-mask-spec = tie.close (tie.spec (λ c κs. c .pre .0) term-requires term-requires-2 returns)
+mask-spec = tie.close (tie.spec (λ c κs. c .pre .0) (λ c κs. search needs) term-requires term-requires-2 returns)

@@ -4,31 +4,32 @@ use Prim.Native.Nat.{ℕ, _+_, _*_, _<_}
 use native.Mathlib.Omega.{arith}
 use lib.Arith.{digits-lt}
 use borrow.Author.Needs.{needs}
-use Rattle.pusc_dl.specs.Group.{groupSize, groupData, baseOf}
+use Rattle.pusc_dl.specs.Group.{groupSize, groupData}
+use Rattle.pusc_dl.specs.Model.{turnedBase}
 use Rattle.pusc_dl.proofs.group_data.Statement.{statement}
 use Rattle.pusc_dl.proofs.group_data.Tie as tie
 
-data-small : (g size n r : ℕ) → size ≡ groupSize g → n < 24 → r < groupSize g → n * size + r < 24 * groupSize g
-data-small g size n r e hn hr = rw e (digits-lt hn hr)
+data-small : (g size n r x : ℕ) → size ≡ groupSize g → n < 24 → r < groupSize g → x ≡ r → n * size + x < 24 * groupSize g
+data-small g size n r x es hn hr ex = rw (es, ex) (digits-lt hn hr)
 
 add-result : tie.Need-add-result
 add-result c =
-    let size = c .before .before .before .before .group-size .ensures in
-    omega (arith, size, data-small _ _ _ _ (size .0) (c .before .before .before .rotate .ensures .1) (c .size-remainder2 .ensures .1))
+    let size = c .before .before .before .before .before .group-size .ensures in
+    omega (arith, size, data-small _ _ _ _ _ (size .0) (c .before .before .before .before .rotate .ensures .1) (c .before .turned-base .ensures .1) (c .wide16 .ensures .0))
 
 returns : tie.Need-returns
-unfolding groupData baseOf
+unfolding groupData turnedBase
 returns c =
-    let size = c .before .before .before .before .group-size .ensures .0 in
-    let n = c .before .before .before .rotate .ensures in
-    let r = c .size-remainder2 .ensures in
-    (rw (r .0, c .before .of-size .ensures .0, c .before .before .size-remainder .ensures .0, n .0, size), data-small _ _ _ _ size (n .1) (r .1))
+    let size = c .before .before .before .before .before .group-size .ensures .0 in
+    let n = c .before .before .before .before .rotate .ensures in
+    let r = c .before .turned-base .ensures in
+    let x = c .wide16 .ensures .0 in
+    (rw (x, r .0, n .0, size), data-small _ _ _ _ _ size (n .1) (r .1) x)
 
 pub group-data-spec : {M : Type 1} → statement M
 group-data-spec =
     tie.close
     (tie.spec
-    (λ c κs. search needs) (λ c. search needs) (λ c κs. search needs) (λ c. search needs) (λ c κs. search needs)
-    (λ c κs. search needs)
-    (λ c. omega (arith, digits-lt (c .before .before .rotate .ensures .1) (c .before .before .before .group-size .ensures .1)))
-    (λ c. search needs) (λ c κs. search needs) add-result returns)
+    (λ c κs. search needs) (λ c. search needs) (λ c κs. search needs)
+    (λ c. omega (arith, digits-lt (c .rotate .ensures .1) (c .before .group-size .ensures .1)))
+    (λ c. search needs) (λ c κs. search needs) (λ c κs. search needs) add-result returns)

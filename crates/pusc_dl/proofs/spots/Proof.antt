@@ -8,14 +8,14 @@ use Rattle.pusc_dl.proofs.spots.Statement.{statement}
 use Rattle.pusc_dl.proofs.spots.Tie as tie
 
 group-spots-requires : tie.Need-group-spots-requires
-group-spots-requires c κs = (search needs, search needs, rw (c .group-in .ensures .0) (omega (arith, subchannel-runs .run-lt (c .before .args .subchannel) (c .before .pre .1))), c .before .pre .2)
+group-spots-requires c κs = (search needs, search needs, rw (c .subchannel-start .ensures, c .before .group-in .ensures .0) (omega (arith, subchannel-runs .run-lt (c .before .before .args .subchannel) (c .before .before .pre .1))))
 
 pub spots-spec : {M : Type 1} → statement M
 unfolding spotOf groupSpot
 spots-spec =
     tie.close
     (tie.spec
-    (λ c κs. search needs) (λ c. search needs) (λ c. search needs)
-    (λ c. rw (c .group-in .ensures .0) (subchannel-runs .start-le _ (c .before .pre .1)))
+    (λ c κs. search needs) (λ c κs. search needs)
+    (λ c. rw (c .subchannel-start .ensures, c .before .group-in .ensures .0) (subchannel-runs .start-le _ (c .before .before .pre .1)))
     group-spots-requires
-    (λ c. rw (c .group-spots .ensures, c .before .group-in .ensures .0)))
+    (λ c. rw (c .group-spots .ensures, c .before .subchannel-start .ensures, c .before .before .group-in .ensures .0)))

@@ -10,4 +10,4 @@ unrenumber-spec =
     tie.close
     (tie.spec
     (λ c. search needs) (λ c. search needs) (λ c κs. search needs) (λ c κs. search needs)
-    (λ c. (rw (c .unrotate .ensures .0, c .before .wide .ensures .0, c .before .before .before .pre .0), search needs)))
+    (λ c. (rw (c .unrotate .ensures .0, c .before .wide .ensures .0), search needs)))

@@ -19,16 +19,16 @@ bounded cell y u g d hy hu n e f = ((e, f), (rw e (group-lt cell y u hy hu n), r
 returns : tie.Need-returns
 unfolding usedGroup usedData logicalOf
 returns c =
-    let l = c .before .before .renumber .ensures .0 in
-    let g = c .before .group-in .ensures .0 in
-    bounded _ _ _ _ _ (search needs) (search needs) (search needs) (rw (g, l)) (rw (c .cluster-data .ensures .0, g, l))
+    let l = c .before .before .before .renumber .ensures .0 in
+    let g = c .before .before .group-in .ensures .0 in
+    bounded _ _ _ _ _ (search needs) (search needs) (search needs) (rw (g, l)) (rw (c .cluster-data .ensures .0, c .before .cluster-start .ensures, g, l))
 
 pub used-data-spec : {M : Type 1} → statement M
 used-data-spec =
     tie.close
     (tie.spec
-    (λ c κs. search needs) (λ c κs. search needs) (λ c. search needs) (λ c. search needs)
-    (λ c. rw (c .group-in .ensures .0) (cluster-runs .start-le _ (c .before .renumber .ensures .1)))
+    (λ c κs. search needs) (λ c κs. search needs) (λ c κs. search needs)
+    (λ c. rw (c .cluster-start .ensures, c .before .group-in .ensures .0) (cluster-runs .start-le _ (c .before .before .renumber .ensures .1)))
     (λ c. search needs)
-    (λ c κs. (search needs, search needs, rw pilot-place at (c .before .before .pre .3)))
+    (λ c κs. (search needs, search needs, rw pilot-place at (c .before .before .before .pre .3)))
     (λ c. search needs) returns)

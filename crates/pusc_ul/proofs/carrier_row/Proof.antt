@@ -11,15 +11,15 @@ use Rattle.pusc_ul.proofs.carrier_row.Statement.{statement}
 use Rattle.pusc_ul.proofs.carrier_row.Tie as tie
 
 abbrev Inv-loop : tie.InvT-loop
-Inv-loop cell subchannel table row₀ t₀ row t = TileTurn (placeNumber cell subchannel) row t
+Inv-loop cell subchannel permutation row₀ t₀ row t = TileTurn (placeNumber cell subchannel) row t
 
 abbrev μ-loop : tie.MeasureT-loop
-μ-loop cell subchannel table row₀ t₀ row t = 6 - t
+μ-loop cell subchannel permutation row₀ t₀ row t = 6 - t
 
 loop-again : tie.Need-loop-again Inv-loop μ-loop
 unfolding dataPlace isTilePilot
 loop-again c =
-    let turn = c .before .before .before .before .before .before .before .before .before .before in
+    let turn = c .before .before .before .before .before .before .before .before .before .before .before in
     let h : turn .loop .t < 6 = search needs in
     let first = c .before .before .before .before .before .before .before .before .tile-start .ensures .0 in
     rw (c .put-two4 .ensures, c .before .before .put-two3 .ensures, c .before .before .before .before .put-two2 .ensures, c .before .before .before .before .before .before .put-two .ensures)
@@ -34,7 +34,7 @@ carrier-row-spec =
     tie.close
     (tie.spec
     Inv-loop μ-loop (λ c. tiles-none _)
-    (λ c κs. (search needs, search needs, c .loop-test .taken, c .before .before .pre .2))
+    (λ c κs. search needs)
     (λ c. search needs) (λ c κs. search needs) (λ c. search needs) (λ c. search needs) (λ c. search needs)
     (λ c κs. search needs) (λ c. search needs) (λ c. search needs) (λ c. search needs) (λ c κs. search needs)
     (λ c. search needs) (λ c. search needs) (λ c κs. search needs) (λ c. search needs) (λ c. search needs) loop-again

@@ -9,7 +9,7 @@ use Rattle.rows.proofs.carrier_row.Tie as tie
 carrier-row-requires : tie.Need-carrier-row-requires
 carrier-row-requires c κs =
     let p = c .before .before .pre in
-    asks-1 (p .0) _ (p .1 .0) _ (c .before .before .args .table .now) (p .1 .1) (c .if1 .taken)
+    asks-1 (p .0) _ (p .1 .0) (c .if1 .taken)
 
 returns : tie.Need-returns
 returns c =

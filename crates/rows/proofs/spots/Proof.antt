@@ -7,7 +7,7 @@ use Rattle.rows.proofs.spots.Tie as tie
 spots-requires : tie.Need-spots-requires
 spots-requires c κs =
     let p = c .before .before .pre in
-    asks-0 (p .0) _ (p .1 .2) _ (c .before .before .args .table .now) (p .1 .3) (c .if1 .taken)
+    asks-0 (p .0) _ (p .1 .2) (c .if1 .taken)
 
 returns : tie.Need-returns
 returns c = row-0 _ _ _ (c .before .if1 .taken) (c .spots .result) (c .spots .ensures)
