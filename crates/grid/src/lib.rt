@@ -101,7 +101,7 @@ fn take(
     setup: Setup,
     slot: usize,
     subchannel: usize,
-    table: &[u16; 188],
+    table: &[u16; 48],
     grid: &[f32],
     points: &mut [f32],
 )
