@@ -2,7 +2,7 @@
 use mathlib.Core.Path.{_≡_, refl, sym, ap, _∙_}
 use mathlib.Core.Bool.{Bool}
 use mathlib.Core.List.{List}
-use Prim.Native.Nat.{ℕ, _+_, _*_, _/_, _%_, _<_, _≤_}
+use Prim.Native.Nat.{ℕ, _*_, _<_}
 use native.Mathlib.Omega.{arith}
 use lib.Dec.{eqb}
 use lib.ListN.{length}
@@ -20,7 +20,7 @@ use Rattle.points.specs.Model.{puts}
 use Rattle.points.proofs.Points.{by-points, length-puts, puts-miss, puts-hit}
 use Rattle.lengths.specs.Length.{gridPoints}
 use Rattle.grid.specs.Grid.{contentAt, relaid, laid, standsAt, pointNumber}
-use Rattle.grid.proofs.Slot.{stands-holds, stands-alone, point-stands}
+use Rattle.grid.proofs.Slot.{number-subchannel, number-index, stands-holds, stands-alone, point-stands}
 
 module _ (setup : Setup) (v : Valid setup) (slot : ℕ) (hs : slot < 512) (s : ℕ) (h : s < subchannels setup) (points grid : List Float) (long : length grid ≡ 2 * gridPoints setup) where
   abbrev place : ℕ → ℕ
@@ -30,10 +30,7 @@ module _ (setup : Setup) (v : Valid setup) (slot : ℕ) (hs : slot < 512) (s : �
   all = puts place (pointAt points) 48 grid
 
   place-holds : (m : ℕ) → m < 48 → contentAt setup slot (place m) ≡ point slot s m
-  place-holds m l =
-      let s-is : pointNumber s m / 48 ≡ s = omega arith in
-      let m-is : pointNumber s m % 48 ≡ m = omega arith in
-      stands-holds setup v slot (pointNumber s m) (omega arith) ∙ rw (s-is, m-is)
+  place-holds m l = stands-holds setup v slot (pointNumber s m) (omega arith) ∙ rw (number-subchannel s m l, number-index s m l)
 
   module _ (n : ℕ) (hn : n < gridPoints setup) where
     -- a place that holds no point of the subchannel is as it was

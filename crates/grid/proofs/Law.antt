@@ -12,25 +12,23 @@ use Rattle.base.specs.Answer.{accepted}
 use Rattle.centre.specs.Centre.{onRow}
 use Rattle.map.specs.declared.Setup.{Setup}
 use Rattle.map.specs.Mode.{subchannels, symbols}
-use Rattle.map.specs.Law.{Passes}
 use Rattle.map.specs.Model.{Valid}
 use Rattle.map.specs.Place.{Place, Content, guard, dc, pilot, point, placeOf, locateOf}
 use Rattle.map.proofs.ByMode.{few}
-use Rattle.map.proofs.Law.{setup-asked, placing, locating, located-where-placed, in-own-slot}
+use Rattle.map.proofs.Law.{setup-asked, locating, located-where-placed, in-own-slot}
 use Rattle.points.specs.declared.Point.{Point}
 use Rattle.points.specs.Points.{pointAt}
-use Rattle.points.proofs.Points.{length-floats, point-floats, by-points}
-use Rattle.lengths.specs.Length.{gridPoints, pointsLength, gridLength}
+use Rattle.points.proofs.Points.{point-floats, by-points}
+use Rattle.lengths.specs.Length.{gridPoints, pointsLength}
 use Rattle.lengths.specs.Model.{groundRefusal, layRefusal}
 use Rattle.lengths.proofs.Length.{lengths-listed}
 use Rattle.lengths.proofs.Refusal.{GroundAccepted, LayAccepted, ground-numbered, ground-accepted, ground-0, lay-numbered, lay-accepted, lay-0, empty-numbered, empty-0}
 use Rattle.grid.specs.Row.{carrierPosition}
-use Rattle.grid.specs.Grid.{Outcome, contentAt, pointNumber, bare, grounded, groundOf, relaid, laid, layOf, held, filled, standsAt, emptied, emptyOf, data-with, sight, lookOf}
+use Rattle.grid.specs.Grid.{contentAt, pointNumber, bare, grounded, groundOf, relaid, laid, layOf, held, filled, standsAt, emptied, emptyOf, data-with, sight, lookOf}
 use Rattle.grid.specs.Model.{sightOf}
 use Rattle.grid.specs.Law.{Leaves, Lay, Lays, no-lay, lay-then, Never, none, another, LastLay, here, later, ownPoints, FilledGrid, GridLaw}
 use Rattle.grid.proofs.Outcome.{left, accepted-anew, accepted-number}
-use Rattle.grid.proofs.Slot.{row-position, column-position, position-lt, row-lt, stands-lt, stands-holds, point-stands}
-use Rattle.grid.proofs.Pilots.{length-ground}
+use Rattle.grid.proofs.Slot.{floats-long, row-position, column-position, position-lt, stands-lt, stands-holds, point-stands}
 use Rattle.grid.proofs.Looked.{look-done}
 
 -- where a carrier of a zone's symbol stands in its slot's grid
@@ -76,7 +74,7 @@ module _ (setup : Setup) (slot s : ℕ) (points grid next : List Float) (e : Lea
 
   lay-long : length next ≡ 2 * gridPoints setup
   unfolding laid
-  lay-long = ap length (left-lay .1) ∙ length-floats (gridPoints setup) _ ∙ omega arith
+  lay-long = ap length (left-lay .1) ∙ floats-long setup _
 
   lay-at : (n : ℕ) → n < gridPoints setup → pointAt next n ≡ relaid s points (pointAt grid n) (contentAt setup slot n)
   unfolding laid
@@ -144,7 +142,7 @@ module _ (setup : Setup) (v : Valid setup) (slot : ℕ) (hs : slot < 512) (p : P
     (is : grid ≡ filled setup slot p points) where
   long : length grid ≡ 2 * gridPoints setup
   unfolding filled
-  long = ap length is ∙ length-floats (gridPoints setup) _ ∙ omega arith
+  long = ap length is ∙ floats-long setup _
 
   -- what stands at a place of it
   holds : (n : ℕ) → n < gridPoints setup → pointAt grid n ≡ held p points (contentAt setup slot n)
@@ -185,9 +183,8 @@ module _ (setup : Setup) (v : Valid setup) (slot : ℕ) (hs : slot < 512) (p : P
         zero-on-dc = point-there dc;
       }
 
--- the ground, and then lays in which every subchannel occurs
-module _ (setup : Setup) (slot : ℕ) (p : Point) (points old ground grid : List Float) (lays : List Lay) (e : Leaves (groundOf setup slot p old) ground)
-    (l : Lays setup slot ground lays grid) (every : (s : ℕ) → s < subchannels setup → LastLay s (ownPoints points s) lays) where
+-- the ground
+module _ (setup : Setup) (slot : ℕ) (p : Point) (old ground : List Float) (e : Leaves (groundOf setup slot p old) ground) where
   left-ground : (groundRefusal setup slot (length old) ≡ 0) × (ground ≡ grounded setup slot p)
   unfolding groundOf
   left-ground = left _ _ _ (ground-numbered setup slot (length old) (accepted (grounded setup slot p))) _ ground e
@@ -195,33 +192,43 @@ module _ (setup : Setup) (slot : ℕ) (p : Point) (points old ground grid : List
   ground-fits : GroundAccepted setup slot (length old)
   ground-fits = ground-accepted setup slot (length old) _ refl (left-ground .0)
 
-  module _ (n : ℕ) (hn : n < gridPoints setup) where
-    ground-at : pointAt ground n ≡ bare p (contentAt setup slot n)
-    unfolding grounded
-    ground-at = ap (λ (g : List Float). pointAt g n) (left-ground .1) ∙ point-floats (gridPoints setup) _ n hn
+  ground-long : length ground ≡ 2 * gridPoints setup
+  unfolding grounded
+  ground-long = ap length (left-ground .1) ∙ floats-long setup _
 
-    untouched : (w : Content) → contentAt setup slot n ≡ w → ((s : ℕ) (points : List Float) (old : Point) → relaid s points old w ≡ old) → pointAt grid n ≡ bare p w
-    untouched w c h = stays n hn w c l (no-point w h lays) ∙ ground-at ∙ ap (bare p) c
+  ground-at : (n : ℕ) → n < gridPoints setup → pointAt ground n ≡ bare p (contentAt setup slot n)
+  unfolding grounded
+  ground-at n hn = ap (λ (g : List Float). pointAt g n) (left-ground .1) ∙ point-floats (gridPoints setup) _ n hn
+
+-- and then lays in which every subchannel occurs
+module _ (setup : Setup) (slot : ℕ) (p : Point) (points old ground grid : List Float) (lays : List Lay) (e : Leaves (groundOf setup slot p old) ground)
+    (l : Lays setup slot ground lays grid) (every : (s : ℕ) → s < subchannels setup → LastLay s (ownPoints points s) lays) where
+  abbrev fits : GroundAccepted setup slot (length old)
+  fits = ground-fits setup slot p old ground e
+
+  module _ (n : ℕ) (hn : n < gridPoints setup) where
+    as-the-ground : (w : Content) → contentAt setup slot n ≡ w → ((s : ℕ) (points : List Float) (old : Point) → relaid s points old w ≡ old) → pointAt grid n ≡ bare p w
+    as-the-ground w c h = stays n hn w c l (no-point w h lays) ∙ ground-at setup slot p old ground e n hn ∙ ap (bare p) c
 
     in-the-end : (w : Content) → contentAt setup slot n ≡ w → pointAt grid n ≡ held p points w
     unfolding held bare relaid ownPoints
-    in-the-end guard c = untouched guard c (λ s x o. refl)
-    in-the-end dc c = untouched dc c (λ s x o. refl)
-    in-the-end pilot c = untouched pilot c (λ s x o. refl)
+    in-the-end guard c = as-the-ground guard c (λ s x o. refl)
+    in-the-end dc c = as-the-ground dc c (λ s x o. refl)
+    in-the-end pilot c = as-the-ground pilot c (λ s x o. refl)
     in-the-end (point a s m) c =
-        let q = point-stands setup (ground-fits .valid) slot (ground-fits .slot-lt) n hn a s m c in
+        let q = point-stands setup (fits .valid) slot (fits .slot-lt) n hn a s m c in
         last-counts n hn a s m c (every s (q .subchannel-lt)) l ∙ point-floats 48 _ m (q .index-lt)
 
   is-filled : grid ≡ filled setup slot p points
   unfolding filled
   is-filled =
-      by-points grid (gridPoints setup) _ (lays-long (ap length (left-ground .1) ∙ length-ground setup slot p) l ∙ omega arith)
+      by-points grid (gridPoints setup) _ (lays-long (ground-long setup slot p old ground e) l ∙ omega arith)
       (λ n hn. in-the-end n hn (contentAt setup slot n) refl)
 
   both-moves : length points ≡ pointsLength (setup .mode) (setup .size) → FilledGrid setup slot p points grid
   both-moves long =
-      let v = ground-fits .valid in
-      filled-grid setup v slot (ground-fits .slot-lt) p points grid (long ∙ sym (lengths-listed v .0)) is-filled
+      let v = fits .valid in
+      filled-grid setup v slot (fits .slot-lt) p points grid (long ∙ sym (lengths-listed v .0)) is-filled
 
 pub grid-law : GridLaw
 unfolding groundOf layOf emptyOf
@@ -230,6 +237,8 @@ grid-law =
       two-moves = λ setup slot p points old ground grid lays e l long every. both-moves setup slot p points old ground grid lays e l every long;
       laid-is-seen = own-seen;
       others-stay = λ setup slot s points grid next e other index place ne q. other-seen setup slot s points grid next e other index place q ne;
+      ground-keeps-length = λ setup slot p old ground e. ground-long setup slot p old ground e ∙ sym (ground-fits setup slot p old ground e .grid-long);
+      lay-keeps-length = λ setup slot s points grid next e. lay-long setup slot s points grid next e ∙ sym (lay-fits setup slot s points grid next e .grid-long);
       ground-accepts = λ setup slot p old e h g.
           let v = setup-asked setup _ e .0 in
           accepted-number _ _ _ (ground-numbered setup slot (length old) _) _

@@ -3,6 +3,6 @@ pub mod Slot
 pub mod Outcome
 pub mod Pilots
 pub mod Laid
-pub mod Passes
+pub mod Emptied
 pub mod Looked
 pub mod Law

@@ -29,7 +29,7 @@ module _ (number : ℕ) (chain : Answer (List Float)) (defined : List Float) (la
   pub accepted-number : number ≡ 0 → outcome chain old .refusal ≡ 0
   accepted-number z = ap (λ (o : Outcome). o .refusal) (anew z)
 
-  -- where the number is 0, the request was accepted
+  -- a call that answers 0 was accepted, and left what is defined
   pub left : (new : List Float) → outcome chain old ≡ record { refusal = 0; buffer = new } → (number ≡ 0) × (new ≡ defined)
   left new e =
       let z : number ≡ 0 =

@@ -23,7 +23,7 @@ use Rattle.grid.specs.Grid.{contentAt, bare, grounded}
 use Rattle.points.specs.Model.{putPoint, puts}
 use Rattle.grid.specs.Model.{pilotPlace, pilotRow}
 use Rattle.rows.specs.Model.{combOf, pilotNumber}
-use Rattle.points.proofs.Points.{length-floats, length-puts, by-points, point-cleared, puts-miss, puts-hit}
+use Rattle.points.proofs.Points.{length-puts, by-points, point-cleared, puts-miss, puts-hit}
 use Rattle.points.proofs.Copy.{Putting, putting-none, putting-long, putting-next, putting-done}
 use Rattle.rows.proofs.Pilots.{CombLaw, pilots-law, Small, comb-small}
 use Rattle.grid.proofs.Slot.{used-row, used-column, row-lt, at-place}
@@ -196,7 +196,3 @@ module _ {setup : Setup} {slot : ℕ} {p : Point} {rows : ℕ} {grid : List Floa
   ground-done h =
       by-points grid (gridPoints setup) _ (t .long ∙ omega arith)
       (λ n hn. t .done n hn (let l = row-lt setup (t .valid) slot (t .slot-lt) n hn in let e = t .rows-are in omega arith))
-
-pub length-ground : (setup : Setup) (slot : ℕ) (p : Point) → length (grounded setup slot p) ≡ 2 * gridPoints setup
-unfolding grounded
-length-ground setup slot p = length-floats (gridPoints setup) _ ∙ omega arith

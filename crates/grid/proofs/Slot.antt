@@ -4,6 +4,7 @@ use mathlib.Core.List.{List}
 use Prim.Native.Nat.{ℕ, _+_, _*_, _/_, _%_, _<_, _≤_}
 use native.Mathlib.Nat.{mod-lt, div-add-mod', div-lt-iff-lt-mul}
 use native.Mathlib.Omega.{arith}
+use lib.ListN.{length}
 use lib.Ieee.{Float}
 use lib.Arith.{digits-lt, digits-div, digits-mod}
 use Rattle.base.specs.Answer.{accepted}
@@ -27,11 +28,16 @@ use Rattle.lengths.specs.Length.{gridPoints}
 use Rattle.grid.specs.Row.{position, usedPosition, rowOf, columnOf}
 use Rattle.grid.specs.Grid.{contentAt, standsAt, pointNumber}
 use Rattle.grid.specs.Model.{taken}
-use Rattle.points.specs.Points.{pointAt}
+use Rattle.points.specs.declared.Point.{Point}
+use Rattle.points.specs.Points.{pointAt, floatsOf}
 use Rattle.points.specs.Model.{puts, turned, Within}
-use Rattle.points.proofs.Points.{puts-as}
+use Rattle.points.proofs.Points.{length-floats, puts-as}
 use Rattle.rows.specs.Model.{shiftOf}
 use Rattle.rows.proofs.Row.{shift-lt}
+
+-- a grid by its points has the length that is asked for
+pub floats-long : (setup : Setup) (f : ℕ → Point) → length (floatsOf (gridPoints setup) f) ≡ 2 * gridPoints setup
+floats-long setup f = length-floats (gridPoints setup) f ∙ omega arith
 
 -- the row and the column of a position
 module _ (setup : Setup) (row k : ℕ) (h : k < setup .size) where
@@ -107,6 +113,13 @@ stands-alone setup v slot i j hi hj e =
     let b : i % 48 ≡ j % 48 = cc in
     omega arith
 
+-- subchannel and index of a point's number
+pub number-subchannel : (s m : ℕ) → m < 48 → pointNumber s m / 48 ≡ s
+number-subchannel s m h = omega arith
+
+pub number-index : (s m : ℕ) → m < 48 → pointNumber s m % 48 ≡ m
+number-index s m h = omega arith
+
 -- and a place that holds a point is where that point stands
 pub record Stands (setup : Setup) (slot n s m : ℕ) : Type 0 where
   pub subchannel-lt : s < subchannels setup
@@ -139,21 +152,16 @@ module _ (setup : Setup) (v : Valid setup) (slot : ℕ) (hs : slot < 512) (n : �
       let k : carrierOf (band setup) (spotOf setup a s m .used) ≡ columnOf setup n = one-column (centred v .0) _ _ (ap (λ (p : Place). p .carrier) (q .place-is)) in
       let same-slot : a ≡ slot = sym (digits-div a o) ∙ ap (λ (t : ℕ). t / symbols setup) y ∙ digits-div slot row-lt in
       let same-row : spotOf setup a s m .offset ≡ rowOf setup n = sym (digits-mod a o) ∙ ap (λ (t : ℕ). t % symbols setup) y ∙ digits-mod slot row-lt in
-      let s-is : pointNumber s m / 48 ≡ s = let h = q .index-lt in omega arith in
-      let m-is : pointNumber s m % 48 ≡ m = let h = q .index-lt in omega arith in
       record {
         subchannel-lt = q .subchannel-lt;
         index-lt = q .index-lt;
-        stands = rw (s-is, m-is, ← same-slot, same-row, k) at-place;
+        stands = rw (number-subchannel s m (q .index-lt), number-index s m (q .index-lt), ← same-slot, same-row, k) at-place;
       }
 
 -- the carrier of a point, as a number, is where the point stands
 carrier-stands : (setup : Setup) (slot s m : ℕ) → m < 48 → carrierNumber (setup .size) (band setup) (spotOf setup slot s m) ≡ standsAt setup slot (pointNumber s m)
 unfolding standsAt usedPosition position
-carrier-stands setup slot s m h =
-    let s-is : pointNumber s m / 48 ≡ s = omega arith in
-    let m-is : pointNumber s m % 48 ≡ m = omega arith in
-    rw (s-is, m-is)
+carrier-stands setup slot s m h = rw (number-subchannel s m h, number-index s m h)
 
 -- a subchannel's row, started at the place of its first point: what the copies ask of it, and what they come to
 module _ {setup : Setup} (v : Valid setup) (slot s : ℕ) (hs : s < subchannels setup) (row : List ℕ)

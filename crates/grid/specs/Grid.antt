@@ -87,7 +87,7 @@ standsAt setup slot n =
 unfoldable pub emptied : (setup : Setup) (slot : ℕ) (grid : List Float) → List Float
 emptied setup slot grid = floatsOf (48 * subchannels setup) (λ n. pointAt grid (standsAt setup slot n))
 
--- Empty does the reverse and writes the points only. Questions 1, 2, 3, 4, 8, 9. (It is to be believed: of a grid that both moves did not leave, no law speaks.)
+-- Empty does the reverse and writes the points only. Questions 1, 2, 3, 4, 8, 9. (It is to be believed: what emptying gives of a grid that both moves did not leave, no law says.)
 unfoldable pub emptyOf : (setup : Setup) (slot : ℕ) (grid points : List Float) → Outcome
 emptyOf setup slot grid points =
     outcome

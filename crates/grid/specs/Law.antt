@@ -79,6 +79,9 @@ pub record GridLaw : Type 0 where
   pub others-stay : (setup : Setup) (slot s : ℕ) (points grid next : List Float) → Leaves (layOf setup slot s points grid) next
       → (other index : ℕ) (place : Place) → (other ≡ s → ⊥) → placeOf setup slot other index ≡ accepted place
       → lookOf setup (place .symbol) next (place .carrier) ≡ lookOf setup (place .symbol) grid (place .carrier)
+  -- An accepted move leaves the grid as long as it was.
+  pub ground-keeps-length : (setup : Setup) (slot : ℕ) (p : Point) (old ground : List Float) → Leaves (groundOf setup slot p old) ground → length ground ≡ length old
+  pub lay-keeps-length : (setup : Setup) (slot s : ℕ) (points grid next : List Float) → Leaves (layOf setup slot s points grid) next → length next ≡ length grid
   -- Buffers of the lengths that are told are accepted, so that none of this is empty.
   pub ground-accepts : (setup : Setup) (slot : ℕ) (p : Point) (old : List Float) → Passes setup → slot < 512
       → length old ≡ gridLength (setup .mode) (setup .size) → groundOf setup slot p old .refusal ≡ 0

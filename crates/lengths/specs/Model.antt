@@ -1,6 +1,6 @@
 -- The questions of ground, lay and empty as a number. No reader needs this to know what the calls do.
 use Prim.Native.Nat.{ℕ}
-use Rattle.base.specs.Answer.{Answer, accepted, refusalOf}
+use Rattle.base.specs.Answer.{accepted, refusalOf}
 use Rattle.map.specs.declared.Setup.{Setup}
 use Rattle.lengths.specs.Question.{askSlot, askGround, askLay, askEmpty}
 

@@ -1,4 +1,4 @@
--- Document 01, "The questions put to a request, in order": 8 and 9.
+-- Document 01, "The questions put to a request, in order": 8 and 9; and the questions of ground, lay, empty and look.
 use mathlib.Core.Bool.{Bool}
 use Prim.Native.Nat.{ℕ, _*_}
 use lib.Dec.{eqb}
@@ -21,7 +21,7 @@ areOnesPoints floats = eqb floats 96
 unfoldable pub isGrid : (setup : Setup) (floats : ℕ) → Bool
 isGrid setup floats = eqb floats (2 * gridPoints setup)
 
--- the questions that every call with a slot puts first: 1, 2, 3, 4
+-- the questions that ground, lay and empty put first: 1, 2, 3, 4
 abbrev pub askSlot : {A : Type 0} → (setup : Setup) (slot : ℕ) (rest : Answer A) → Answer A
 askSlot setup slot rest = askSetup setup (ask (isSlot slot) 4 rest)
 

@@ -6,7 +6,7 @@ use native.Mathlib.Omega.{arith}
 use Rattle.lengths.proofs.Refusal.{empty-numbered, empty-accepted}
 use Rattle.grid.specs.Grid.{emptyOf}
 use Rattle.grid.proofs.Outcome.{refused-leaves, accepted-anew}
-use Rattle.grid.proofs.Passes.{EmptyTurn, empty-start, empty-long, empty-next, empty-done}
+use Rattle.grid.proofs.Emptied.{EmptyTurn, empty-start, empty-long, empty-next, empty-done}
 use Rattle.grid.proofs.empty.Statement.{statement}
 use Rattle.grid.proofs.empty.Tie as tie
 

@@ -3,9 +3,9 @@ use mathlib.Core.Path.{sym, ap, _∙_}
 use lib.ListN.{length}
 use borrow.Author.Needs.{needs}
 use Rattle.lengths.proofs.Refusal.{ground-numbered, ground-accepted}
-use Rattle.grid.specs.Grid.{groundOf}
+use Rattle.grid.specs.Grid.{grounded, groundOf}
 use Rattle.grid.proofs.Outcome.{refused-leaves, accepted-anew}
-use Rattle.grid.proofs.Pilots.{length-ground}
+use Rattle.grid.proofs.Slot.{floats-long}
 use Rattle.grid.proofs.ground.Statement.{statement}
 use Rattle.grid.proofs.ground.Tie as tie
 
@@ -19,10 +19,11 @@ requires c κs =
     (a .valid, (a .slot-lt, a .grid-long))
 
 same-length : tie.Need-same-length
+unfolding grounded
 same-length c =
     let else = c .before .before .before .before in
     let a = ground-accepted _ _ _ _ (else .before .ground-refusal .ensures) (else .if1 .left) in
-    ap length (c .before .before .zeros-and-pilots .ensures) ∙ length-ground _ _ _ ∙ sym (a .grid-long)
+    ap length (c .before .before .zeros-and-pilots .ensures) ∙ floats-long _ _ ∙ sym (a .grid-long)
 
 returns-2 : tie.Need-returns-2
 unfolding groundOf

@@ -3,7 +3,7 @@ use mathlib.Core.Path.{sym, _∙_}
 use native.Mathlib.Omega.{arith}
 use borrow.Author.Needs.{needs}
 use Rattle.map.proofs.ByMode.{few}
-use Rattle.lengths.proofs.Refusal.{LayAccepted, lay-numbered, lay-accepted}
+use Rattle.lengths.proofs.Refusal.{lay-numbered, lay-accepted}
 use Rattle.grid.specs.Grid.{layOf}
 use Rattle.grid.proofs.Outcome.{refused-leaves, accepted-anew}
 use Rattle.grid.proofs.Slot.{row-asks, row-laid}

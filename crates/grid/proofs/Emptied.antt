@@ -1,5 +1,5 @@
 -- The pass of empty over the subchannels: every point taken off the grid is the emptied points.
-use mathlib.Core.Path.{_≡_, refl, sym, ap, _∙_, subst}
+use mathlib.Core.Path.{_≡_, sym, ap, _∙_, subst}
 use mathlib.Core.List.{List}
 use Prim.Native.Nat.{ℕ, _*_, _<_, _+_, _≤_}
 use native.Mathlib.Omega.{arith}
