@@ -66,7 +66,7 @@ static float pilot[2] = {-1.0f, -2.0f}, source_points[MOST_POINTS], source_grid[
 typedef uint32_t run_fn(const struct side *side, struct outcome *o, uint32_t from, uint32_t to);
 
 // The points are as many as the mode and size have, in the strays too. So question 8, which plain_fill puts once and
-// the engine with each lay, is answered yes; all the others are the ground's.
+// the engine with each lay, is answered yes; the others but 5, which every lay of the slot passes, are the ground's.
 static uint32_t run_slot(const struct side *side, struct outcome *o, uint32_t from, uint32_t to) {
     uint32_t sum = 0;
     for (const struct request *q = requests + from; q < requests + to; q++) {

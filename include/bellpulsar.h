@@ -146,7 +146,8 @@ size_t bp_grid_len(uint32_t mode, uint32_t size);
  *         bp_lay(mode, size, cell, slot, s, points + 96 * s, 96, grid, grid_len);
  *
  * The grid then holds the point that was laid last on each data carrier, the pilot point on pilots, +0.0 on guards and
- * DC. Another slot has a ground of its own: its pilots may be on other carriers. */
+ * DC. A ground serves every slot whose pilots are on the same carriers: all slots in modes 0, 1, 4 and 6, those that agree
+ * mod 3 in modes 2, 3 and 5; the cell moves no pilot. */
 
 /* Lays the ground of a slot's grid: pilots and zeros.
  *

@@ -262,21 +262,6 @@ def look_with(mode, size, cell, symbol, grid_len, carrier):
     bp.look(mode, size, cell, symbol, floats(grid_len), carrier)
 
 
-def ground_refusal(mode, size, cell, slot, grid_len):
-    """Questions 1, 2, 3, 4, 9."""
-    return lay_refusal(mode, size, cell, slot, 0, 96, grid_len)
-
-
-def lay_refusal(mode, size, cell, slot, subchannel, points_len, grid_len):
-    """Questions 1, 2, 3, 4, 5, 8, 9."""
-    number = ref.place_refusal(mode, size, cell, slot, subchannel, 0)
-    if number:
-        return number
-    if points_len != 96:
-        return 8
-    return 0 if grid_len == ref.grid_floats(mode, size) else 9
-
-
 def calls_of(mode, size):
     """(call, its refusal in the reference, the last field values in range, a value out of range for each)."""
     cells, subs = ref.cells(mode, size), ref.subchannels(mode, size)
@@ -285,8 +270,8 @@ def calls_of(mode, size):
     setup, past = (mode, size, cells - 1), (7, size + 1, cells)
     yield bp.place, ref.place_refusal, (*setup, 511, subs - 1, 47), (*past, 512, subs, 48)
     yield bp.locate, ref.locate_refusal, (*setup, symbols - 1, size // 2 - 1), (*past, symbols, size // 2)
-    yield ground_with, ground_refusal, (*setup, 511, grid), (*past, 512, grid + 2)
-    yield lay_with, lay_refusal, (*setup, 511, subs - 1, 96, grid), (*past, 512, subs, points, grid - 2)
+    yield ground_with, ref.ground_refusal, (*setup, 511, grid), (*past, 512, grid + 2)
+    yield lay_with, ref.lay_refusal, (*setup, 511, subs - 1, 96, grid), (*past, 512, subs, points, grid - 2)
     yield fill_with, ref.buffers_refusal, (*setup, 511, points, grid), (*past, 512, points + 1, grid + 1)
     yield empty_with, ref.buffers_refusal, (*setup, 511, points, grid), (*past, 512, points - 1, grid - 1)
     yield (
@@ -775,10 +760,10 @@ class Lending(unittest.TestCase):
     def test_buffers_are_given_back(self):
         """An array that is still lent cannot grow."""
         points, grid = points_for(2, 256), grid_for(2, 256)
-        dest, pilot = bytearray(9), array("f", [1, 2])
+        own, dest, pilot = points[:96], bytearray(9), array("f", [1, 2])
         for cell in (0, 16):
             refusal(bp.ground, 2, 256, cell, 0, pilot, grid)
-            refusal(bp.lay, 2, 256, cell, 0, 0, points, grid)
+            refusal(bp.lay, 2, 256, cell, 0, 0, own, grid)
             refusal(bp.fill, 2, 256, cell, 0, pilot, points, grid)
             refusal(bp.empty, 2, 256, cell, 0, grid, points)
             refusal(bp.look, 2, 256, cell, 0, grid, 0)
@@ -791,7 +776,7 @@ class Lending(unittest.TestCase):
         self.assertRaises(TypeError, bp.ground, 2, 256, 0, 0, pilot, dest)
         self.assertRaises(ValueError, bp.lay, 2, 256, 0, 0, 0, grid, grid)
         self.assertRaises(TypeError, bp.lay, 2, 256, 0, 0, 0, points, dest)
-        for buffer in (points, grid, dest, pilot):
+        for buffer in (points, own, grid, dest, pilot):
             buffer.append(0)
 
     def test_empty_buffers(self):

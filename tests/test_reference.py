@@ -249,6 +249,15 @@ def test_ground():
                     assert row[at : at + 2] == ([1, 2] if what == (ref.PILOT,) else [0, 0])
 
 
+def test_grounds_that_serve():
+    """In modes 0, 1, 4 and 6 all slots have one ground, in modes 2, 3 and 5 those that agree mod 3, and no others."""
+    for mode, size in SETUPS:
+        grounds = [ref.ground(mode, size, 0, slot, [1, 2], [9] * ref.grid_floats(mode, size)) for slot in range(6)]
+        one = [grounds[0]] * 6
+        assert grounds[3:] == grounds[:3] and (grounds == one) == (mode in (0, 1, 4, 6))
+        assert grounds == one or grounds[0] != grounds[1] != grounds[2] != grounds[0]
+
+
 def test_known_ground():
     """Carrier -840 of PUSC downlink is data in a slot's first symbol and a pilot in its second, whatever the cell."""
     for cell in range(32):
@@ -257,7 +266,7 @@ def test_known_ground():
 
 
 def test_known_lays():
-    """The known points of placing: 553 is carrier 41 as document 01 counts it, 552 is 40, 87 is -425; 1862 and 1861 are
+    """The known points of placing: 553, as document 01 counts, is carrier 41, 552 is 40, 87 is -425; 1862 and 1861 are
     838 and 837, 377 is -647."""
     points = list(range(100, 196))
     first, second = [9] * 2048, [9] * 2048

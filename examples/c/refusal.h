@@ -14,7 +14,7 @@ static const char *const questions[17] = {
     "Is the subchannel in range?",
     "Is the index below 48?",
     "Is the carrier from -size/2 to size/2 - 1?",
-    "Are the points just 96 floats for each subchannel?",
+    "Are the points just 96 floats for each subchannel (of a lay: 96)?",
     "Is the grid just 2 * size floats for each symbol of a slot?",
     "Do the bytes reach to the value's end or its third group?",
     "Does the value end by its third group, in shortest form?",

@@ -73,7 +73,7 @@ impl Refusal {
             5 => "Is the subchannel in range?",
             6 => "Is the index below 48?",
             7 => "Is the carrier from -size/2 to size/2 - 1?",
-            8 => "Are the points just 96 floats for each subchannel?",
+            8 => "Are the points just 96 floats for each subchannel (of a lay: 96)?",
             9 => "Is the grid just 2 * size floats for each symbol of a slot?",
             10 => "Do the bytes reach to the value's end or its third group?",
             11 => "Does the value end by its third group, in shortest form?",
@@ -249,7 +249,8 @@ pub fn ground(setup: Setup, slot: u32, pilot: Point, grid: &mut [f32]) -> Result
 }
 
 /// The second move: lays one subchannel's 48 points, 96 floats, on the grid; no other float of it is written.
-/// Subchannels may be laid in any order, and again.
+/// Subchannels may be laid in any order, and again. A ground serves every slot whose pilots are on the same carriers: all
+/// slots in modes 0, 1, 4 and 6, those that agree mod 3 in modes 2, 3 and 5; the cell moves no pilot.
 pub fn lay(
     setup: Setup,
     slot: u32,

@@ -275,7 +275,8 @@ def lay(mode, size, cell, slot, subchannel, points, grid):
 
     points: the subchannel's 48 points by index, in-phase first: 96 floats. Of a slot's points they are those from
     96 * subchannel on.
-    grid: as in `ground`, which is given the same mode, size, cell and slot.
+    grid: as in `ground`. A ground serves every slot whose pilots are on the same carriers: all slots in modes 0, 1, 4
+    and 6, those that agree mod 3 in modes 2, 3 and 5; the cell moves no pilot.
     """
     fields = numbers(mode, size, cell, slot, subchannel)
     with lent(points, "points", FLOAT) as source, lent(grid, "grid", FLOAT, writable=True) as target:

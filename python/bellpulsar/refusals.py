@@ -15,7 +15,7 @@ QUESTIONS = {
     5: "Is the subchannel in range?",
     6: "Is the index below 48?",
     7: "Is the carrier from -size/2 to size/2 - 1?",
-    8: "Are the points just 96 floats for each subchannel?",
+    8: "Are the points just 96 floats for each subchannel (of a lay: 96)?",
     9: "Is the grid just 2 * size floats for each symbol of a slot?",
     10: "Do the bytes reach to the value's end or its third group?",
     11: "Does the value end by its third group, in shortest form?",
