@@ -226,7 +226,7 @@ static void do_row(struct row r) {
 
 // --- the table -------------------------------------------------------------------------------------------------------
 
-// Each mode at its sizes; AMC's slots of several symbols at the smallest and the largest.
+// Each mode at its sizes.
 static const struct setup {
     const char *name;
     uint32_t mode, size;
@@ -237,9 +237,12 @@ static const struct setup {
     {"optional FUSC, 1024", OFUSC, 1024, true},    {"optional FUSC, 2048", OFUSC, 2048, false},
     {"AMC 6x1, 256", AMC, 256, false},             {"AMC 6x1, 512", AMC, 512, true},
     {"AMC 6x1, 1024", AMC, 1024, true},            {"AMC 6x1, 2048", AMC, 2048, false},
-    {"AMC 2x3, 256", AMC_2X3, 256, false},         {"AMC 2x3, 2048", AMC_2X3, 2048, false},
-    {"AMC 3x2, 256", AMC_3X2, 256, false},         {"AMC 3x2, 2048", AMC_3X2, 2048, false},
-    {"AMC 1x6, 256", AMC_1X6, 256, false},         {"AMC 1x6, 2048", AMC_1X6, 2048, false},
+    {"AMC 2x3, 256", AMC_2X3, 256, false},         {"AMC 2x3, 512", AMC_2X3, 512, true},
+    {"AMC 2x3, 1024", AMC_2X3, 1024, true},        {"AMC 2x3, 2048", AMC_2X3, 2048, false},
+    {"AMC 3x2, 256", AMC_3X2, 256, false},         {"AMC 3x2, 512", AMC_3X2, 512, true},
+    {"AMC 3x2, 1024", AMC_3X2, 1024, true},        {"AMC 3x2, 2048", AMC_3X2, 2048, false},
+    {"AMC 1x6, 256", AMC_1X6, 256, false},         {"AMC 1x6, 512", AMC_1X6, 512, true},
+    {"AMC 1x6, 1024", AMC_1X6, 1024, true},        {"AMC 1x6, 2048", AMC_1X6, 2048, false},
 };
 enum { SETUPS = sizeof setups / sizeof setups[0] };
 
