@@ -169,17 +169,12 @@ module _ {setup : Setup} (v : Valid setup) (slot s : ℕ) (hs : s < subchannels 
   row-at : (m : ℕ) → m < 48 → turned row by m ≡ standsAt setup slot (pointNumber s m)
   row-at m h = rw e (t m h ∙ carrier-stands setup slot s m h)
 
-  row-within : (floats : ℕ) → floats ≡ 2 * gridPoints setup → Within row floats
+  pub row-within : (floats : ℕ) → floats ≡ 2 * gridPoints setup → Within row floats
   row-within floats long k h =
       omega (arith, turned-below (shiftOf setup s) (gridPoints setup) _ row (shift-lt setup s) t (λ m l. rw (carrier-stands setup slot s m l) (stands-lt setup v slot (pointNumber s m) (omega arith))) k h)
 
-  pub row-asks : by < 48 → (first points grid : ℕ) → (first + 48) * 2 ≤ points → grid ≡ 2 * gridPoints setup
-      → (by < 48) × ((first + 48) * 2 ≤ points) × Within row grid
-  row-asks h first points grid p g = (h, p, row-within grid g)
-
-  pub row-laid : (points l l′ : List Float) → l′ ≡ puts (turned row by) (λ m. pointAt points (0 + m)) 48 l
-      → l′ ≡ puts (λ m. standsAt setup slot (pointNumber s m)) (pointAt points) 48 l
-  row-laid points l l′ q = q ∙ puts-as _ _ _ _ 48 l row-at (λ m h. ap (pointAt points) (omega arith))
+  pub row-laid : (points l l′ : List Float) → l′ ≡ puts (turned row by) (pointAt points) 48 l → l′ ≡ puts (λ m. standsAt setup slot (pointNumber s m)) (pointAt points) 48 l
+  row-laid points l l′ q = q ∙ puts-as _ _ _ _ 48 l row-at (λ m h. refl)
 
   pub row-taken : (grid l l′ : List Float) → l′ ≡ puts (λ m. s * 48 + m) (λ m. pointAt grid (turned row by m)) 48 l → l′ ≡ taken setup slot grid s l
   row-taken grid l l′ q = q ∙ puts-as _ _ _ _ 48 l (λ m h. refl) (λ m h. ap (pointAt grid) (row-at m h))

@@ -92,7 +92,7 @@ pub fn lay(setup: Setup, slot: usize, subchannel: usize, points: &[f32], grid: &
     let table = rows::table(setup, slot);
     let row = rows::carrier_row(setup, slot, subchannel, &table);
     let by = rows::shift(setup, subchannel);
-    points::lay_row(&row, by, 0, points, grid);
+    points::lay_row(&row, by, points, grid);
     0
 }
 

@@ -62,7 +62,7 @@ two-runs place p₁ p₂ source s₁ s₂ a b l l₁ l₂ e₁ e₂ f₁ g₁ f�
     ∙ puts-more place source a b l
 
 -- the run from place `by` on and the one from the row's start are the turned row
-module _ (row : List ℕ) (by : ℕ) (h : by < 48) (first : ℕ) where
+module _ (row : List ℕ) (by : ℕ) (h : by < 48) where
   whole : (place : ℕ → ℕ) (source : ℕ → Point) (l : List Float) → puts place source (48 - by + by) l ≡ puts place source 48 l
   whole place source l = ap (λ (n : ℕ). puts place source n l) (omega arith)
 
@@ -73,18 +73,18 @@ module _ (row : List ℕ) (by : ℕ) (h : by < 48) (first : ℕ) where
   second-run m l = ap (entry row) (omega arith)
 
   module _ (other l l₁ l₂ : List Float) where
-    pub laid-runs : l₁ ≡ puts (λ m. entry row (by + m)) (λ m. pointAt other (first + m)) (48 - by) l
-        → l₂ ≡ puts (λ m. entry row (0 + m)) (λ m. pointAt other (first + (48 - by) + m)) by l₁
-        → l₂ ≡ puts (turned row by) (λ m. pointAt other (first + m)) 48 l
+    pub laid-runs : l₁ ≡ puts (λ m. entry row (by + m)) (λ m. pointAt other (0 + m)) (48 - by) l
+        → l₂ ≡ puts (λ m. entry row (0 + m)) (λ m. pointAt other (48 - by + m)) by l₁
+        → l₂ ≡ puts (turned row by) (pointAt other) 48 l
     laid-runs e₁ e₂ =
-        two-runs (turned row by) _ _ (λ m. pointAt other (first + m)) _ _ (48 - by) by l l₁ l₂ e₁ e₂
-        first-run (λ m i. refl) second-run (λ m i. ap (pointAt other) (omega arith))
+        two-runs (turned row by) _ _ (pointAt other) _ _ (48 - by) by l l₁ l₂ e₁ e₂
+        first-run (λ m i. ap (pointAt other) (omega arith)) second-run (λ m i. refl)
         ∙ whole _ _ l
 
-    pub taken-runs : l₁ ≡ puts (λ m. first + m) (λ m. pointAt other (entry row (by + m))) (48 - by) l
+    pub taken-runs : (first : ℕ) → l₁ ≡ puts (λ m. first + m) (λ m. pointAt other (entry row (by + m))) (48 - by) l
         → l₂ ≡ puts (λ m. first + (48 - by) + m) (λ m. pointAt other (entry row (0 + m))) by l₁
         → l₂ ≡ puts (λ m. first + m) (λ m. pointAt other (turned row by m)) 48 l
-    taken-runs e₁ e₂ =
+    taken-runs first e₁ e₂ =
         two-runs (λ m. first + m) _ _ (λ m. pointAt other (turned row by m)) _ _ (48 - by) by l l₁ l₂ e₁ e₂
         (λ m i. refl) (λ m i. ap (pointAt other) (first-run m i)) (λ m i. omega arith) (λ m i. ap (pointAt other) (second-run m i))
         ∙ whole _ _ l

@@ -54,13 +54,13 @@ fn lay_run(row: &[u16; 48], q: usize, n: usize, first: usize, points: &[f32], gr
     }
 }
 
-// The 48 points from `first` on laid on the places of a row, the first at place `by`; they go on at the row's start.
-pub fn lay_row(row: &[u16; 48], by: usize, first: usize, points: &[f32], grid: &mut [f32])
-    requires { ⌜ (by < 48) × ((first + 48) * 2 ≤ length (now points)) × Within (now row) (length (now grid)) ⌝ }
-    ensures { λ _. ⌜ now (grid .exit) ≡ puts (turned (now (row .entry)) by) (λ m. pointAt (now (points .entry)) (first + m)) 48 (now (grid .entry)) ⌝ }
+// The first 48 points laid on the places of a row, the first at place `by`; they go on at the row's start.
+pub fn lay_row(row: &[u16; 48], by: usize, points: &[f32], grid: &mut [f32])
+    requires { ⌜ (by < 48) × (96 ≤ length (now points)) × Within (now row) (length (now grid)) ⌝ }
+    ensures { λ _. ⌜ now (grid .exit) ≡ puts (turned (now (row .entry)) by) (pointAt (now (points .entry))) 48 (now (grid .entry)) ⌝ }
 {
-    lay_run(row, by, 48 - by, first, points, grid);
-    lay_run(row, 0, by, first + (48 - by), points, grid);
+    lay_run(row, by, 48 - by, 0, points, grid);
+    lay_run(row, 0, by, 48 - by, points, grid);
 }
 
 // The n points from `first` on taken off the places of a row from q on.
@@ -76,7 +76,7 @@ fn take_run(row: &[u16; 48], q: usize, n: usize, first: usize, grid: &[f32], poi
     }
 }
 
-// The reverse: the 48 points from `first` on taken off those places.
+// The reverse: the 48 points from `first` on taken off such places.
 pub fn take_row(row: &[u16; 48], by: usize, first: usize, grid: &[f32], points: &mut [f32])
     requires { ⌜ (by < 48) × ((first + 48) * 2 ≤ length (now points)) × Within (now row) (length (now grid)) ⌝ }
     ensures { λ _. ⌜ now (points .exit) ≡ puts (λ m. first + m) (λ m. pointAt (now (grid .entry)) (turned (now (row .entry)) by m)) 48 (now (points .entry)) ⌝ }

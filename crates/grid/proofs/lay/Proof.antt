@@ -6,7 +6,7 @@ use Rattle.map.proofs.ByMode.{few}
 use Rattle.lengths.proofs.Refusal.{lay-numbered, lay-accepted}
 use Rattle.grid.specs.Grid.{layOf}
 use Rattle.grid.proofs.Outcome.{refused-leaves, accepted-anew}
-use Rattle.grid.proofs.Slot.{row-asks, row-laid}
+use Rattle.grid.proofs.Slot.{row-within, row-laid}
 use Rattle.grid.proofs.Laid.{laid-is}
 use Rattle.grid.proofs.lay.Statement.{statement}
 use Rattle.grid.proofs.lay.Tie as tie
@@ -36,7 +36,7 @@ lay-row-requires c κs =
     let a = lay-accepted _ _ _ _ _ _ (else .before .lay-refusal .ensures) (else .if1 .left) in
     let row = c .before .before .before .carrier-row in
     let by = c .before .before .shift .ensures in
-    row-asks (a .valid) _ _ (a .subchannel-lt) (row .result) (row .ensures) _ (by .0) (by .1) 0 _ _ (omega (arith, a .points-long)) (a .grid-long)
+    (by .1, omega (arith, a .points-long), row-within (a .valid) _ _ (a .subchannel-lt) (row .result) (row .ensures) _ (by .0) _ (a .grid-long))
 
 returns-2 : tie.Need-returns-2
 unfolding layOf

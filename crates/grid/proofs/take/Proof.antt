@@ -2,7 +2,7 @@
 use native.Mathlib.Omega.{arith}
 use borrow.Author.Needs.{needs}
 use Rattle.map.proofs.ByMode.{few}
-use Rattle.grid.proofs.Slot.{row-asks, row-taken}
+use Rattle.grid.proofs.Slot.{row-within, row-taken}
 use Rattle.grid.proofs.take.Statement.{statement}
 use Rattle.grid.proofs.take.Tie as tie
 
@@ -15,8 +15,9 @@ mul-take-row c = omega (arith, c .before .before .before .before .before .pre .1
 take-row-requires : tie.Need-take-row-requires
 take-row-requires c κs =
     let start = c .before .before .before .before .before .before in
-    row-asks (start .pre .0) _ _ (start .pre .1 .0 .0) (c .before .before .before .carrier-row .result) (c .before .before .before .carrier-row .ensures) _ (c .before .before .shift .ensures .0) (c .before .before .shift .ensures .1)
-    _ _ _ (omega (arith, start .pre .1 .0)) (start .pre .1 .0 .2)
+    let row = c .before .before .before .carrier-row in
+    let by = c .before .before .shift .ensures in
+    (by .1, omega (arith, start .pre .1 .0), row-within (start .pre .0) _ _ (start .pre .1 .0 .0) (row .result) (row .ensures) _ (by .0) _ (start .pre .1 .0 .2))
 
 returns : tie.Need-returns
 returns c =

@@ -7,7 +7,7 @@ use Rattle.points.proofs.take_row.Tie as tie
 returns : tie.Need-returns
 returns c =
     let start = c .before .before .before .before .before .before .before .before .before .before in
-    taken-runs (start .args .row .now) (start .args .by) (start .pre .0) (start .args .first) (start .args .grid .now) (start .args .points .now) _ _
+    taken-runs (start .args .row .now) (start .args .by) (start .pre .0) (start .args .grid .now) (start .args .points .now) _ _ (start .args .first)
     (c .before .before .before .before .before .before .take-run .ensures) (c .before .before .take-run2 .ensures)
 
 pub take-row-spec : {M : Type 1} → statement M
