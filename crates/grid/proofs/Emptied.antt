@@ -31,14 +31,14 @@ emptied-is setup slot grid l e =
 
 -- what holds before each turn: the points of the first s subchannels are taken
 pub record EmptyTurn (setup : Setup) (slot : ℕ) (grid points₀ : List Float) (n : ℕ) (points : List Float) (s : ℕ) : Type 0 where
-  pub fits : EmptyAccepted setup slot (length points₀) (length grid)
+  pub accepts : EmptyAccepted setup slot (length points₀) (length grid)
   pub n-is : n ≡ subchannels setup
   pub few : n ≤ 192
   pub put : Putting (λ k. k) (source setup slot grid) (n * 48) points₀ points (s * 48)
 
 pub empty-start : {setup : Setup} {slot : ℕ} (grid points₀ : List Float) → EmptyAccepted setup slot (length points₀) (length grid)
     → (n : ℕ) → n ≡ subchannels setup → EmptyTurn setup slot grid points₀ n points₀ 0
-empty-start grid points₀ a n e = record { fits = a; n-is = e; few = rw e (few (a .valid) .subchannels-few); put = putting-none _ _ _ _ }
+empty-start grid points₀ a n e = record { accepts = a; n-is = e; few = rw e (few (a .fits .valid) .subchannels-few); put = putting-none _ _ _ _ }
 
 module _ {setup : Setup} {slot : ℕ} {grid points₀ : List Float} {n : ℕ} {points : List Float} {s : ℕ} (t : EmptyTurn setup slot grid points₀ n points s) where
   pub empty-long : length points ≡ length points₀
@@ -48,7 +48,7 @@ module _ {setup : Setup} {slot : ℕ} {grid points₀ : List Float} {n : ℕ} {p
       → EmptyTurn setup slot grid points₀ n points′ (s + 1)
   empty-next h points′ e =
       record {
-        fits = t .fits;
+        accepts = t .accepts;
         n-is = t .n-is;
         few = t .few;
         put = subst (Putting (λ k. k) (source setup slot grid) (n * 48) points₀ points′) (omega arith) (putting-run (t .put) 48 (omega arith) points′ e);
@@ -57,4 +57,4 @@ module _ {setup : Setup} {slot : ℕ} {grid points₀ : List Float} {n : ℕ} {p
   pub empty-done : n ≤ s → points ≡ emptied setup slot grid
   empty-done h =
       putting-done (t .put) (omega arith) ∙ ap (λ (x : ℕ). puts (λ k. k) (source setup slot grid) (x * 48) points₀) (t .n-is)
-      ∙ emptied-is setup slot grid points₀ (t .fits .points-long)
+      ∙ emptied-is setup slot grid points₀ (t .accepts .points-long)

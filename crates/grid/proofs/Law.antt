@@ -83,7 +83,7 @@ module _ (setup : Setup) (slot s : ℕ) (points grid next : List Float) (e : Lea
   -- what is seen then at the place of a point of the slot
   module _ (t index : ℕ) (place : Place) (q : placeOf setup slot t index ≡ accepted place) where
     abbrev k : OnGrid setup slot (point slot t index) (place .symbol) (place .carrier)
-    k = point-on-grid (lay-fits .valid) slot t index place q
+    k = point-on-grid (lay-fits .fits .valid) slot t index place q
 
     abbrev old : Point
     old = pointAt grid (there setup (place .symbol) (place .carrier))
@@ -94,7 +94,7 @@ module _ (setup : Setup) (slot s : ℕ) (points grid next : List Float) (e : Lea
 
     other-seen : (t ≡ s → ⊥) → lookOf setup (place .symbol) next (place .carrier) ≡ lookOf setup (place .symbol) grid (place .carrier)
     unfolding relaid sight
-    other-seen ne = (rw (ne-eqb t s ne) at seen-then) ∙ sym (k .looked grid (lay-fits .grid-long) _ refl)
+    other-seen ne = (rw (ne-eqb t s ne) at seen-then) ∙ sym (k .looked grid (lay-fits .fits .grid-long) _ refl)
 
   own-seen : (index : ℕ) (place : Place) → placeOf setup slot s index ≡ accepted place
       → lookOf setup (place .symbol) next (place .carrier) ≡ accepted (data-with (pointAt points index) slot s index)
@@ -238,7 +238,7 @@ grid-law =
       laid-is-seen = own-seen;
       others-stay = λ setup slot s points grid next e other index place ne q. other-seen setup slot s points grid next e other index place q ne;
       ground-keeps-length = λ setup slot p old ground e. ground-long setup slot p old ground e ∙ sym (ground-fits setup slot p old ground e .grid-long);
-      lay-keeps-length = λ setup slot s points grid next e. lay-long setup slot s points grid next e ∙ sym (lay-fits setup slot s points grid next e .grid-long);
+      lay-keeps-length = λ setup slot s points grid next e. lay-long setup slot s points grid next e ∙ sym (lay-fits setup slot s points grid next e .fits .grid-long);
       ground-accepts = λ setup slot p old e h g.
           let v = setup-asked setup _ e .0 in
           accepted-number _ _ _ (ground-numbered setup slot (length old) _) _

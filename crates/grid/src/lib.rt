@@ -1,4 +1,4 @@
-// Grids: a slot's ground, laying a subchannel's points on their carriers, taking all points off again, and looking at one carrier.
+// Grids: a slot's ground, a subchannel's points laid on it, all points taken off again, and a look at one carrier.
 use map::Located;
 use map::Setup;
 use points::Point;

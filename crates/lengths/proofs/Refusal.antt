@@ -4,7 +4,7 @@ use Prim.Native.Nat.{ℕ, _*_, _<_, _≤_}
 use native.Mathlib.Nat.{mul-le-mul}
 use native.Mathlib.Omega.{arith}
 use borrow.Author.Tests.{lt-ltb, le-ltb, eq-eqb, ne-eqb, ltb-true, eqb-true}
-use Rattle.base.specs.Answer.{Answer, accepted, refused, refusalOf}
+use Rattle.base.specs.Answer.{Answer, accepted, refused, ask, refusalOf}
 use Rattle.base.proofs.Chain.{numbered, no-first, Numbered, no-question, question, number-yes}
 use Rattle.map.specs.declared.Setup.{Setup}
 use Rattle.map.specs.Mode.{subchannels, symbols}
@@ -80,6 +80,12 @@ pub record GroundAccepted (setup : Setup) (slot grid : ℕ) : Type 0 where
   pub slot-lt : slot < 512
   pub grid-long : grid ≡ 2 * gridPoints setup
 
+-- by the questions from the grid's on
+grid-accepted : {setup : Setup} {slot : ℕ} (grid : ℕ) → Valid setup × (slot < 512) → refusalOf (ask {A = Unit {0}} (isGrid setup grid) 9 (accepted tt)) ≡ 0 → GroundAccepted setup slot grid
+unfolding isGrid
+grid-accepted {setup} grid first z =
+    record { valid = first .0; slot-lt = first .1; grid-long = eqb-true grid (2 * gridPoints setup) (number-yes (isGrid setup grid) 8 _ z .0) }
+
 module _ (setup : Setup) (slot grid : ℕ) where
   module _ (v : Valid setup) (h : slot < 512) (g : ℕ) (f : g ≡ gridPoints setup) where
     pub ground-9 : (grid ≡ 2 * g → ⊥) → 9 ≡ groundRefusal setup slot grid
@@ -95,19 +101,15 @@ module _ (setup : Setup) (slot grid : ℕ) where
   ground-numbered rest = before setup slot (question (isGrid setup grid) 8 no-question) .is
 
   pub ground-accepted : (k : ℕ) → k ≡ groundRefusal setup slot grid → k ≡ 0 → GroundAccepted setup slot grid
-  unfolding groundRefusal isGrid
-  ground-accepted k e z =
-      let q = first-yes setup slot _ (sym e ∙ z) in
-      record { valid = q .0 .0; slot-lt = q .0 .1; grid-long = eqb-true grid (2 * gridPoints setup) (number-yes (isGrid setup grid) 8 _ (q .1) .0) }
+  unfolding groundRefusal
+  ground-accepted k e z = let q = first-yes setup slot _ (sym e ∙ z) in grid-accepted grid (q .0) (q .1)
 
 -- ---- lay
 
 pub record LayAccepted (setup : Setup) (slot subchannel points grid : ℕ) : Type 0 where
-  pub valid : Valid setup
-  pub slot-lt : slot < 512
+  pub fits : GroundAccepted setup slot grid
   pub subchannel-lt : subchannel < subchannels setup
   pub points-long : points ≡ 96
-  pub grid-long : grid ≡ 2 * gridPoints setup
 
 module _ (setup : Setup) (slot subchannel points grid : ℕ) where
   module _ (v : Valid setup) (h : slot < 512) (n : ℕ) (e : n ≡ subchannels setup) where
@@ -135,26 +137,22 @@ module _ (setup : Setup) (slot subchannel points grid : ℕ) where
       before setup slot (question (isSubchannel setup subchannel) 4 (question (areOnesPoints points) 7 (question (isGrid setup grid) 8 no-question))) .is
 
   pub lay-accepted : (k : ℕ) → k ≡ layRefusal setup slot subchannel points grid → k ≡ 0 → LayAccepted setup slot subchannel points grid
-  unfolding layRefusal isSubchannel areOnesPoints isGrid
+  unfolding layRefusal isSubchannel areOnesPoints
   lay-accepted k e z =
       let q = first-yes setup slot _ (sym e ∙ z) in
       let q₅ = number-yes (isSubchannel setup subchannel) 4 _ (q .1) in
       let q₈ = number-yes (areOnesPoints points) 7 _ (q₅ .1) in
       record {
-        valid = q .0 .0;
-        slot-lt = q .0 .1;
+        fits = grid-accepted grid (q .0) (q₈ .1);
         subchannel-lt = ltb-true subchannel (subchannels setup) (q₅ .0);
         points-long = eqb-true points 96 (q₈ .0);
-        grid-long = eqb-true grid (2 * gridPoints setup) (number-yes (isGrid setup grid) 8 _ (q₈ .1) .0);
       }
 
 -- ---- empty
 
 pub record EmptyAccepted (setup : Setup) (slot points grid : ℕ) : Type 0 where
-  pub valid : Valid setup
-  pub slot-lt : slot < 512
+  pub fits : GroundAccepted setup slot grid
   pub points-long : points ≡ 96 * subchannels setup
-  pub grid-long : grid ≡ 2 * gridPoints setup
 
 module _ (setup : Setup) (slot points grid : ℕ) where
   module _ (v : Valid setup) (h : slot < 512) (n : ℕ) (e : n ≡ subchannels setup) where
@@ -176,13 +174,8 @@ module _ (setup : Setup) (slot points grid : ℕ) where
   empty-numbered rest = before setup slot (question (arePoints setup points) 7 (question (isGrid setup grid) 8 no-question)) .is
 
   pub empty-accepted : (k : ℕ) → k ≡ emptyRefusal setup slot points grid → k ≡ 0 → EmptyAccepted setup slot points grid
-  unfolding emptyRefusal arePoints isGrid
+  unfolding emptyRefusal arePoints
   empty-accepted k e z =
       let q = first-yes setup slot _ (sym e ∙ z) in
       let q₈ = number-yes (arePoints setup points) 7 _ (q .1) in
-      record {
-        valid = q .0 .0;
-        slot-lt = q .0 .1;
-        points-long = eqb-true points (96 * subchannels setup) (q₈ .0);
-        grid-long = eqb-true grid (2 * gridPoints setup) (number-yes (isGrid setup grid) 8 _ (q₈ .1) .0);
-      }
+      record { fits = grid-accepted grid (q .0) (q₈ .1); points-long = eqb-true points (96 * subchannels setup) (q₈ .0) }

@@ -17,7 +17,8 @@ pub struct Comb {
     pub count: usize,
 }
 
-// What setup and slot fix of the places of a slot, for all its subchannels; nothing in PUSC, where a row needs no more than the cell.
+// What setup and slot fix of the places of a slot, for all its subchannels; nothing in PUSC, where a row is worked out
+// by itself.
 pub fn table(setup: Setup, slot: usize) -> [u16; 48]
     requires { ⌜ Valid setup ⌝ }
     ensures { λ r. ⌜ TableOf setup slot r ⌝ }

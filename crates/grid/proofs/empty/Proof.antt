@@ -26,7 +26,7 @@ loop-holds c = empty-start _ _ (empty-accepted _ _ _ _ _ (c .before .before .bef
 take-requires : tie.Need-take-requires Inv-loop μ-loop
 take-requires c κs =
     let turn = c .before .before .before .loop .inv in
-    (turn .fits .valid, ((rw (turn .n-is) at (c .before .before .loop-test .taken), empty-long turn ∙ turn .fits .points-long, turn .fits .grid-long), c .before .before .before .before .before .table .ensures))
+    (turn .accepts .fits .valid, ((rw (turn .n-is) at (c .before .before .loop-test .taken), empty-long turn ∙ turn .accepts .points-long, turn .accepts .fits .grid-long), c .before .before .before .before .before .table .ensures))
 
 returns-2 : tie.Need-returns-2 Inv-loop μ-loop
 unfolding emptyOf
@@ -38,7 +38,7 @@ pub empty-spec : {M : Type 1} → statement M
 empty-spec =
     tie.close
     (tie.spec
-    Inv-loop μ-loop (λ c κs. search needs) returns (λ c κs. empty-accepted _ _ _ _ _ (c .before .empty-refusal .ensures) (c .if1 .left) .valid) (λ c κs. search needs) loop-holds take-requires
+    Inv-loop μ-loop (λ c κs. search needs) returns (λ c κs. empty-accepted _ _ _ _ _ (c .before .empty-refusal .ensures) (c .if1 .left) .fits .valid) (λ c κs. search needs) loop-holds take-requires
     (λ c. omega arith) (λ c. omega arith)
     (λ c. empty-next (c .before .before .before .before .before .before .loop .inv) (c .before .before .before .before .before .loop-test .taken) _ (c .before .before .take .ensures))
     (λ c. empty-long (c .before .loop .inv))

@@ -16,19 +16,19 @@ unfolding layOf
 returns c = refused-leaves _ _ _ (lay-numbered _ _ _ _ _ _) _ _ (c .before .lay-refusal .ensures) (c .if1 .taken)
 
 table-requires : tie.Need-table-requires
-table-requires c κs = lay-accepted _ _ _ _ _ _ (c .before .lay-refusal .ensures) (c .if1 .left) .valid
+table-requires c κs = lay-accepted _ _ _ _ _ _ (c .before .lay-refusal .ensures) (c .if1 .left) .fits .valid
 
 carrier-row-requires : tie.Need-carrier-row-requires
 carrier-row-requires c κs =
     let else = c .before .before in
     let a = lay-accepted _ _ _ _ _ _ (else .before .lay-refusal .ensures) (else .if1 .left) in
-    (a .valid, (a .subchannel-lt, c .before .table .ensures))
+    (a .fits .valid, (a .subchannel-lt, c .before .table .ensures))
 
 shift-requires : tie.Need-shift-requires
 shift-requires c κs =
     let else = c .before .before .before in
     let a = lay-accepted _ _ _ _ _ _ (else .before .lay-refusal .ensures) (else .if1 .left) in
-    omega (arith, a .subchannel-lt, few (a .valid))
+    omega (arith, a .subchannel-lt, few (a .fits .valid))
 
 lay-row-requires : tie.Need-lay-row-requires
 lay-row-requires c κs =
@@ -36,7 +36,7 @@ lay-row-requires c κs =
     let a = lay-accepted _ _ _ _ _ _ (else .before .lay-refusal .ensures) (else .if1 .left) in
     let row = c .before .before .before .carrier-row in
     let by = c .before .before .shift .ensures in
-    (by .1, omega (arith, a .points-long), row-within (a .valid) _ _ (a .subchannel-lt) (row .result) (row .ensures) _ (by .0) _ (a .grid-long))
+    (by .1, omega (arith, a .points-long), row-within (a .fits .valid) _ _ (a .subchannel-lt) (row .result) (row .ensures) _ (by .0) _ (a .fits .grid-long))
 
 returns-2 : tie.Need-returns-2
 unfolding layOf
@@ -47,8 +47,8 @@ returns-2 c =
     let row = c .before .before .before .before .before .before .carrier-row in
     let by = c .before .before .before .before .before .shift .ensures in
     accepted-anew _ _ _ (lay-numbered _ _ _ _ _ _) _ (sym refusal ∙ else .if1 .left) _
-    (row-laid (a .valid) _ _ (a .subchannel-lt) (row .result) (row .ensures) _ (by .0) _ _ _ (c .before .before .lay-row .ensures)
-    ∙ laid-is _ (a .valid) _ (a .slot-lt) _ (a .subchannel-lt) _ _ (a .grid-long))
+    (row-laid (a .fits .valid) _ _ (a .subchannel-lt) (row .result) (row .ensures) _ (by .0) _ _ _ (c .before .before .lay-row .ensures)
+    ∙ laid-is _ (a .fits .valid) _ (a .fits .slot-lt) _ (a .subchannel-lt) _ _ (a .fits .grid-long))
 
 pub lay-spec : {M : Type 1} → statement M
 lay-spec =
