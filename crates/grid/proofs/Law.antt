@@ -19,10 +19,10 @@ use Rattle.map.proofs.Law.{setup-asked, locating, located-where-placed, in-own-
 use Rattle.points.specs.declared.Point.{Point}
 use Rattle.points.specs.Points.{pointAt}
 use Rattle.points.proofs.Points.{point-floats, by-points}
-use Rattle.lengths.specs.Length.{gridPoints, pointsLength}
-use Rattle.lengths.specs.Model.{groundRefusal, layRefusal}
+use Rattle.lengths.specs.Length.{gridPoints, pointsLength, gridLength}
+use Rattle.lengths.specs.Model.{gridRefusal, groundRefusal, layRefusal}
 use Rattle.lengths.proofs.Length.{lengths-listed}
-use Rattle.lengths.proofs.Refusal.{GroundAccepted, LayAccepted, ground-numbered, ground-accepted, ground-0, lay-numbered, lay-accepted, lay-0, empty-numbered, empty-0}
+use Rattle.lengths.proofs.Refusal.{GroundAccepted, LayAccepted, ground-numbered, ground-accepted, ground-last, lay-numbered, lay-accepted, lay-last, empty-numbered, empty-last, grid-0}
 use Rattle.grid.specs.Row.{carrierPosition}
 use Rattle.grid.specs.Grid.{contentAt, pointNumber, bare, grounded, groundOf, relaid, laid, layOf, held, filled, standsAt, emptied, emptyOf, data-with, sight, lookOf}
 use Rattle.grid.specs.Model.{sightOf}
@@ -159,7 +159,7 @@ module _ (setup : Setup) (v : Valid setup) (slot : ℕ) (hs : slot < 512) (p : P
   unfolding emptyOf emptied
   again before l =
       sym (accepted-anew _ _ _ (empty-numbered setup slot (length before) (length grid) _) before
-      (sym (empty-0 setup slot (length before) (length grid) v hs (subchannels setup) refl (l ∙ points-long) (gridPoints setup) refl long))
+      (sym (empty-last setup slot (length before) (length grid) v hs (subchannels setup) refl (l ∙ points-long) 0 (grid-0 setup (length grid) (gridPoints setup) refl long)))
       points (by-points points (48 * subchannels setup) _ (points-long ∙ omega arith) back))
 
   module _ (w : Content) (symbol : ℕ) (carrier : ℤ) (own : symbol / symbols setup ≡ slot) (a : locateOf setup symbol carrier ≡ accepted w) where
@@ -230,6 +230,10 @@ module _ (setup : Setup) (slot : ℕ) (p : Point) (points old ground grid : List
       let v = fits .valid in
       filled-grid setup v slot (fits .slot-lt) p points grid (long ∙ sym (lengths-listed v .0)) is-filled
 
+-- a grid of the length that is told passes the last question
+told : {setup : Setup} → Valid setup → (grid : ℕ) → grid ≡ gridLength (setup .mode) (setup .size) → 0 ≡ gridRefusal setup grid
+told {setup} v grid g = grid-0 setup grid (gridPoints setup) refl (g ∙ sym (lengths-listed v .1))
+
 pub grid-law : GridLaw
 unfolding groundOf layOf emptyOf
 grid-law =
@@ -242,13 +246,13 @@ grid-law =
       ground-accepts = λ setup slot p old e h g.
           let v = setup-asked setup _ e .0 in
           accepted-number _ _ _ (ground-numbered setup slot (length old) _) _
-          (sym (ground-0 setup slot (length old) v h (gridPoints setup) refl (g ∙ sym (lengths-listed v .1))));
+          (sym (ground-last setup slot (length old) v h 0 (told v (length old) g)));
       lay-accepts = λ setup slot s points grid e h hs q g.
           let v = setup-asked setup _ e .0 in
           accepted-number _ _ _ (lay-numbered setup slot s (length points) (length grid) _) _
-          (sym (lay-0 setup slot s (length points) (length grid) v h (subchannels setup) refl hs q (gridPoints setup) refl (g ∙ sym (lengths-listed v .1))));
+          (sym (lay-last setup slot s (length points) (length grid) v h (subchannels setup) refl hs q 0 (told v (length grid) g)));
       empty-accepts = λ setup slot grid old e h l g.
           let v = setup-asked setup _ e .0 in
           accepted-number _ _ _ (empty-numbered setup slot (length old) (length grid) _) _
-          (sym (empty-0 setup slot (length old) (length grid) v h (subchannels setup) refl (l ∙ sym (lengths-listed v .0)) (gridPoints setup) refl (g ∙ sym (lengths-listed v .1))));
+          (sym (empty-last setup slot (length old) (length grid) v h (subchannels setup) refl (l ∙ sym (lengths-listed v .0)) 0 (told v (length grid) g)));
     }

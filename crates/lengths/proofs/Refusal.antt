@@ -4,7 +4,7 @@ use Prim.Native.Nat.{ℕ, _*_, _<_, _≤_}
 use native.Mathlib.Nat.{mul-le-mul}
 use native.Mathlib.Omega.{arith}
 use borrow.Author.Tests.{lt-ltb, le-ltb, eq-eqb, ne-eqb, ltb-true, eqb-true}
-use Rattle.base.specs.Answer.{Answer, accepted, refused, ask, refusalOf}
+use Rattle.base.specs.Answer.{Answer, accepted, refused, refusalOf}
 use Rattle.base.proofs.Chain.{numbered, no-first, Numbered, no-question, question, number-yes}
 use Rattle.map.specs.declared.Setup.{Setup}
 use Rattle.map.specs.Mode.{subchannels, symbols}
@@ -13,8 +13,8 @@ use Rattle.map.specs.Model.{setupRefusal, Valid}
 use Rattle.map.proofs.Accept.{valid, passes, refused-number}
 use Rattle.map.proofs.ByMode.{few}
 use Rattle.lengths.specs.Length.{gridPoints}
-use Rattle.lengths.specs.Question.{arePoints, areOnesPoints, isGrid, askSlot, askGround, askLay, askEmpty}
-use Rattle.lengths.specs.Model.{slotRefusal, groundRefusal, layRefusal, emptyRefusal}
+use Rattle.lengths.specs.Question.{arePoints, areLaidPoints, isGrid, askSlot, askGround, askLay, askEmpty}
+use Rattle.lengths.specs.Model.{slotRefusal, gridRefusal, groundRefusal, layRefusal, emptyRefusal}
 
 -- a slot's grid is small
 pub grid-few : {setup : Setup} → Valid setup → gridPoints setup ≤ 12288
@@ -72,6 +72,17 @@ module _ (setup : Setup) (slot : ℕ) where
     unfolding slotRefusal
     slot-below = first-yes (accepted tt) (sym e ∙ z) .0 .1
 
+-- ---- the last question, after whatever comes before it
+
+module _ (setup : Setup) (grid g : ℕ) (f : g ≡ gridPoints setup) where
+  pub grid-9 : (grid ≡ 2 * g → ⊥) → 9 ≡ gridRefusal setup grid
+  unfolding gridRefusal isGrid
+  grid-9 ne = rw (← f, ne-eqb grid (2 * g) ne)
+
+  pub grid-0 : grid ≡ 2 * g → 0 ≡ gridRefusal setup grid
+  unfolding gridRefusal isGrid
+  grid-0 l = rw (← f, eq-eqb grid (2 * g) l)
+
 -- ---- ground
 
 -- 0 is a request whose fields are all in range
@@ -80,28 +91,23 @@ pub record GroundAccepted (setup : Setup) (slot grid : ℕ) : Type 0 where
   pub slot-lt : slot < 512
   pub grid-long : grid ≡ 2 * gridPoints setup
 
--- by the questions from the grid's on
-grid-accepted : {setup : Setup} {slot : ℕ} (grid : ℕ) → Valid setup × (slot < 512) → refusalOf (ask {A = Unit {0}} (isGrid setup grid) 9 (accepted tt)) ≡ 0 → GroundAccepted setup slot grid
-unfolding isGrid
+-- by the first four questions and the last
+grid-accepted : {setup : Setup} {slot : ℕ} (grid : ℕ) → Valid setup × (slot < 512) → gridRefusal setup grid ≡ 0 → GroundAccepted setup slot grid
+unfolding gridRefusal isGrid
 grid-accepted {setup} grid first z =
     record { valid = first .0; slot-lt = first .1; grid-long = eqb-true grid (2 * gridPoints setup) (number-yes (isGrid setup grid) 8 _ z .0) }
 
 module _ (setup : Setup) (slot grid : ℕ) where
-  module _ (v : Valid setup) (h : slot < 512) (g : ℕ) (f : g ≡ gridPoints setup) where
-    pub ground-9 : (grid ≡ 2 * g → ⊥) → 9 ≡ groundRefusal setup slot grid
-    unfolding groundRefusal isGrid
-    ground-9 ne = rw (← f, ne-eqb grid (2 * g) ne) (sym (ap refusalOf (slot-passes setup slot v h)))
-
-    pub ground-0 : grid ≡ 2 * g → 0 ≡ groundRefusal setup slot grid
-    unfolding groundRefusal isGrid
-    ground-0 l = rw (← f, eq-eqb grid (2 * g) l) (sym (ap refusalOf (slot-passes setup slot v h)))
+  pub ground-last : Valid setup → slot < 512 → (k : ℕ) → k ≡ gridRefusal setup grid → k ≡ groundRefusal setup slot grid
+  unfolding groundRefusal gridRefusal
+  ground-last v h k q = q ∙ sym (ap refusalOf (slot-passes setup slot v h))
 
   pub ground-numbered : {A : Type 0} (rest : Answer A) → askGround setup slot grid rest ≡ numbered (groundRefusal setup slot grid) rest
   unfolding groundRefusal
   ground-numbered rest = before setup slot (question (isGrid setup grid) 8 no-question) .is
 
   pub ground-accepted : (k : ℕ) → k ≡ groundRefusal setup slot grid → k ≡ 0 → GroundAccepted setup slot grid
-  unfolding groundRefusal
+  unfolding groundRefusal gridRefusal
   ground-accepted k e z = let q = first-yes setup slot _ (sym e ∙ z) in grid-accepted grid (q .0) (q .1)
 
 -- ---- lay
@@ -119,29 +125,24 @@ module _ (setup : Setup) (slot subchannel points grid : ℕ) where
 
     module _ (l : subchannel < n) where
       pub lay-8 : (points ≡ 96 → ⊥) → 8 ≡ layRefusal setup slot subchannel points grid
-      unfolding layRefusal isSubchannel areOnesPoints
+      unfolding layRefusal isSubchannel areLaidPoints
       lay-8 ne = rw (← e, lt-ltb subchannel n l, ne-eqb points 96 ne) (sym (ap refusalOf (slot-passes setup slot v h)))
 
-      module _ (p : points ≡ 96) (g : ℕ) (f : g ≡ gridPoints setup) where
-        pub lay-9 : (grid ≡ 2 * g → ⊥) → 9 ≡ layRefusal setup slot subchannel points grid
-        unfolding layRefusal isSubchannel areOnesPoints isGrid
-        lay-9 ne = rw (← e, lt-ltb subchannel n l, eq-eqb points 96 p, ← f, ne-eqb grid (2 * g) ne) (sym (ap refusalOf (slot-passes setup slot v h)))
-
-        pub lay-0 : grid ≡ 2 * g → 0 ≡ layRefusal setup slot subchannel points grid
-        unfolding layRefusal isSubchannel areOnesPoints isGrid
-        lay-0 i = rw (← e, lt-ltb subchannel n l, eq-eqb points 96 p, ← f, eq-eqb grid (2 * g) i) (sym (ap refusalOf (slot-passes setup slot v h)))
+      pub lay-last : points ≡ 96 → (k : ℕ) → k ≡ gridRefusal setup grid → k ≡ layRefusal setup slot subchannel points grid
+      unfolding layRefusal gridRefusal isSubchannel areLaidPoints
+      lay-last p k q = q ∙ rw (← e, lt-ltb subchannel n l, eq-eqb points 96 p) (sym (ap refusalOf (slot-passes setup slot v h)))
 
   pub lay-numbered : {A : Type 0} (rest : Answer A) → askLay setup slot subchannel points grid rest ≡ numbered (layRefusal setup slot subchannel points grid) rest
   unfolding layRefusal
   lay-numbered rest =
-      before setup slot (question (isSubchannel setup subchannel) 4 (question (areOnesPoints points) 7 (question (isGrid setup grid) 8 no-question))) .is
+      before setup slot (question (isSubchannel setup subchannel) 4 (question (areLaidPoints points) 7 (question (isGrid setup grid) 8 no-question))) .is
 
   pub lay-accepted : (k : ℕ) → k ≡ layRefusal setup slot subchannel points grid → k ≡ 0 → LayAccepted setup slot subchannel points grid
-  unfolding layRefusal isSubchannel areOnesPoints
+  unfolding layRefusal gridRefusal isSubchannel areLaidPoints
   lay-accepted k e z =
       let q = first-yes setup slot _ (sym e ∙ z) in
       let q₅ = number-yes (isSubchannel setup subchannel) 4 _ (q .1) in
-      let q₈ = number-yes (areOnesPoints points) 7 _ (q₅ .1) in
+      let q₈ = number-yes (areLaidPoints points) 7 _ (q₅ .1) in
       record {
         fits = grid-accepted grid (q .0) (q₈ .1);
         subchannel-lt = ltb-true subchannel (subchannels setup) (q₅ .0);
@@ -160,21 +161,16 @@ module _ (setup : Setup) (slot points grid : ℕ) where
     unfolding emptyRefusal arePoints
     empty-8 ne = rw (← e, ne-eqb points (96 * n) ne) (sym (ap refusalOf (slot-passes setup slot v h)))
 
-    module _ (p : points ≡ 96 * n) (g : ℕ) (f : g ≡ gridPoints setup) where
-      pub empty-9 : (grid ≡ 2 * g → ⊥) → 9 ≡ emptyRefusal setup slot points grid
-      unfolding emptyRefusal arePoints isGrid
-      empty-9 ne = rw (← e, eq-eqb points (96 * n) p, ← f, ne-eqb grid (2 * g) ne) (sym (ap refusalOf (slot-passes setup slot v h)))
-
-      pub empty-0 : grid ≡ 2 * g → 0 ≡ emptyRefusal setup slot points grid
-      unfolding emptyRefusal arePoints isGrid
-      empty-0 l = rw (← e, eq-eqb points (96 * n) p, ← f, eq-eqb grid (2 * g) l) (sym (ap refusalOf (slot-passes setup slot v h)))
+    pub empty-last : points ≡ 96 * n → (k : ℕ) → k ≡ gridRefusal setup grid → k ≡ emptyRefusal setup slot points grid
+    unfolding emptyRefusal gridRefusal arePoints
+    empty-last p k q = q ∙ rw (← e, eq-eqb points (96 * n) p) (sym (ap refusalOf (slot-passes setup slot v h)))
 
   pub empty-numbered : {A : Type 0} (rest : Answer A) → askEmpty setup slot points grid rest ≡ numbered (emptyRefusal setup slot points grid) rest
   unfolding emptyRefusal
   empty-numbered rest = before setup slot (question (arePoints setup points) 7 (question (isGrid setup grid) 8 no-question)) .is
 
   pub empty-accepted : (k : ℕ) → k ≡ emptyRefusal setup slot points grid → k ≡ 0 → EmptyAccepted setup slot points grid
-  unfolding emptyRefusal arePoints
+  unfolding emptyRefusal gridRefusal arePoints
   empty-accepted k e z =
       let q = first-yes setup slot _ (sym e ∙ z) in
       let q₈ = number-yes (arePoints setup points) 7 _ (q .1) in

@@ -1,14 +1,18 @@
 -- The questions of ground, lay and empty as a number. No reader needs this to know what the calls do.
 use Prim.Native.Nat.{ℕ}
-use Rattle.base.specs.Answer.{accepted, refusalOf}
+use Rattle.base.specs.Answer.{accepted, ask, refusalOf}
 use Rattle.map.specs.declared.Setup.{Setup}
-use Rattle.lengths.specs.Question.{askSlot, askGround, askLay, askEmpty}
+use Rattle.lengths.specs.Question.{isGrid, askSlot, askGround, askLay, askEmpty}
 
 -- the number of the first of questions 1, 2, 3 and 4 that is answered no, 0 where none is
 unfoldable pub slotRefusal : (setup : Setup) (slot : ℕ) → ℕ
 slotRefusal setup slot = refusalOf (askSlot {A = Unit {0}} setup slot (accepted tt))
 
--- likewise of ground's questions, 1, 2, 3, 4, 9
+-- of question 9, which comes last in each call
+unfoldable pub gridRefusal : (setup : Setup) (grid : ℕ) → ℕ
+gridRefusal setup grid = refusalOf (ask {A = Unit {0}} (isGrid setup grid) 9 (accepted tt))
+
+-- of ground's questions, 1, 2, 3, 4, 9
 unfoldable pub groundRefusal : (setup : Setup) (slot grid : ℕ) → ℕ
 groundRefusal setup slot grid = refusalOf (askGround {A = Unit {0}} setup slot grid (accepted tt))
 

@@ -14,8 +14,8 @@ unfoldable pub arePoints : (setup : Setup) (floats : ℕ) → Bool
 arePoints setup floats = eqb floats (96 * subchannels setup)
 
 -- Document 02, wish 4: where one subchannel is laid, question 8 is about 96 floats.
-unfoldable pub areOnesPoints : (floats : ℕ) → Bool
-areOnesPoints floats = eqb floats 96
+unfoldable pub areLaidPoints : (floats : ℕ) → Bool
+areLaidPoints floats = eqb floats 96
 
 -- 9 Is the grid just 2·size floats for each symbol of a slot?
 unfoldable pub isGrid : (setup : Setup) (floats : ℕ) → Bool
@@ -36,7 +36,7 @@ abbrev pub askLay : {A : Type 0} → (setup : Setup) (slot subchannel points gri
 askLay setup slot subchannel points grid rest =
     askSlot setup slot
     (ask (isSubchannel setup subchannel) 5
-    (ask (areOnesPoints points) 8
+    (ask (areLaidPoints points) 8
     (ask (isGrid setup grid) 9 rest)))
 
 -- the questions of empty: 1, 2, 3, 4, 8, 9

@@ -4,7 +4,7 @@ ghost use mathlib.Core.Path.{_≡_};
 ghost use Prim.Native.Nat.{_<_};
 ghost use Rattle.map.specs.Model.{Valid};
 ghost use Rattle.lengths.specs.Length.{gridPoints, pointsLength, gridLength};
-ghost use Rattle.lengths.specs.Model.{slotRefusal, groundRefusal, layRefusal, emptyRefusal};
+ghost use Rattle.lengths.specs.Model.{slotRefusal, gridRefusal, groundRefusal, layRefusal, emptyRefusal};
 
 // The points of a slot's grid.
 pub fn grid_points(setup: Setup) -> usize
@@ -58,7 +58,18 @@ fn slot_refusal(setup: Setup, slot: usize) -> u8
     0
 }
 
-// Likewise of ground's questions: 1, 2, 3, 4, 9.
+// Of question 9, which comes last in each call.
+fn grid_refusal(setup: Setup, grid: usize) -> u8
+    requires { ⌜ Valid setup ⌝ }
+    ensures { λ r. ⌜ r ≡ gridRefusal setup grid ⌝ }
+{
+    if grid != 2 * grid_points(setup) {
+        return 9;
+    }
+    0
+}
+
+// Of ground's questions: 1, 2, 3, 4, 9.
 pub fn ground_refusal(setup: Setup, slot: usize, grid: usize) -> u8
     ensures { λ r. ⌜ r ≡ groundRefusal setup slot grid ⌝ }
 {
@@ -66,10 +77,7 @@ pub fn ground_refusal(setup: Setup, slot: usize, grid: usize) -> u8
     if k != 0 {
         return k;
     }
-    if grid != 2 * grid_points(setup) {
-        return 9;
-    }
-    0
+    grid_refusal(setup, grid)
 }
 
 // Of lay's: 1, 2, 3, 4, 5, 8, 9.
@@ -86,13 +94,10 @@ pub fn lay_refusal(setup: Setup, slot: usize, subchannel: usize, points: usize, 
     if points != 96 {
         return 8;
     }
-    if grid != 2 * grid_points(setup) {
-        return 9;
-    }
-    0
+    grid_refusal(setup, grid)
 }
 
-// And of empty's: 1, 2, 3, 4, 8, 9.
+// Of empty's: 1, 2, 3, 4, 8, 9.
 pub fn empty_refusal(setup: Setup, slot: usize, points: usize, grid: usize) -> u8
     ensures { λ r. ⌜ r ≡ emptyRefusal setup slot points grid ⌝ }
 {
@@ -103,8 +108,5 @@ pub fn empty_refusal(setup: Setup, slot: usize, points: usize, grid: usize) -> u
     if points != 96 * map::subchannels(setup) {
         return 8;
     }
-    if grid != 2 * grid_points(setup) {
-        return 9;
-    }
-    0
+    grid_refusal(setup, grid)
 }

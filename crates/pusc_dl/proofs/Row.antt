@@ -1,18 +1,26 @@
 -- The spots of a subchannel from the clusters of its group and its bases.
-use mathlib.Core.Path.{_≡_}
+use mathlib.Core.Path.{_≡_, _∙_}
 use mathlib.Core.List.{List}
 use Prim.Native.Nat.{ℕ, _+_, _*_, _/_, _%_, _<_}
+use native.Mathlib.Nat.{add-mod-mod}
 use native.Mathlib.Omega.{arith}
 use Rattle.base.specs.Steps.{rotate, entry}
 use Rattle.base.specs.Tabulate.{tabulate}
 use Rattle.base.specs.Model.{Starts}
 use Rattle.base.proofs.Tabulate.{entry-of}
 use Rattle.pusc_dl.specs.Cluster.{unrenumber, clusterPlace}
-use Rattle.pusc_dl.specs.Group.{clusterStarts, groupSize, groupData}
+use Rattle.pusc_dl.specs.Group.{clusterStarts, groupSize, baseOf, groupData}
 use Rattle.pusc_dl.specs.Map.{groupUsed}
 use Rattle.pusc_dl.specs.Model.{turnedBase, groupCluster, groupSpot}
+use Rattle.pusc_dl.proofs.Tables.{GoesOn}
 use Rattle.pusc_dl.proofs.Cluster.{renumber-perm}
 use Rattle.pusc_dl.proofs.Group.{data-lt, cluster-runs}
+
+-- an entry of a base that goes on past M, turned by the cell
+pub base-turned : {m n : ℕ} {long base : List ℕ} → GoesOn m n long base → (g cell i x r : ℕ) → groupSize g ≡ m → ((j : ℕ) → baseOf m j ≡ entry base j) → i < n
+    → x ≡ entry long i → (r ≡ (x + cell % m) % m) × (r < m) → (r ≡ turnedBase g cell i) × (r < groupSize g)
+unfolding turnedBase
+base-turned {m = m} t g cell i x r e b h q p = rw e (p .0 ∙ rw (q, t .is i h, b (i % m), add-mod-mod), p .1)
 
 -- a turn of the loop over k: what is known of subchannel s, counted in group g, of the group's clusters, and of the bases
 pub record Turn (cell : ℕ) (clusters bases : List ℕ) (g s k n : ℕ) : Type 0 where

@@ -38,6 +38,10 @@ b12-goes-on = goes-on 12 36 base12Thrice base12 base12Inverse (lit< tt) tt b12-p
 pub b8-goes-on : GoesOn 8 32 base8FourTimes base8
 b8-goes-on = goes-on 8 32 base8FourTimes base8 base8Inverse (lit< tt) tt b8-perm
 
+-- the starts of the six groups by their formula, a·g + b·(g mod 2), by one computed test for each list
+pub start-is : (starts : List ℕ) (a b : ℕ) → T (all (λ g. eqb (a * g + b * (g % 2)) (entry starts g)) 6) → (g : ℕ) → g < 6 → a * g + b * (g % 2) ≡ entry starts g
+start-is starts a b test g h = eqb→eq _ _ (all-at (λ g. eqb (a * g + b * (g % 2)) (entry starts g)) 6 test g h)
+
 -- a slot has two symbols, so the offset in the slot tells the parity
 pub pilot-parity : (slot o u : ℕ) → isClusterPilot (slot * 2 + o) u ≡ isClusterPilot o u
 unfolding isClusterPilot firstPilot secondPilot

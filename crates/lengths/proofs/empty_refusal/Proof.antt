@@ -3,7 +3,7 @@ use native.Mathlib.Omega.{arith}
 use borrow.Author.Needs.{needs}
 use Rattle.map.proofs.ByMode.{few}
 use Rattle.lengths.specs.Model.{emptyRefusal}
-use Rattle.lengths.proofs.Refusal.{slot-no, slot-valid, slot-below, empty-8, empty-9, empty-0}
+use Rattle.lengths.proofs.Refusal.{slot-no, slot-valid, slot-below, empty-8, empty-last}
 use Rattle.lengths.proofs.empty_refusal.Statement.{statement}
 use Rattle.lengths.proofs.empty_refusal.Tie as tie
 
@@ -19,5 +19,4 @@ empty-refusal-spec =
     tie.close
     (tie.spec
     (λ c κs. search needs) returns (λ c κs. search needs) mul-if2 (λ c. search (empty-8, slot-valid, slot-below, needs))
-    (λ c κs. search (slot-valid, needs)) (λ c. search needs) (λ c. search (empty-9, slot-valid, slot-below, needs))
-    (λ c. search (empty-0, slot-valid, slot-below, needs)))
+    (λ c κs. search (slot-valid, needs)) (λ c. search (empty-last, slot-valid, slot-below, needs)))

@@ -1,7 +1,7 @@
 -- `lengths::lay_refusal` meets its contract.
 use borrow.Author.Needs.{needs}
 use Rattle.lengths.specs.Model.{layRefusal}
-use Rattle.lengths.proofs.Refusal.{slot-no, slot-valid, slot-below, lay-5, lay-8, lay-9, lay-0}
+use Rattle.lengths.proofs.Refusal.{slot-no, slot-valid, slot-below, lay-5, lay-8, lay-last}
 use Rattle.lengths.proofs.lay_refusal.Statement.{statement}
 use Rattle.lengths.proofs.lay_refusal.Tie as tie
 
@@ -9,13 +9,10 @@ returns : tie.Need-returns
 unfolding layRefusal
 returns c = slot-no _ _ _ _ (c .before .slot-refusal .ensures) (c .if1 .taken)
 
-grid-points-requires : tie.Need-grid-points-requires
-grid-points-requires c κs = search (slot-valid, needs)
-
 pub lay-refusal-spec : {M : Type 1} → statement M
 lay-refusal-spec =
     tie.close
     (tie.spec
     (λ c κs. search needs) returns (λ c κs. search needs) (λ c. search (lay-5, slot-valid, slot-below, needs))
-    (λ c. search (lay-8, slot-valid, slot-below, needs)) grid-points-requires (λ c. search needs)
-    (λ c. search (lay-9, slot-valid, slot-below, needs)) (λ c. search (lay-0, slot-valid, slot-below, needs)))
+    (λ c. search (lay-8, slot-valid, slot-below, needs)) (λ c κs. search (slot-valid, needs))
+    (λ c. search (lay-last, slot-valid, slot-below, needs)))

@@ -1,14 +1,13 @@
 -- `pusc_dl::turned_base` meets its contract.
-use mathlib.Core.Path.{_≡_, sym, _∙_}
+use mathlib.Core.Path.{_≡_, refl, sym, ap, _∙_}
 use Prim.Native.Nat.{_<_}
-use native.Mathlib.Nat.{add-mod-mod}
 use native.Mathlib.Omega.{arith}
 use borrow.Author.Needs.{needs}
 use Rattle.base.specs.Steps.{entry}
 use Rattle.pusc_dl.specs.Group.{groupSize, ofSize, baseOf}
-use Rattle.pusc_dl.specs.Model.{turnedBase}
 use Rattle.pusc_dl.proofs.Tables.{b12-goes-on, b8-goes-on}
 use Rattle.pusc_dl.proofs.Group.{size-8}
+use Rattle.pusc_dl.proofs.Row.{base-turned}
 use Rattle.pusc_dl.proofs.turned_base.Statement.{statement}
 use Rattle.pusc_dl.proofs.turned_base.Tie as tie
 
@@ -26,18 +25,18 @@ eight-lt : (c : tie.Else1) → entry (c .before .before .args .eight .now) (c .b
 eight-lt c = rw (c .before .before .pre .1) (b8-goes-on .below (c .before .before .args .i) (omega (arith, eight c)))
 
 returns : tie.Need-returns
-unfolding turnedBase ofSize baseOf
+unfolding ofSize baseOf
 returns c =
     let t = c .before .before in
-    rw (twelve t)
-    (c .reduce16 .ensures .0 ∙ rw (t .before .before .pre .0, b12-goes-on .is (t .before .before .args .i) (omega (arith, twelve t)), add-mod-mod), c .reduce16 .ensures .1)
+    let s = t .before .before in
+    base-turned b12-goes-on (s .args .g) (s .args .cell) (s .args .i) _ _ (twelve t) (λ j. refl) (omega (arith, twelve t)) (ap (λ l. entry l (s .args .i)) (s .pre .0)) (c .reduce16 .ensures)
 
 returns-2 : tie.Need-returns-2
-unfolding turnedBase ofSize baseOf
+unfolding ofSize baseOf
 returns-2 c =
     let t = c .before .before in
-    rw (eight t)
-    (c .reduce162 .ensures .0 ∙ rw (t .before .before .pre .1, b8-goes-on .is (t .before .before .args .i) (omega (arith, eight t)), add-mod-mod), c .reduce162 .ensures .1)
+    let s = t .before .before in
+    base-turned b8-goes-on (s .args .g) (s .args .cell) (s .args .i) _ _ (eight t) (λ j. refl) (omega (arith, eight t)) (ap (λ l. entry l (s .args .i)) (s .pre .1)) (c .reduce162 .ensures)
 
 pub turned-base-spec : {M : Type 1} → statement M
 turned-base-spec =
