@@ -5,4 +5,5 @@ pub mod Perm
 pub mod LeaveOut
 pub mod Table
 pub mod Tabulate
+pub mod Rank
 pub mod Chain

@@ -3,4 +3,5 @@ pub mod Choice
 pub mod Answer
 pub mod Steps
 pub mod Tabulate
+pub mod Rank
 pub mod Model

@@ -1,6 +1,7 @@
 // The steps that the permutations are made of.
 ghost use mathlib.Core.Path.{_≡_};
 ghost use Prim.Native.Nat.{_+_, _%_, _≤_, _<_};
+ghost use Rattle.base.specs.Choice.{isUpTo};
 ghost use Rattle.base.specs.Steps.{rotate as Rotate, unrotate as Unrotate, skip as Skip, unskip as Unskip};
 
 // An entry of a table, as a number to count with.
@@ -60,4 +61,14 @@ pub fn unskip(p: usize, place: usize) -> usize
     ensures { λ x. ⌜ (x ≡ Unskip p place) × (x ≤ place) ⌝ }
 {
     if place <= p { place } else { place - 1 }
+}
+
+// Is a number one of 1, 2, .., most?
+pub fn is_up_to(most: usize, number: usize) -> bool
+    ensures { λ r. ⌜ r ≡ isUpTo most number ⌝ }
+{
+    if number == 0 {
+        return false;
+    }
+    number <= most
 }
