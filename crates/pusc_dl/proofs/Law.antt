@@ -179,5 +179,10 @@ module _ (cell : ℕ) where
           div-add-mod' i 24,
         )
 
+    -- the group of its used number is its subchannel's
+    pub point-group : usedGroup cell (spotOf cell s i .used) ≡ groupIn subchannelStarts s
+    unfolding spotOf
+    point-group = used-group (i / 24) g d y-lt g-lt d-lt
+
   pub law : SlotLaw 2 60 1680 isClusterPilot (spotOf cell) (addressOf cell)
   law = record { lies = lies; back = found; names = names; forth = placed }

@@ -3,5 +3,6 @@ pub mod Tables
 pub mod Cluster
 pub mod Group
 pub mod Law
+pub mod Lit
 pub mod Halves
 pub mod Row

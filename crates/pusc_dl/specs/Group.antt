@@ -1,6 +1,7 @@
 -- Major groups. Document 01, "Partial usage": six groups start at logical 0, 24, 40, 64, 80, 104; even groups have 12 subchannels, odd ones 8, numbered through.
+use mathlib.Core.Bool.{Bool}
 use mathlib.Core.List.{List, [], _∷_}
-use Prim.Native.Nat.{ℕ, _+_, _*_, _/_, _%_}
+use Prim.Native.Nat.{ℕ, _+_, _*_, _/_, _%_, _^_}
 use lib.Dec.{eqb, ltb}
 use Rattle.base.specs.Choice.{pick}
 use Rattle.base.specs.Steps.{entry, unrotate}
@@ -50,3 +51,7 @@ groupSubchannel size cell d = unrotate size (d / size) (baseInverse size (unrota
 -- The reverse: its index mod 24.
 unfoldable pub groupIndex : (size cell d : ℕ) → ℕ
 groupIndex size cell d = unrotate 24 (13 * groupSubchannel size cell d) (d / size)
+
+-- Document 02, wish 5: a mask, bit g for group g.
+unfoldable pub hasGroup : (mask g : ℕ) → Bool
+hasGroup mask g = eqb (mask / 2 ^ g % 2) 1

@@ -14,13 +14,14 @@ ghost use mathlib.Core.Bool.{false};
 ghost use Prim.Native.Nat.{_+_, _*_, _/_, _%_, _<_};
 ghost use Rattle.base.specs.Steps.{entry, unrotate as Unrotate};
 ghost use Rattle.base.specs.Tabulate.{tabulate};
+ghost use Rattle.base.specs.Rank.{rank};
 ghost use Rattle.base.specs.Model.{Starts};
 ghost use Rattle.carriers.specs.Model.{spotNumber};
 ghost use Rattle.pusc_dl.specs.Cluster as cluster;
 ghost use Rattle.pusc_dl.specs.Cluster.{firstPilot, secondPilot, isClusterPilot, clusterPlace, clusterData};
-ghost use Rattle.pusc_dl.specs.Group.{clusterStarts, subchannelStarts, groupIn, groupSize, ofSize, groupData, groupSubchannel, groupIndex};
+ghost use Rattle.pusc_dl.specs.Group.{clusterStarts, subchannelStarts, groupIn, groupSize, ofSize, groupData, groupSubchannel, groupIndex, hasGroup};
 ghost use Rattle.pusc_dl.specs.Map.{groupUsed, usedGroup, usedData, spotOf, addressOf};
-ghost use Rattle.pusc_dl.specs.Model.{base12Thrice, base8FourTimes, turnedBase, groupCluster, groupSpot};
+ghost use Rattle.pusc_dl.specs.Model.{base12Thrice, base8FourTimes, turnedBase, groupCluster, groupSpot, clusterLit};
 
 // A cluster's number in the order of the carriers, and its number after the renumbering. They are never added or compared.
 pub struct Physical(pub usize);
@@ -358,6 +359,250 @@ const CLUSTER_STARTS: [usize; 6] = [0, 24, 40, 64, 80, 104];
 
 const SUBCHANNEL_STARTS: [usize; 6] = [0, 12, 20, 32, 40, 52];
 
+// The bit of each major group, by the places of R, twice over so that no sum is reduced.
+const GROUP_BITS: [u8; 240] = [
+    1,
+    32,
+    2,
+    16,
+    2,
+    16,
+    4,
+    32,
+    2,
+    32,
+    2,
+    16,
+    4,
+    8,
+    1,
+    8,
+    4,
+    32,
+    4,
+    32,
+    1,
+    32,
+    1,
+    32,
+    2,
+    16,
+    1,
+    32,
+    2,
+    32,
+    4,
+    8,
+    1,
+    16,
+    2,
+    8,
+    1,
+    4,
+    2,
+    8,
+    2,
+    16,
+    1,
+    16,
+    4,
+    32,
+    1,
+    8,
+    1,
+    8,
+    2,
+    8,
+    4,
+    4,
+    1,
+    16,
+    4,
+    8,
+    2,
+    4,
+    8,
+    4,
+    16,
+    1,
+    16,
+    4,
+    16,
+    4,
+    16,
+    4,
+    16,
+    2,
+    32,
+    1,
+    8,
+    1,
+    32,
+    4,
+    32,
+    4,
+    16,
+    4,
+    8,
+    4,
+    16,
+    2,
+    8,
+    4,
+    16,
+    4,
+    32,
+    1,
+    16,
+    2,
+    16,
+    1,
+    8,
+    1,
+    16,
+    1,
+    16,
+    2,
+    8,
+    4,
+    32,
+    4,
+    8,
+    1,
+    4,
+    1,
+    16,
+    1,
+    16,
+    1,
+    16,
+    2,
+    32,
+    1,
+    16,
+    1,
+    1,
+    32,
+    2,
+    16,
+    2,
+    16,
+    4,
+    32,
+    2,
+    32,
+    2,
+    16,
+    4,
+    8,
+    1,
+    8,
+    4,
+    32,
+    4,
+    32,
+    1,
+    32,
+    1,
+    32,
+    2,
+    16,
+    1,
+    32,
+    2,
+    32,
+    4,
+    8,
+    1,
+    16,
+    2,
+    8,
+    1,
+    4,
+    2,
+    8,
+    2,
+    16,
+    1,
+    16,
+    4,
+    32,
+    1,
+    8,
+    1,
+    8,
+    2,
+    8,
+    4,
+    4,
+    1,
+    16,
+    4,
+    8,
+    2,
+    4,
+    8,
+    4,
+    16,
+    1,
+    16,
+    4,
+    16,
+    4,
+    16,
+    4,
+    16,
+    2,
+    32,
+    1,
+    8,
+    1,
+    32,
+    4,
+    32,
+    4,
+    16,
+    4,
+    8,
+    4,
+    16,
+    2,
+    8,
+    4,
+    16,
+    4,
+    32,
+    1,
+    16,
+    2,
+    16,
+    1,
+    8,
+    1,
+    16,
+    1,
+    16,
+    2,
+    8,
+    4,
+    32,
+    4,
+    8,
+    1,
+    4,
+    1,
+    16,
+    1,
+    16,
+    1,
+    16,
+    2,
+    32,
+    1,
+    16,
+    1,
+];
+
 // The renumbering; with its inverse, below, the only passage between the two numbers of a cluster.
 fn renumber(cell: usize, p: Physical) -> Logical
     requires { ⌜ (cell < 32) × (p .0 < 120) ⌝ }
@@ -685,4 +930,55 @@ pub fn spots(cell: usize, subchannel: usize) -> [u16; 48]
 {
     let g = group_in(SUBCHANNEL_STARTS, subchannel);
     group_spots(cell, g, subchannel - subchannel_start(g))
+}
+
+// Whether a mask has a group.
+fn has_group(mask: usize, g: usize) -> bool
+    requires { ⌜ g < 6 ⌝ }
+    ensures { λ r. ⌜ r ≡ hasGroup mask g ⌝ }
+{
+    (mask >> g) % 2 == 1
+}
+
+// Whether a mask has a subchannel's group.
+pub fn is_subchannel_lit(mask: usize, subchannel: usize) -> bool
+    ensures { λ r. ⌜ r ≡ hasGroup mask (groupIn subchannelStarts subchannel) ⌝ }
+{
+    has_group(mask, group_in(SUBCHANNEL_STARTS, subchannel))
+}
+
+// Whether it has the group of a used number's cluster.
+pub fn is_used_lit(cell: usize, mask: usize, used: usize) -> bool
+    requires { ⌜ (cell < 32) × (used < 1680) ⌝ }
+    ensures { λ r. ⌜ r ≡ hasGroup mask (usedGroup cell used) ⌝ }
+{
+    let logical = renumber(cell, Physical(used / 14));
+    has_group(mask, group_in(CLUSTER_STARTS, logical.0))
+}
+
+// How many subchannels a mask lights: 12 for each even group, 8 for each odd one.
+pub fn lit_subchannels(mask: usize) -> usize
+    requires { ⌜ mask < 64 ⌝ }
+    ensures { λ r. ⌜ r ≡ rank (λ s. hasGroup mask (groupIn subchannelStarts s)) 60 ⌝ }
+{
+    let even = mask % 2 + mask / 4 % 2 + mask / 16 % 2;
+    let odd = mask / 2 % 2 + mask / 8 % 2 + mask / 32 % 2;
+    12 * even + 8 * odd
+}
+
+// Which physical clusters a mask lights, 1 for each that it does.
+pub fn lit_clusters(cell: usize, mask: usize) -> [u8; 120]
+    requires { ⌜ (cell < 32) × (mask < 64) ⌝ }
+    ensures { λ r. ⌜ r ≡ tabulate 120 (clusterLit cell mask) ⌝ }
+{
+    let bits = GROUP_BITS;
+    let own = mask as u8;
+    let turn = 13 * cell % 120;
+    let mut lit = [0; 120];
+    let mut p = 0;
+    while p < 120 {
+        lit[p] = (own & bits[p + turn] != 0) as u8;
+        p += 1;
+    }
+    lit
 }

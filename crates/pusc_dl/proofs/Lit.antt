@@ -1,0 +1,50 @@
+-- What a mask lights, by computed tests over all 64 masks.
+use mathlib.Core.Path.{_≡_, ap, _∙_}
+use mathlib.Core.Bool.{Bool, not}
+use mathlib.Core.List.{List}
+use Prim.Native.Nat.{ℕ, _+_, _*_, _/_, _%_, _^_, _<_}
+use native.Mathlib.Omega.{arith}
+use lib.Dec.{eqb, eqb→eq}
+use lib.Bits.{bitAnd}
+use mir.Val.{boolByte}
+use Rattle.base.specs.Choice.{pick}
+use Rattle.base.specs.Steps.{entry}
+use Rattle.base.specs.Rank.{rank}
+use Rattle.base.proofs.Table.{all, all-at}
+use Rattle.base.proofs.Tabulate.{entry-of}
+use Rattle.pusc_dl.specs.Table.{renumbering}
+use Rattle.pusc_dl.specs.Cluster.{renumber}
+use Rattle.pusc_dl.specs.Group.{clusterStarts, subchannelStarts, groupIn, hasGroup}
+use Rattle.pusc_dl.specs.Map.{logicalOf, usedGroup}
+use Rattle.pusc_dl.specs.Model.{groupBits, clusterLit}
+use Rattle.pusc_dl.proofs.Group.{cluster-runs}
+use Rattle.pusc_dl.proofs.Tables.{r-perm}
+
+-- the lit subchannels: 12 for each even group, 8 for each odd one
+abbrev counted : ℕ → ℕ
+counted mask = 12 * (mask % 2 + mask / 4 % 2 + mask / 16 % 2) + 8 * (mask / 2 % 2 + mask / 8 % 2 + mask / 32 % 2)
+
+pub lit-count : (mask : ℕ) → mask < 64 → counted mask ≡ rank (λ s. hasGroup mask (groupIn subchannelStarts s)) 60
+unfolding rank hasGroup groupIn
+lit-count mask h = eqb→eq _ _ (all-at (λ m. eqb (counted m) (rank (λ s. hasGroup m (groupIn subchannelStarts s)) 60)) 64 tt mask h)
+
+-- a group's bit is in the mask
+abbrev bit-in : ℕ → ℕ → ℕ
+bit-in mask bit = boolByte (not (eqb (bitAnd mask bit) 0))
+
+bit-lit : (mask g : ℕ) → mask < 64 → g < 6 → bit-in mask (2 ^ g) ≡ pick (hasGroup mask g) 1 0
+unfolding hasGroup
+bit-lit mask g h l =
+    let f : ℕ → ℕ → Bool = λ m g. eqb (bit-in m (2 ^ g)) (pick (hasGroup m g) 1 0) in
+    eqb→eq _ _ (all-at (f mask) 6 (all-at (λ m. all (f m) 6) 64 tt mask h) g l)
+
+-- a cluster by the bit of its group, which stands in the table at its place in R
+pub cluster-lit : (bits : List ℕ) → bits ≡ groupBits → (cell mask p : ℕ) → mask < 64 → p < 120 → bit-in mask (entry bits (p + 13 * cell % 120)) ≡ clusterLit cell mask p
+unfolding clusterLit usedGroup logicalOf renumber
+cluster-lit bits e cell mask p h l =
+    let j = (p + 13 * cell % 120) % 120 in
+    let g = groupIn clusterStarts (entry renumbering j) in
+    let same : j ≡ (p * 14 / 14 + 13 * cell) % 120 = omega arith in
+    ap (bit-in mask) (entry-of bits 240 _ e (p + 13 * cell % 120) (omega arith))
+    ∙ bit-lit mask g h (cluster-runs .group-lt _ (r-perm .to-lt j (omega arith)))
+    ∙ ap (λ (i : ℕ). pick (hasGroup mask (groupIn clusterStarts (entry renumbering i))) 1 0) same
