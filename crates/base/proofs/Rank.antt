@@ -72,3 +72,9 @@ module _ (test : ℕ → Bool) where
   unfolding rank
   rank-all zero every = refl
   rank-all (suc n) every = rank-yes n (every n (omega arith)) ∙ omega (arith, rank-all n (λ s h. every s (omega arith)))
+
+-- ranks go by what the test says
+pub rank-as : (f g : ℕ → Bool) (n : ℕ) → ((s : ℕ) → f s ≡ g s) → rank f n ≡ rank g n
+unfolding rank
+rank-as f g zero same = refl
+rank-as f g (suc n) same = rw (rank-as f g n same, same n)

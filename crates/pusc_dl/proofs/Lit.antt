@@ -1,15 +1,16 @@
 -- What a mask lights, by computed tests over all 64 masks.
 use mathlib.Core.Path.{_≡_, ap, _∙_}
-use mathlib.Core.Bool.{Bool, not}
+use mathlib.Core.Bool.{Bool, true, not}
 use mathlib.Core.List.{List}
 use Prim.Native.Nat.{ℕ, _+_, _*_, _/_, _%_, _^_, _<_}
 use native.Mathlib.Omega.{arith}
-use lib.Dec.{eqb, eqb→eq}
+use lib.Dec.{eqb, ltb, eqb→eq}
 use lib.Bits.{bitAnd}
 use mir.Val.{boolByte}
 use Rattle.base.specs.Choice.{pick}
 use Rattle.base.specs.Steps.{entry}
 use Rattle.base.specs.Rank.{rank}
+use Rattle.base.proofs.Test.{cases}
 use Rattle.base.proofs.Table.{all, all-at}
 use Rattle.base.proofs.Tabulate.{entry-of}
 use Rattle.pusc_dl.specs.Table.{renumbering}
@@ -48,3 +49,19 @@ cluster-lit bits e cell mask p h l =
     ap (bit-in mask) (entry-of bits 240 _ e (p + 13 * cell % 120) (omega arith))
     ∙ bit-lit mask g h (cluster-runs .group-lt _ (r-perm .to-lt j (omega arith)))
     ∙ ap (λ (i : ℕ). pick (hasGroup mask (groupIn clusterStarts (entry renumbering i))) 1 0) same
+
+-- 63 has every group
+pub all-groups : (starts : List ℕ) (x : ℕ) → hasGroup 63 (groupIn starts x) ≡ true
+unfolding groupIn hasGroup
+all-groups starts x =
+    cases (ltb x (entry starts 1))
+    (λ e. rw e)
+    (λ e₁. cases (ltb x (entry starts 2))
+    (λ e. rw (e₁, e))
+    (λ e₂. cases (ltb x (entry starts 3))
+    (λ e. rw (e₁, e₂, e))
+    (λ e₃. cases (ltb x (entry starts 4))
+    (λ e. rw (e₁, e₂, e₃, e))
+    (λ e₄. cases (ltb x (entry starts 5))
+    (λ e. rw (e₁, e₂, e₃, e₄, e))
+    (λ e. rw (e₁, e₂, e₃, e₄, e))))))

@@ -1,0 +1,110 @@
+-- THE LAW OF THE MASK: it rests on the law of the map, and of PUSC downlink on whose group a point's used number is in.
+use mathlib.Core.Path.{_≡_, refl, sym, ap, _∙_}
+use mathlib.Core.Bool.{true}
+use Prim.Native.Nat.{ℕ, _+_, _*_, _<_}
+use native.Mathlib.Omega.{arith}
+use lib.Arith.{digits-div}
+use lib.Dec.{eqb, ltb}
+use borrow.Author.Tests.{eqb-true, leb-true, eq-eqb, ne-eqb}
+use Rattle.base.specs.Choice.{isUpTo}
+use Rattle.base.specs.Rank.{rank}
+use Rattle.base.proofs.Test.{cases, true-false}
+use Rattle.base.proofs.Rank.{rank-law, rank-all, rank-as}
+use Rattle.carriers.specs.Band.{carrierOf, usedOf}
+use Rattle.carriers.proofs.Guards.{used-carrier}
+use Rattle.centre.proofs.Law.{one-column}
+use Rattle.pusc_dl.specs.declared.Physical.{Physical}
+use Rattle.pusc_dl.specs.Cluster.{renumber}
+use Rattle.pusc_dl.specs.Group.{clusterStarts, subchannelStarts, groupIn, hasGroup}
+use Rattle.pusc_dl.specs.Map.{logicalOf, usedGroup}
+use Rattle.pusc_dl.proofs.Law.{point-group}
+use Rattle.pusc_dl.proofs.Lit.{all-groups}
+use Rattle.map.specs.declared.Setup.{Setup}
+use Rattle.map.specs.Mode.{setupWith, subchannels, band, spotOf}
+use Rattle.map.specs.Place.{Place, usedCarrier, placeAt}
+use Rattle.map.specs.Law.{PlacedAt}
+use Rattle.map.specs.Model.{Valid, pusc-dl, pusc-ul, ofusc, amc}
+use Rattle.map.proofs.Choice.{amc-tests}
+use Rattle.map.proofs.Slot.{slot-law, band-law, centred}
+use Rattle.map.proofs.Law.{placing}
+use Rattle.mask.specs.Mask.{isMask, isLit, isUsedLit, litSubchannels, litRank, ofLitRank, allLit}
+use Rattle.mask.specs.Law.{MaskLaw}
+
+-- THE LAW OF ITEM ONE, by the spot of a point: its used number is lit exactly when its subchannel is.
+pub point-lit : {setup : Setup} → Valid setup → (mask slot s m : ℕ) → s < subchannels setup → m < 48
+    → isUsedLit setup mask (spotOf setup slot s m .used) ≡ isLit setup mask s
+unfolding isUsedLit isLit spotOf subchannels
+point-lit (pusc-dl {cell = cell} h) mask slot s m hs hm = ap (hasGroup mask) (point-group cell s m hs hm)
+point-lit (pusc-ul h) mask slot s m hs hm = refl
+point-lit (ofusc w h) mask slot s m hs hm = refl
+point-lit (amc q w h) mask slot s m hs hm = rw (amc-tests q .not-0)
+
+data-lit : (setup : Setup) (mask slot s m symbol used : ℕ) → used < band setup .used → PlacedAt setup slot s m symbol (usedCarrier setup used)
+    → isUsedLit setup mask used ≡ isLit setup mask s
+unfolding placeAt usedCarrier
+data-lit setup mask slot s m symbol used h e =
+    let q = placing setup slot s m e in
+    let v = q .is-valid in
+    let u = spotOf setup slot s m .used in
+    let own = slot-law v slot .lies s m (q .subchannel-lt) (q .index-lt) .used-lt in
+    let column : carrierOf (band setup) u ≡ carrierOf (band setup) used = one-column (centred v .0) _ _ (ap (λ (p : Place). p .carrier) (q .place-is)) in
+    let same : u ≡ used =
+    sym (used-carrier (band setup) (setup .size) (band-law v) u own) ∙ ap (usedOf (band setup)) column ∙ used-carrier (band setup) (setup .size) (band-law v) used h in
+    ap (isUsedLit setup mask) (sym same) ∙ point-lit v mask slot s m (q .subchannel-lt) (q .index-lt)
+
+cluster-lit : (cell mask place : ℕ) (p : Physical) → place < 14
+    → isUsedLit (setupWith 0 2048 cell) mask (p .0 * 14 + place) ≡ hasGroup mask (groupIn clusterStarts (renumber cell p .0))
+unfolding isUsedLit usedGroup logicalOf renumber
+cluster-lit cell mask place p h = rw (digits-div (p .0) h)
+
+-- the mask that lights all
+all-lit : (setup : Setup) (s : ℕ) → isLit setup (allLit (setup .mode)) s ≡ true
+unfolding isLit allLit
+all-lit setup s = cases (eqb (setup .mode) 0) (λ e. rw e (all-groups subchannelStarts s)) (λ e. rw e)
+
+all-used-lit : (setup : Setup) (used : ℕ) → isUsedLit setup (allLit (setup .mode)) used ≡ true
+unfolding isUsedLit allLit usedGroup
+all-used-lit setup used = cases (eqb (setup .mode) 0) (λ e. rw e (all-groups clusterStarts (logicalOf (setup .cell) used .0))) (λ e. rw e)
+
+all-passes : (mode : ℕ) → isMask mode (allLit mode) ≡ true
+unfolding isMask allLit isUpTo
+all-passes mode = cases (eqb mode 0) (λ e. rw e) (λ e. rw e)
+
+all-ranks : (setup : Setup) (n : ℕ) → rank (isLit setup (allLit (setup .mode))) n ≡ n
+all-ranks setup n = rank-all (isLit setup (allLit (setup .mode))) n (λ s h. all-lit setup s)
+
+pub mask-law : MaskLaw
+unfolding litSubchannels litRank ofLitRank
+mask-law =
+    record {
+      data-lit = data-lit;
+      cluster-lit = cluster-lit;
+      rank-lt = λ setup mask s. rank-law (isLit setup mask) (subchannels setup) .rank-lt s;
+      rank-back = λ setup mask s. rank-law (isLit setup mask) (subchannels setup) .back s;
+      of-rank-lit = λ setup mask r h. let l = rank-law (isLit setup mask) (subchannels setup) in (l .unrank-lt r h, l .unrank-passes r h);
+      rank-forth = λ setup mask r. rank-law (isLit setup mask) (subchannels setup) .forth r;
+      rank-rises = λ setup mask s t. rank-law (isLit setup mask) t .rank-lt s;
+      all-passes = all-passes;
+      all-lit = all-lit;
+      all-used-lit = all-used-lit;
+      all-ranks = all-ranks;
+      all-subchannels = λ setup. all-ranks setup (subchannels setup);
+    }
+
+-- an accepted mask is small
+pub mask-small : (mode mask : ℕ) → isMask mode mask ≡ true → mask < 64
+unfolding isMask isUpTo
+mask-small mode mask e =
+    cases (eqb mode 0)
+    (λ t. cases (ltb 0 mask) (λ p. omega (arith, leb-true mask 63 (rw (t, p) at e))) (λ p. absurd (let z = rw (t, p) at e in true-false (sym z))))
+    (λ t. omega (arith, eqb-true mask 0 (rw t at e)))
+
+-- how many subchannels are lit: all, but in mode 0
+pub others-count : (setup : Setup) (mask : ℕ) → (setup .mode ≡ 0 → ⊥) → litSubchannels setup mask ≡ subchannels setup
+unfolding litSubchannels isLit
+others-count setup mask ne = rank-all (isLit setup mask) (subchannels setup) (λ s h. rw (ne-eqb (setup .mode) 0 ne))
+
+pub groups-count : (setup : Setup) (mask : ℕ) → setup .mode ≡ 0 → (n : ℕ) → n ≡ rank (λ s. hasGroup mask (groupIn subchannelStarts s)) 60 → n ≡ litSubchannels setup mask
+unfolding litSubchannels isLit subchannels
+groups-count setup mask e n q =
+    rw (eq-eqb (setup .mode) 0 e) (q ∙ rank-as _ (isLit setup mask) 60 (λ s. rw (eq-eqb (setup .mode) 0 e)))

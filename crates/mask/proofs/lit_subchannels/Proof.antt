@@ -1,0 +1,13 @@
+-- `mask::lit_subchannels` meets its contract.
+use mathlib.Core.Path.{sym, _∙_}
+use borrow.Author.Needs.{needs}
+use Rattle.mask.proofs.Law.{others-count, groups-count}
+use Rattle.mask.proofs.lit_subchannels.Statement.{statement}
+use Rattle.mask.proofs.lit_subchannels.Tie as tie
+
+pub lit-subchannels-spec : {M : Type 1} → statement M
+lit-subchannels-spec =
+    tie.close
+    (tie.spec
+    (λ c κs. search needs) (λ c. c .subchannels .ensures ∙ sym (others-count _ _ (c .before .if1 .taken))) (λ c κs. search needs)
+    (λ c. groups-count _ _ (c .before .if1 .left) _ (c .lit-subchannels .ensures)))

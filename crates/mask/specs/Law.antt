@@ -1,0 +1,33 @@
+-- What is claimed of masks: THE LAW OF THE MASK. Its proof is `mask-law`.
+use mathlib.Core.Path.{_≡_}
+use mathlib.Core.Bool.{true}
+use Prim.Native.Nat.{ℕ, _+_, _*_, _<_}
+use Rattle.pusc_dl.specs.declared.Physical.{Physical}
+use Rattle.pusc_dl.specs.Cluster.{renumber}
+use Rattle.pusc_dl.specs.Group.{clusterStarts, groupIn, hasGroup}
+use Rattle.map.specs.declared.Setup.{Setup}
+use Rattle.map.specs.Mode.{setupWith, subchannels, band}
+use Rattle.map.specs.Place.{usedCarrier}
+use Rattle.map.specs.Law.{Passes, PlacedAt}
+use Rattle.mask.specs.Mask.{isMask, isLit, isUsedLit, litSubchannels, litRank, ofLitRank, allLit}
+
+pub record MaskLaw : Type 0 where
+  -- A data carrier is lit exactly when its subchannel is.
+  pub data-lit : (setup : Setup) (mask slot s m symbol used : ℕ) → used < band setup .used → PlacedAt setup slot s m symbol (usedCarrier setup used)
+      → isUsedLit setup mask used ≡ isLit setup mask s
+  -- All of a cluster, its pilots too, goes by the group of its logical number.
+  pub cluster-lit : (cell mask place : ℕ) (p : Physical) → place < 14
+      → isUsedLit (setupWith 0 2048 cell) mask (p .0 * 14 + place) ≡ hasGroup mask (groupIn clusterStarts (renumber cell p .0))
+  -- The lit subchannels and the ranks below their number are the same, one for one,
+  pub rank-lt : (setup : Setup) (mask s : ℕ) → s < subchannels setup → isLit setup mask s ≡ true → litRank setup mask s < litSubchannels setup mask
+  pub rank-back : (setup : Setup) (mask s : ℕ) → s < subchannels setup → isLit setup mask s ≡ true → ofLitRank setup mask (litRank setup mask s) ≡ s
+  pub of-rank-lit : (setup : Setup) (mask r : ℕ) → r < litSubchannels setup mask → (ofLitRank setup mask r < subchannels setup) × (isLit setup mask (ofLitRank setup mask r) ≡ true)
+  pub rank-forth : (setup : Setup) (mask r : ℕ) → r < litSubchannels setup mask → litRank setup mask (ofLitRank setup mask r) ≡ r
+  -- in rising order.
+  pub rank-rises : (setup : Setup) (mask s t : ℕ) → s < t → isLit setup mask s ≡ true → litRank setup mask s < litRank setup mask t
+  -- The mask that lights all is a mask, and lights all; so a subchannel's rank is its number.
+  pub all-passes : (mode : ℕ) → isMask mode (allLit mode) ≡ true
+  pub all-lit : (setup : Setup) (s : ℕ) → isLit setup (allLit (setup .mode)) s ≡ true
+  pub all-used-lit : (setup : Setup) (used : ℕ) → isUsedLit setup (allLit (setup .mode)) used ≡ true
+  pub all-ranks : (setup : Setup) (s : ℕ) → litRank setup (allLit (setup .mode)) s ≡ s
+  pub all-subchannels : (setup : Setup) → litSubchannels setup (allLit (setup .mode)) ≡ subchannels setup
