@@ -1,6 +1,7 @@
 -- The combs are the pilots: mode by mode, from one lemma over the comb.
 use mathlib.Core.Path.{_≡_, refl, sym, ap, _∙_, subst}
 use mathlib.Core.Bool.{Bool, true, false}
+use mathlib.Core.List.{List}
 use Prim.Native.Nat.{ℕ, _+_, _*_, _/_, _%_, _<_, _≤_}
 use native.Mathlib.Nat.{div-add-mod', div-lt-iff-lt-mul}
 use native.Mathlib.Omega.{arith}
@@ -9,16 +10,21 @@ use lib.Dec.{eqb, lit<}
 use borrow.Author.Tests.{eq-eqb, eqb-true}
 use Rattle.base.specs.Choice.{pick}
 use Rattle.base.proofs.Test.{cases, true-false}
+use Rattle.base.proofs.Tabulate.{entry-of}
 use Rattle.carriers.specs.Bin.{isBinPilot, binPilotPlace}
 use Rattle.pusc_dl.specs.Cluster.{isClusterPilot, firstPilot, secondPilot}
+use Rattle.pusc_dl.specs.declared.Physical.{Physical}
+use Rattle.pusc_dl.specs.Model.{clusterLit}
 use Rattle.pusc_ul.specs.Tile.{isTilePilot}
 use Rattle.ofusc.proofs.Sequence.{size}
 use Rattle.map.specs.declared.Setup.{Setup}
 use Rattle.map.specs.Mode.{width, band, isPilot, setupWith}
 use Rattle.map.specs.Model.{Valid, pusc-dl, pusc-ul, ofusc, amc}
 use Rattle.map.proofs.Choice.{amc-tests}
+use Rattle.mask.specs.Mask.{isUsedLit}
+use Rattle.mask.proofs.Law.{mask-law}
 use Rattle.rows.specs.declared.Comb.{Comb}
-use Rattle.rows.specs.Model.{combOf, pilotNumber}
+use Rattle.rows.specs.Model.{combOf, pilotNumber, LitRuns, runLit}
 
 -- each number of a comb is a pilot, and each pilot is a number of the comb
 pub record CombLaw (b : Comb) (used : ℕ) (is-pilot : ℕ → Bool) : Type 0 where
@@ -144,3 +150,28 @@ comb-small (amc {n = n} q w h) y =
     let t = amc-tests q in
     let l = place-lt y in
     rw (t .not-0, t .not-1, t .not-2, t .listed) record { first-lt = omega arith; second-lt = omega arith; step-lt = omega arith; count-le = omega (arith, size w .most) }
+
+-- a run of PUSC downlink's comb is a cluster
+pub run-few : {c : Setup} → Valid c → (y i : ℕ) → i < combOf c y .count → c .mode ≡ 0 → i < 120
+unfolding combOf
+run-few (pusc-dl h) y i l e = l
+run-few (pusc-ul h) y i l e = absurd (omega arith)
+run-few (ofusc w h) y i l e = absurd (omega arith)
+run-few (amc q w h) y i l e = absurd (omega arith)
+
+-- and a pilot is lit where its run is
+pub run-lit : {c : Setup} → Valid c → (mask : ℕ) (lit : List ℕ) → LitRuns c mask lit → (y j : ℕ) → j < combOf c y .count * 2
+    → runLit c lit (j / 2) ≡ pick (isUsedLit c mask (pilotNumber (combOf c y) j)) 1 0
+unfolding runLit combOf isUsedLit clusterLit tooth
+run-lit (pusc-dl {cell = cell} h) mask lit t y j l =
+    let p : Physical = record { 0 = j / 2 } in
+    let b : Comb = record { first = firstPilot y; second = secondPilot y; step = 14; count = 120 } in
+    let one : Bool → ℕ = λ x. pick x 1 0 in
+    let start : p .0 * 14 ≡ p .0 * 14 + 0 = omega arith in
+    entry-of lit 120 (clusterLit cell mask) (t refl) (p .0) (omega arith)
+    ∙ ap one
+    (ap (λ (u : ℕ). isUsedLit (setupWith 0 2048 cell) mask u) start ∙ mask-law .cluster-lit cell mask 0 p (omega arith)
+    ∙ sym (mask-law .cluster-lit cell mask (tooth b (cluster-lt y .0) (cluster-lt y .1) j) p (tooth-lt b (cluster-lt y .0) (cluster-lt y .1) j)))
+run-lit (pusc-ul h) mask lit t y j l = refl
+run-lit (ofusc w h) mask lit t y j l = refl
+run-lit (amc q w h) mask lit t y j l = rw (amc-tests q .not-0)

@@ -1,11 +1,15 @@
 -- How a subchannel's carriers and a symbol's pilots are found fast. No reader needs this to know what the calls do.
+use mathlib.Core.Path.{_≡_}
 use mathlib.Core.List.{List}
 use Prim.Native.Nat.{ℕ, _+_, _*_, _/_, _%_}
 use lib.Dec.{eqb}
 use Rattle.base.specs.Choice.{pick}
+use Rattle.base.specs.Steps.{entry}
+use Rattle.base.specs.Tabulate.{tabulate}
 use Rattle.base.specs.Model.{Starts}
 use Rattle.carriers.specs.Bin.{binPilotPlace}
 use Rattle.pusc_dl.specs.Cluster.{firstPilot, secondPilot}
+use Rattle.pusc_dl.specs.Model.{clusterLit}
 use Rattle.map.specs.declared.Setup.{Setup}
 use Rattle.map.specs.Mode.{shapeOf, byMode, width}
 use Rattle.rows.specs.declared.Comb.{Comb}
@@ -54,3 +58,10 @@ combOf setup y =
 -- the used number of a comb's pilot j, two a run
 abbrev pub pilotNumber : (b : Comb) (j : ℕ) → ℕ
 pilotNumber b j = j / 2 * b .step + pick (eqb (j % 2) 0) (b .first) (b .second)
+
+-- Which runs of the pilots' comb are lit, 1 each: a table of the clusters in PUSC downlink. In the other modes all are, and the table is not read.
+abbrev pub LitRuns : (setup : Setup) (mask : ℕ) (lit : List ℕ) → Type 0
+LitRuns setup mask lit = setup .mode ≡ 0 → lit ≡ tabulate 120 (clusterLit (setup .cell) mask)
+
+unfoldable pub runLit : (setup : Setup) (lit : List ℕ) (i : ℕ) → ℕ
+runLit setup lit i = pick (eqb (setup .mode) 0) (entry lit i) 1

@@ -7,7 +7,7 @@ ghost use Rattle.base.specs.Model.{Turned};
 ghost use Rattle.carriers.specs.Model.{spotNumber, carrierNumber};
 ghost use Rattle.map.specs.Mode.{subchannels, band, spotOf};
 ghost use Rattle.map.specs.Model.{Valid};
-ghost use Rattle.rows.specs.Model.{TableOf, shiftOf, combOf, tileComb, pilotNumber};
+ghost use Rattle.rows.specs.Model.{TableOf, shiftOf, combOf, tileComb, pilotNumber, LitRuns, runLit};
 
 // The pilots of a symbol: in each of `count` runs of `step` used numbers the places `first` and `second`.
 pub struct Comb {
@@ -145,4 +145,27 @@ pub fn pilot_number(k: Comb, j: usize) -> usize
         return j / 2 * k.step + k.first;
     }
     j / 2 * k.step + k.second
+}
+
+// Which runs of the pilots' combs a mask lights: the clusters of PUSC downlink, 1 for each; no other mode reads it.
+pub fn lit_runs(setup: Setup, mask: usize) -> [u8; 120]
+    requires { ⌜ Valid setup ⌝ }
+    requires { ⌜ mask < 64 ⌝ }
+    ensures { λ r. ⌜ LitRuns setup mask r ⌝ }
+{
+    if setup.mode != 0 {
+        return [0; 120];
+    }
+    pusc_dl::lit_clusters(setup.cell, mask)
+}
+
+// 1 where run i is lit, else 0.
+pub fn run_lit(setup: Setup, lit: &[u8; 120], i: usize) -> usize
+    requires { ⌜ (setup .mode ≡ 0 → i < 120) ⌝ }
+    ensures { λ r. ⌜ r ≡ runLit setup (now (lit .entry)) i ⌝ }
+{
+    if setup.mode != 0 {
+        return 1;
+    }
+    base::wide(lit[i])
 }
