@@ -1,5 +1,5 @@
 -- A chain of questions: what it does to the answer that comes after it.
-use mathlib.Core.Path.{_≡_, refl, sym}
+use mathlib.Core.Path.{_≡_, refl, sym, ap, _∙_}
 use mathlib.Core.Bool.{Bool, true, false}
 use Prim.Native.Nat.{ℕ, suc}
 use native.Mathlib.Omega.{arith}
@@ -43,6 +43,10 @@ pub question : {A : Type 0} (b : Bool) (k : ℕ) {chain rest : Answer A} {alone 
     → Numbered (ask b (suc k) chain) rest (ask b (suc k) alone)
 question true k e = e
 question false k e = record { is = rw (ne-eqb (suc k) 0 (λ z. omega arith)) }
+
+-- where one of its questions is answered no, its number is that of the whole
+pub no-before : {A : Type 0} {chain rest : Answer A} {alone : Answer (Unit {0})} → Numbered chain rest alone → (k : ℕ) → k ≡ refusalOf alone → (k ≡ 0 → ⊥) → k ≡ refusalOf chain
+no-before {rest = rest} n k e ne = sym (ap refusalOf (n .is ∙ ap (λ (m : ℕ). numbered m rest) (sym e) ∙ no-first k rest ne))
 
 -- its number is 0 only where each question is answered yes
 pub number-yes : {A : Type 0} (b : Bool) (k : ℕ) (rest : Answer A) → refusalOf (ask b (suc k) rest) ≡ 0 → (b ≡ true) × (refusalOf rest ≡ 0)

@@ -67,6 +67,14 @@ module _ (test : ℕ → Bool) where
         forth = λ r h. found n r h .2;
       }
 
+  pub rank-most : (n : ℕ) → rank test n ≤ n
+  unfolding rank
+  rank-most zero = omega arith
+  rank-most (suc n) =
+      cases (test n)
+      (λ e. omega (arith, rank-yes n e, rank-most n))
+      (λ e. omega (arith, rank-no n e, rank-most n))
+
   -- where all pass, a number is its own rank
   pub rank-all : (n : ℕ) → ((s : ℕ) → s < n → test s ≡ true) → rank test n ≡ n
   unfolding rank

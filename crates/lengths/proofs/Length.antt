@@ -1,20 +1,23 @@
 -- Cell 0 is a cell of every listed mode and size, so the first refusal tells whether the map has them.
-use mathlib.Core.Path.{_≡_, refl, sym, _∙_}
+use mathlib.Core.Path.{_≡_, refl, sym, ap, _∙_}
 use mathlib.Core.Bool.{true}
 use Prim.Native.Nat.{ℕ, _*_, _/_, _<_}
 use native.Mathlib.Nat.{mul-pos}
 use native.Mathlib.Omega.{arith}
 use lib.Dec.{eqb}
 use borrow.Author.Tests.{eqb-true, lt-ltb}
-use Rattle.base.specs.Answer.{accepted}
+use Rattle.base.specs.Answer.{accepted, refusalOf}
 use Rattle.base.proofs.Test.{cases}
 use Rattle.base.proofs.Chain.{ask-yes, number-yes}
 use Rattle.map.specs.declared.Setup.{Setup}
 use Rattle.map.specs.Mode.{width, cells, subchannels, symbols, setupWith}
 use Rattle.map.specs.Question.{isMode, isFourSizes, isSize, isCell}
-use Rattle.map.specs.Model.{setupRefusal, Valid}
+use Rattle.map.specs.Model.{setupRefusal}
 use Rattle.map.proofs.Accept.{passes}
-use Rattle.lengths.specs.Length.{gridPoints, whereListed, pointsLength, gridLength}
+use Rattle.mask.specs.Mask.{isMask, isLit, litSubchannels}
+use Rattle.lengths.specs.Length.{gridPoints, whereListed, litPointsLength, gridLength}
+use Rattle.lengths.specs.Model.{maskRefusal}
+use Rattle.lengths.proofs.Refusal.{MaskAccepted, mask-accepted}
 
 -- the four sizes are no small ones
 wide : (size : ℕ) → isFourSizes size ≡ true → 0 < size / 64
@@ -59,6 +62,27 @@ module _ (mode size k : ℕ) (e : k ≡ setupRefusal (setupWith mode size 0)) (l
       let q₁ = number-yes (isMode setup) 0 _ (sym e ∙ z) in
       rw (q₁ .0, number-yes (isSize setup) 1 _ (q₁ .1) .0, q) h
 
+-- and that of the lit points by the refusal's with the mask
+module _ (mode size mask k : ℕ) (e : k ≡ maskRefusal (setupWith mode size 0) mask) where
+  abbrev its : Setup
+  its = setupWith mode size 0
+
+  none-listed : 0 ≡ whereListed its 0
+  none-listed = cases (isMode its) (λ a. cases (isSize its) (λ b. rw (a, b)) (λ b. rw (a, b))) (λ a. rw a)
+
+  pub no-lit-length : (k ≡ 0 → ⊥) → 0 ≡ litPointsLength mode size mask
+  unfolding litPointsLength maskRefusal setupRefusal
+  no-lit-length ne =
+      cases (isMask mode mask)
+      (λ t. rw t (unlisted mode size k (rw t at e) (96 * litSubchannels its mask) ne))
+      (λ t. rw t none-listed)
+
+  pub lit-length : k ≡ 0 → (n : ℕ) → n ≡ litSubchannels its mask → 96 * n ≡ litPointsLength mode size mask
+  unfolding litPointsLength setupRefusal
+  lit-length z n q =
+      let a = mask-accepted its mask k e z in
+      rw (a .mask-is) (listed mode size 0 (sym (ap refusalOf (passes {A = Unit {0}} {rest = accepted tt} (a .valid)))) (96 * litSubchannels its mask) refl 96 n (litSubchannels its mask) q refl)
+
 -- questions 1 and 2 do not ask for the cell
 same-mode : (setup : Setup) → isMode (setupWith (setup .mode) (setup .size) 0) ≡ isMode setup
 unfolding isMode
@@ -68,12 +92,13 @@ same-size : (setup : Setup) → isSize (setupWith (setup .mode) (setup .size) 0)
 unfolding isSize
 same-size setup = refl
 
--- the lengths of a valid setup, whatever its cell
-pub lengths-listed : {setup : Setup} → Valid setup → (96 * subchannels setup ≡ pointsLength (setup .mode) (setup .size)) × (2 * gridPoints setup ≡ gridLength (setup .mode) (setup .size))
-unfolding pointsLength gridLength subchannels gridPoints symbols width
-lengths-listed {setup} v =
-    let q₁ = ask-yes (isMode setup) 1 _ (passes {A = Unit {0}} {rest = accepted tt} v) in
+-- the lengths of an accepted setup and mask, whatever the cell
+pub lengths-listed : {setup : Setup} {mask : ℕ} → MaskAccepted setup mask
+    → (96 * litSubchannels setup mask ≡ litPointsLength (setup .mode) (setup .size) mask) × (2 * gridPoints setup ≡ gridLength (setup .mode) (setup .size))
+unfolding litPointsLength gridLength litSubchannels isLit subchannels gridPoints symbols width
+lengths-listed {setup} m =
+    let q₁ = ask-yes (isMode setup) 1 _ (passes {A = Unit {0}} {rest = accepted tt} (m .valid)) in
     let q₂ = ask-yes (isSize setup) 2 _ (q₁ .1) in
     let e₁ = same-mode setup ∙ q₁ .0 in
     let e₂ = same-size setup ∙ q₂ .0 in
-    (rw (e₁, e₂), rw (e₁, e₂))
+    (rw (e₁, e₂, m .mask-is), rw (e₁, e₂))

@@ -4,6 +4,7 @@ use Rattle.base.specs.Choice.{pick}
 use Rattle.map.specs.declared.Setup.{Setup}
 use Rattle.map.specs.Mode.{subchannels, symbols, setupWith}
 use Rattle.map.specs.Question.{isMode, isSize}
+use Rattle.mask.specs.Mask.{isMask, litSubchannels}
 
 -- the points of a slot's grid
 unfoldable pub gridPoints : (setup : Setup) → ℕ
@@ -13,9 +14,15 @@ gridPoints setup = symbols setup * setup .size
 abbrev pub whereListed : (setup : Setup) (length : ℕ) → ℕ
 whereListed setup length = pick (isMode setup) (pick (isSize setup) length 0) 0
 
--- As question 8 has it: 96 floats for each subchannel. The cell plays no part in a length, so it is 0 here.
+-- As document 01's question 8 has it: 96 floats for each subchannel. The cell plays no part in a length, so it is 0 here.
 unfoldable pub pointsLength : (mode size : ℕ) → ℕ
 pointsLength mode size = let setup = setupWith mode size 0 in whereListed setup (96 * subchannels setup)
+
+-- Document 02, wish 5: only the lit subchannels count; 0 also for a mask that question 17 does not let pass.
+unfoldable pub litPointsLength : (mode size mask : ℕ) → ℕ
+litPointsLength mode size mask =
+    let setup = setupWith mode size 0 in
+    whereListed setup (pick (isMask mode mask) (96 * litSubchannels setup mask) 0)
 
 -- As question 9 has it: 2·size floats for each symbol of a slot.
 unfoldable pub gridLength : (mode size : ℕ) → ℕ

@@ -1,25 +1,34 @@
--- The questions of ground, lay and empty as a number. No reader needs this to know what the calls do.
+-- The questions of ground, lay, empty and look as a number. No reader needs this to know what the calls do.
 use Prim.Native.Nat.{ℕ}
+use lib.IntN.{ℤ}
 use Rattle.base.specs.Answer.{accepted, ask, refusalOf}
 use Rattle.map.specs.declared.Setup.{Setup}
-use Rattle.lengths.specs.Question.{isGrid, askSlot, askGround, askLay, askEmpty}
+use Rattle.lengths.specs.Question.{isGrid, askMask, askSlot, askGround, askLay, askEmpty, askLook}
 
--- the number of the first of questions 1, 2, 3 and 4 that is answered no, 0 where none is
-unfoldable pub slotRefusal : (setup : Setup) (slot : ℕ) → ℕ
-slotRefusal setup slot = refusalOf (askSlot {A = Unit {0}} setup slot (accepted tt))
+-- the number of the first of questions 1, 2, 3 and 17 that is answered no, 0 where none is
+unfoldable pub maskRefusal : (setup : Setup) (mask : ℕ) → ℕ
+maskRefusal setup mask = refusalOf (askMask {A = Unit {0}} setup mask (accepted tt))
+
+-- of 1, 2, 3, 17 and 4
+unfoldable pub slotRefusal : (setup : Setup) (mask slot : ℕ) → ℕ
+slotRefusal setup mask slot = refusalOf (askSlot {A = Unit {0}} setup mask slot (accepted tt))
 
 -- of question 9, which comes last in each call
 unfoldable pub gridRefusal : (setup : Setup) (grid : ℕ) → ℕ
 gridRefusal setup grid = refusalOf (ask {A = Unit {0}} (isGrid setup grid) 9 (accepted tt))
 
--- of ground's questions, 1, 2, 3, 4, 9
-unfoldable pub groundRefusal : (setup : Setup) (slot grid : ℕ) → ℕ
-groundRefusal setup slot grid = refusalOf (askGround {A = Unit {0}} setup slot grid (accepted tt))
+-- of ground's questions
+unfoldable pub groundRefusal : (setup : Setup) (mask slot grid : ℕ) → ℕ
+groundRefusal setup mask slot grid = refusalOf (askGround {A = Unit {0}} setup mask slot grid (accepted tt))
 
--- of lay's, 1, 2, 3, 4, 5, 8, 9
-unfoldable pub layRefusal : (setup : Setup) (slot subchannel points grid : ℕ) → ℕ
-layRefusal setup slot subchannel points grid = refusalOf (askLay {A = Unit {0}} setup slot subchannel points grid (accepted tt))
+-- of lay's
+unfoldable pub layRefusal : (setup : Setup) (mask slot subchannel points grid : ℕ) → ℕ
+layRefusal setup mask slot subchannel points grid = refusalOf (askLay {A = Unit {0}} setup mask slot subchannel points grid (accepted tt))
 
--- and of empty's, 1, 2, 3, 4, 8, 9
-unfoldable pub emptyRefusal : (setup : Setup) (slot points grid : ℕ) → ℕ
-emptyRefusal setup slot points grid = refusalOf (askEmpty {A = Unit {0}} setup slot points grid (accepted tt))
+-- of empty's
+unfoldable pub emptyRefusal : (setup : Setup) (mask slot points grid : ℕ) → ℕ
+emptyRefusal setup mask slot points grid = refusalOf (askEmpty {A = Unit {0}} setup mask slot points grid (accepted tt))
+
+-- and of look's
+unfoldable pub lookRefusal : (setup : Setup) (mask symbol : ℕ) (carrier : ℤ) (grid : ℕ) → ℕ
+lookRefusal setup mask symbol carrier grid = refusalOf (askLook {A = Unit {0}} setup mask symbol carrier grid (accepted tt))

@@ -3,8 +3,8 @@ use map::Setup;
 ghost use mathlib.Core.Path.{_≡_};
 ghost use Prim.Native.Nat.{_<_};
 ghost use Rattle.map.specs.Model.{Valid};
-ghost use Rattle.lengths.specs.Length.{gridPoints, pointsLength, gridLength};
-ghost use Rattle.lengths.specs.Model.{slotRefusal, gridRefusal, groundRefusal, layRefusal, emptyRefusal};
+ghost use Rattle.lengths.specs.Length.{gridPoints, pointsLength, litPointsLength, gridLength};
+ghost use Rattle.lengths.specs.Model.{maskRefusal, slotRefusal, gridRefusal, groundRefusal, layRefusal, emptyRefusal, lookRefusal};
 
 // The points of a slot's grid.
 pub fn grid_points(setup: Setup) -> usize
@@ -29,7 +29,22 @@ pub fn points_length(mode: usize, size: usize) -> usize
     96 * map::subchannels(setup)
 }
 
-// The floats of a slot's grid; 0 likewise.
+// The floats of the lit subchannels' points; 0 likewise, and for a mask out of its range.
+pub fn lit_points_length(mode: usize, size: usize, mask: usize) -> usize
+    ensures { λ r. ⌜ r ≡ litPointsLength mode size mask ⌝ }
+{
+    let setup = Setup {
+        mode,
+        size,
+        cell: 0,
+    };
+    if mask_refusal(setup, mask) != 0 {
+        return 0;
+    }
+    96 * mask::lit_subchannels(setup, mask)
+}
+
+// The floats of a slot's grid; 0 as for the points.
 pub fn grid_length(mode: usize, size: usize) -> usize
     ensures { λ r. ⌜ r ≡ gridLength mode size ⌝ }
 {
@@ -44,11 +59,25 @@ pub fn grid_length(mode: usize, size: usize) -> usize
     2 * grid_points(setup)
 }
 
-// The number of the first of questions 1, 2, 3 and 4 that is answered no, or 0.
-fn slot_refusal(setup: Setup, slot: usize) -> u8
-    ensures { λ r. ⌜ r ≡ slotRefusal setup slot ⌝ }
+// The number of the first of questions 1, 2, 3 and 17 that is answered no, or 0.
+fn mask_refusal(setup: Setup, mask: usize) -> u8
+    ensures { λ r. ⌜ r ≡ maskRefusal setup mask ⌝ }
 {
     let k = map::refusal(setup);
+    if k != 0 {
+        return k;
+    }
+    if !mask::is_mask(setup.mode, mask) {
+        return 17;
+    }
+    0
+}
+
+// Of 1, 2, 3, 17 and 4.
+fn slot_refusal(setup: Setup, mask: usize, slot: usize) -> u8
+    ensures { λ r. ⌜ r ≡ slotRefusal setup mask slot ⌝ }
+{
+    let k = mask_refusal(setup, mask);
     if k != 0 {
         return k;
     }
@@ -69,26 +98,36 @@ fn grid_refusal(setup: Setup, grid: usize) -> u8
     0
 }
 
-// Of ground's questions: 1, 2, 3, 4, 9.
-pub fn ground_refusal(setup: Setup, slot: usize, grid: usize) -> u8
-    ensures { λ r. ⌜ r ≡ groundRefusal setup slot grid ⌝ }
+// Of ground's questions: 1, 2, 3, 17, 4, 9.
+pub fn ground_refusal(setup: Setup, mask: usize, slot: usize, grid: usize) -> u8
+    ensures { λ r. ⌜ r ≡ groundRefusal setup mask slot grid ⌝ }
 {
-    let k = slot_refusal(setup, slot);
+    let k = slot_refusal(setup, mask, slot);
     if k != 0 {
         return k;
     }
     grid_refusal(setup, grid)
 }
 
-// Of lay's: 1, 2, 3, 4, 5, 8, 9.
-pub fn lay_refusal(setup: Setup, slot: usize, subchannel: usize, points: usize, grid: usize) -> u8
-    ensures { λ r. ⌜ r ≡ layRefusal setup slot subchannel points grid ⌝ }
+// Of lay's: 1, 2, 3, 17, 4, 5, 8, 9.
+pub fn lay_refusal(
+    setup: Setup,
+    mask: usize,
+    slot: usize,
+    subchannel: usize,
+    points: usize,
+    grid: usize,
+) -> u8
+    ensures { λ r. ⌜ r ≡ layRefusal setup mask slot subchannel points grid ⌝ }
 {
-    let k = slot_refusal(setup, slot);
+    let k = slot_refusal(setup, mask, slot);
     if k != 0 {
         return k;
     }
     if map::subchannels(setup) <= subchannel {
+        return 5;
+    }
+    if !mask::is_lit(setup, mask, subchannel) {
         return 5;
     }
     if points != 96 {
@@ -97,16 +136,33 @@ pub fn lay_refusal(setup: Setup, slot: usize, subchannel: usize, points: usize, 
     grid_refusal(setup, grid)
 }
 
-// Of empty's: 1, 2, 3, 4, 8, 9.
-pub fn empty_refusal(setup: Setup, slot: usize, points: usize, grid: usize) -> u8
-    ensures { λ r. ⌜ r ≡ emptyRefusal setup slot points grid ⌝ }
+// Of empty's: 1, 2, 3, 17, 4, 8, 9.
+pub fn empty_refusal(setup: Setup, mask: usize, slot: usize, points: usize, grid: usize) -> u8
+    ensures { λ r. ⌜ r ≡ emptyRefusal setup mask slot points grid ⌝ }
 {
-    let k = slot_refusal(setup, slot);
+    let k = slot_refusal(setup, mask, slot);
     if k != 0 {
         return k;
     }
-    if points != 96 * map::subchannels(setup) {
+    if points != 96 * mask::lit_subchannels(setup, mask) {
         return 8;
+    }
+    grid_refusal(setup, grid)
+}
+
+// Of look's: 1, 2, 3, 17, 4, 7, 9.
+pub fn look_refusal(setup: Setup, mask: usize, symbol: usize, carrier: i32, grid: usize) -> u8
+    ensures { λ r. ⌜ r ≡ lookRefusal setup mask symbol carrier grid ⌝ }
+{
+    let k = mask_refusal(setup, mask);
+    if k != 0 {
+        return k;
+    }
+    if 512 * map::symbols(setup) <= symbol {
+        return 4;
+    }
+    if !centre::in_range(setup.size, carrier) {
+        return 7;
     }
     grid_refusal(setup, grid)
 }

@@ -1,7 +1,7 @@
 -- THE LAW OF THE MASK: it rests on the law of the map, and of PUSC downlink on whose group a point's used number is in.
 use mathlib.Core.Path.{_≡_, refl, sym, ap, _∙_}
 use mathlib.Core.Bool.{true}
-use Prim.Native.Nat.{ℕ, _+_, _*_, _<_}
+use Prim.Native.Nat.{ℕ, _+_, _*_, _<_, _≤_}
 use native.Mathlib.Omega.{arith}
 use lib.Arith.{digits-div}
 use lib.Dec.{eqb, ltb}
@@ -9,7 +9,7 @@ use borrow.Author.Tests.{eqb-true, leb-true, eq-eqb, ne-eqb}
 use Rattle.base.specs.Choice.{isUpTo}
 use Rattle.base.specs.Rank.{rank}
 use Rattle.base.proofs.Test.{cases, true-false}
-use Rattle.base.proofs.Rank.{rank-law, rank-all, rank-as}
+use Rattle.base.proofs.Rank.{rank-law, rank-most, rank-all, rank-as}
 use Rattle.carriers.specs.Band.{carrierOf, usedOf}
 use Rattle.carriers.proofs.Guards.{used-carrier}
 use Rattle.centre.proofs.Law.{one-column}
@@ -25,6 +25,7 @@ use Rattle.map.specs.Place.{Place, usedCarrier, placeAt}
 use Rattle.map.specs.Law.{PlacedAt}
 use Rattle.map.specs.Model.{Valid, pusc-dl, pusc-ul, ofusc, amc}
 use Rattle.map.proofs.Choice.{amc-tests}
+use Rattle.map.proofs.ByMode.{few}
 use Rattle.map.proofs.Slot.{slot-law, band-law, centred}
 use Rattle.map.proofs.Law.{placing}
 use Rattle.mask.specs.Mask.{isMask, isLit, isUsedLit, litSubchannels, litRank, ofLitRank, allLit}
@@ -108,3 +109,7 @@ pub groups-count : (setup : Setup) (mask : ℕ) → setup .mode ≡ 0 → (n : �
 unfolding litSubchannels isLit subchannels
 groups-count setup mask e n q =
     rw (eq-eqb (setup .mode) 0 e) (q ∙ rank-as _ (isLit setup mask) 60 (λ s. rw (eq-eqb (setup .mode) 0 e)))
+
+pub lit-few : {setup : Setup} → Valid setup → (mask n : ℕ) → n ≡ litSubchannels setup mask → n ≤ 192
+unfolding litSubchannels
+lit-few {setup} v mask n e = omega (arith, rank-most (isLit setup mask) (subchannels setup), few v .subchannels-few)
