@@ -1,6 +1,6 @@
 -- A lay: a subchannel's points put at their places are the laid grid.
 use mathlib.Core.Path.{_≡_, refl, sym, ap, _∙_}
-use mathlib.Core.Bool.{Bool}
+use mathlib.Core.Bool.{Bool, true}
 use mathlib.Core.List.{List}
 use Prim.Native.Nat.{ℕ, _*_, _<_}
 use native.Mathlib.Omega.{arith}
@@ -14,38 +14,37 @@ use Rattle.map.specs.declared.Setup.{Setup}
 use Rattle.map.specs.Mode.{subchannels}
 use Rattle.map.specs.Place.{Content, guard, dc, pilot, point}
 use Rattle.map.specs.Model.{Valid}
+use Rattle.mask.specs.Mask.{isLit}
 use Rattle.points.specs.declared.Point.{Point}
 use Rattle.points.specs.Points.{pointAt}
 use Rattle.points.specs.Model.{puts}
 use Rattle.points.proofs.Points.{by-points, length-puts, puts-miss, puts-hit}
 use Rattle.lengths.specs.Length.{gridPoints}
-use Rattle.grid.specs.Grid.{contentAt, relaid, laid, standsAt, pointNumber}
-use Rattle.grid.proofs.Slot.{number-subchannel, number-index, stands-holds, stands-alone, point-stands}
+use Rattle.grid.specs.Grid.{contentAt, relaid, laid, standsAt}
+use Rattle.grid.proofs.Slot.{lit-holds, stands-alone, point-stands}
 
-module _ (setup : Setup) (v : Valid setup) (slot : ℕ) (hs : slot < 512) (s : ℕ) (h : s < subchannels setup) (points grid : List Float) (long : length grid ≡ 2 * gridPoints setup) where
+module _ (setup : Setup) (v : Valid setup) (mask slot : ℕ) (hs : slot < 512) (s : ℕ) (h : s < subchannels setup) (lit : isLit setup mask s ≡ true)
+    (points grid : List Float) (long : length grid ≡ 2 * gridPoints setup) where
   abbrev place : ℕ → ℕ
-  place m = standsAt setup slot (pointNumber s m)
+  place = standsAt setup slot s
 
   abbrev all : List Float
   all = puts place (pointAt points) 48 grid
 
-  place-holds : (m : ℕ) → m < 48 → contentAt setup slot (place m) ≡ point slot s m
-  place-holds m l = stands-holds setup v slot (pointNumber s m) (omega arith) ∙ rw (number-subchannel s m l, number-index s m l)
-
   module _ (n : ℕ) (hn : n < gridPoints setup) where
     -- a place that holds no point of the subchannel is as it was
-    kept : ((a m : ℕ) → contentAt setup slot n ≡ point a s m → ⊥) → pointAt all n ≡ pointAt grid n
-    kept none = puts-miss place (pointAt points) 48 grid n (λ j l e. none slot j (ap (contentAt setup slot) e ∙ place-holds j l))
+    kept : ((a m : ℕ) → contentAt setup mask slot n ≡ point a s m → ⊥) → pointAt all n ≡ pointAt grid n
+    kept none = puts-miss place (pointAt points) 48 grid n (λ j l e. none slot j (ap (contentAt setup mask slot) e ∙ lit-holds setup v slot s j h l mask lit))
 
-    own : (a m : ℕ) → contentAt setup slot n ≡ point a s m → pointAt all n ≡ pointAt points m
+    own : (a m : ℕ) → contentAt setup mask slot n ≡ point a s m → pointAt all n ≡ pointAt points m
     own a m e =
-        let q = point-stands setup v slot hs n hn a s m e in
+        let q = point-stands setup v slot hs n hn mask a s m e in
         ap (pointAt all) (sym (q .stands))
         ∙ puts-hit place (pointAt points) 48 grid m (q .index-lt)
-        (λ i l e′. ap (pointAt points) (let same = stands-alone setup v slot (pointNumber s m) (pointNumber s i) (let lt = q .index-lt in omega arith) (omega arith) e′ in omega arith))
+        (λ i l e′. ap (pointAt points) (stands-alone setup v slot s i s m h l h (q .index-lt) (sym e′) .1))
         (rw (q .stands, long) (omega arith))
 
-    told : (w : Content) → contentAt setup slot n ≡ w → pointAt all n ≡ relaid s points (pointAt grid n) w
+    told : (w : Content) → contentAt setup mask slot n ≡ w → pointAt all n ≡ relaid s points (pointAt grid n) w
     unfolding relaid
     told guard e = kept (λ a m z. let q : _≡_ {A = ℕ} 0 1 = cc in omega arith)
     told dc e = kept (λ a m z. let q : _≡_ {A = ℕ} 0 1 = cc in omega arith)
@@ -58,8 +57,8 @@ module _ (setup : Setup) (v : Valid setup) (slot : ℕ) (hs : slot < 512) (s : �
         chosen : Bool → Point
         chosen is = pick is (pointAt points m) (pointAt grid n)
 
-  pub laid-is : all ≡ laid setup slot s points grid
+  pub laid-is : all ≡ laid setup mask slot s points grid
   unfolding laid
   laid-is =
       by-points all (gridPoints setup) _ (length-puts place (pointAt points) 48 grid ∙ long ∙ omega arith)
-      (λ n hn. told n hn (contentAt setup slot n) refl)
+      (λ n hn. told n hn (contentAt setup mask slot n) refl)

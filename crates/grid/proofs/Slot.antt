@@ -1,5 +1,6 @@
 -- A slot's points and the places of its grid: from the law of the map.
 use mathlib.Core.Path.{_≡_, refl, sym, ap, _∙_}
+use mathlib.Core.Bool.{Bool, true, false}
 use mathlib.Core.List.{List}
 use Prim.Native.Nat.{ℕ, _+_, _*_, _/_, _%_, _<_, _≤_}
 use native.Mathlib.Nat.{mod-lt, div-add-mod', div-lt-iff-lt-mul}
@@ -7,26 +8,29 @@ use native.Mathlib.Omega.{arith}
 use lib.ListN.{length}
 use lib.Ieee.{Float}
 use lib.Arith.{digits-lt, digits-div, digits-mod}
+use Rattle.base.specs.Choice.{pick}
 use Rattle.base.specs.Answer.{accepted}
 use Rattle.carriers.specs.declared.Band.{Band}
 use Rattle.carriers.specs.declared.Spot.{Spot}
 use Rattle.base.specs.Model.{Turned}
 use Rattle.base.proofs.Tabulate.{turned-below}
-use Rattle.carriers.specs.Band.{carrierOf}
+use Rattle.carriers.specs.Band.{carrierOf, usedOf}
 use Rattle.carriers.specs.Model.{carrierNumber}
 use Rattle.carriers.specs.Law.{DataSpot}
-use Rattle.carriers.proofs.Guards.{carrier-lt}
+use Rattle.carriers.proofs.Guards.{carrier-lt, used-carrier}
 use Rattle.centre.specs.Centre.{fromDc}
 use Rattle.centre.proofs.Law.{one-column}
 use Rattle.map.specs.declared.Setup.{Setup}
 use Rattle.map.specs.Mode.{subchannels, symbols, band, isPilot, spotOf}
-use Rattle.map.specs.Place.{point, Place, usedCarrier, placeAt}
+use Rattle.map.specs.Place.{Content, guard, point, Place, usedCarrier, placeAt, contentOf}
 use Rattle.map.specs.Model.{Valid}
 use Rattle.map.proofs.Slot.{slot-law, band-law, centred}
 use Rattle.map.proofs.Law.{content-placed, locate-column, placed-where-located, placing}
+use Rattle.mask.specs.Mask.{isLit, isUsedLit, litContent}
+use Rattle.mask.proofs.Law.{point-lit}
 use Rattle.lengths.specs.Length.{gridPoints}
 use Rattle.grid.specs.Row.{position, usedPosition, rowOf, columnOf}
-use Rattle.grid.specs.Grid.{contentAt, standsAt, pointNumber}
+use Rattle.grid.specs.Grid.{contentAt, standsAt}
 use Rattle.grid.specs.Model.{taken}
 use Rattle.points.specs.declared.Point.{Point}
 use Rattle.points.specs.Points.{pointAt, floatsOf}
@@ -83,48 +87,66 @@ unfolding usedPosition
 used-position-is {setup} v row used l h b e k q =
     position-is v row (carrierOf (band setup) used) l (in-size setup v row used h) row k refl (q ∙ ap (λ (x : Band). carrierOf x used) e)
 
--- point j of the slot stands in the grid, at a place that holds it
-module _ (setup : Setup) (v : Valid setup) (slot j : ℕ) (h : j < 48 * subchannels setup) where
-  s-lt : j / 48 < subchannels setup
-  s-lt = omega arith
+-- whether point n of a grid is lit
+abbrev pub litAt : (setup : Setup) (mask n : ℕ) → Bool
+litAt setup mask n = isUsedLit setup mask (usedOf (band setup) (columnOf setup n))
 
+-- a point that is seen under a mask is lit, and stands there where all is
+lit-point : (lit : Bool) (w : Content) (a s m : ℕ) → pick lit w guard ≡ point a s m → (lit ≡ true) × (w ≡ point a s m)
+lit-point true w a s m e = (refl, e)
+lit-point false w a s m e = absurd (let z : _≡_ {A = ℕ} 0 1 = cc in omega arith)
+
+-- what a carrier holds that stands at point n of a slot's grid, where all is lit
+abbrev pub holdsAt : (setup : Setup) (slot n : ℕ) → Content
+holdsAt setup slot n = contentOf setup (slot * symbols setup + rowOf setup n) (columnOf setup n)
+
+-- a point of the slot stands in the grid, at a place that holds it
+module _ (setup : Setup) (v : Valid setup) (slot s m : ℕ) (hs : s < subchannels setup) (hm : m < 48) where
   abbrev x : Spot
-  x = spotOf setup slot (j / 48) (j % 48)
+  x = spotOf setup slot s m
 
   spot-lies : DataSpot (symbols setup) (band setup .used) (λ o u. isPilot setup (slot * symbols setup + o) u) x
-  spot-lies = slot-law v slot .lies (j / 48) (j % 48) s-lt (omega arith)
+  spot-lies = slot-law v slot .lies s m hs hm
 
-  pub stands-lt : standsAt setup slot j < gridPoints setup
+  pub stands-lt : standsAt setup slot s m < gridPoints setup
   unfolding standsAt
   stands-lt = used-position-lt setup v (x .offset) (x .used) (spot-lies .used-lt) (spot-lies .offset-lt)
 
-  pub stands-holds : contentAt setup slot (standsAt setup slot j) ≡ point slot (j / 48) (j % 48)
+  stands-column : columnOf setup (standsAt setup slot s m) ≡ carrierOf (band setup) (x .used)
+  unfolding standsAt
+  stands-column = used-column setup v (x .offset) (x .used) (spot-lies .used-lt)
+
+  stands-holds : holdsAt setup slot (standsAt setup slot s m) ≡ point slot s m
   unfolding standsAt
   stands-holds =
       rw (used-row setup v (x .offset) (x .used) (spot-lies .used-lt), used-column setup v (x .offset) (x .used) (spot-lies .used-lt))
-      (content-placed setup v slot (j / 48) (j % 48) s-lt (omega arith))
+      (content-placed setup v slot s m hs hm)
+
+  -- and that is lit exactly when its subchannel is
+  stands-lit : (mask : ℕ) → litAt setup mask (standsAt setup slot s m) ≡ isLit setup mask s
+  stands-lit mask =
+      ap (λ (k : ℕ). isUsedLit setup mask (usedOf (band setup) k)) stands-column
+      ∙ ap (isUsedLit setup mask) (used-carrier (band setup) (setup .size) (band-law v) (x .used) (spot-lies .used-lt))
+      ∙ point-lit v mask slot s m hs hm
+
+  pub lit-holds : (mask : ℕ) → isLit setup mask s ≡ true → contentAt setup mask slot (standsAt setup slot s m) ≡ point slot s m
+  unfolding litContent
+  lit-holds mask e = rw (stands-lit mask ∙ e) stands-holds
 
 -- so no two points stand at one place
-pub stands-alone : (setup : Setup) (v : Valid setup) (slot i j : ℕ) → i < 48 * subchannels setup → j < 48 * subchannels setup → standsAt setup slot i ≡ standsAt setup slot j → i ≡ j
-stands-alone setup v slot i j hi hj e =
-    let p : point slot (i / 48) (i % 48) ≡ point slot (j / 48) (j % 48) =
-    sym (stands-holds setup v slot i hi) ∙ ap (contentAt setup slot) e ∙ stands-holds setup v slot j hj in
-    let a : i / 48 ≡ j / 48 = cc in
-    let b : i % 48 ≡ j % 48 = cc in
-    omega arith
-
--- subchannel and index of a point's number
-pub number-subchannel : (s m : ℕ) → m < 48 → pointNumber s m / 48 ≡ s
-number-subchannel s m h = omega arith
-
-pub number-index : (s m : ℕ) → m < 48 → pointNumber s m % 48 ≡ m
-number-index s m h = omega arith
+pub stands-alone : (setup : Setup) (v : Valid setup) (slot s m s′ m′ : ℕ) → s < subchannels setup → m < 48 → s′ < subchannels setup → m′ < 48
+    → standsAt setup slot s m ≡ standsAt setup slot s′ m′ → (s ≡ s′) × (m ≡ m′)
+stands-alone setup v slot s m s′ m′ hs hm hs′ hm′ e =
+    let p : point slot s m ≡ point slot s′ m′ =
+    sym (stands-holds setup v slot s m hs hm) ∙ ap (holdsAt setup slot) e ∙ stands-holds setup v slot s′ m′ hs′ hm′ in
+    ((cc), (cc))
 
 -- and a place that holds a point is where that point stands
-pub record Stands (setup : Setup) (slot n s m : ℕ) : Type 0 where
+pub record Stands (setup : Setup) (mask slot n s m : ℕ) : Type 0 where
   pub subchannel-lt : s < subchannels setup
+  pub subchannel-lit : isLit setup mask s ≡ true
   pub index-lt : m < 48
-  pub stands : standsAt setup slot (pointNumber s m) ≡ n
+  pub stands : standsAt setup slot s m ≡ n
 
 module _ (setup : Setup) (v : Valid setup) (slot : ℕ) (hs : slot < 512) (n : ℕ) (hn : n < gridPoints setup) where
   size-pos : 0 < setup .size
@@ -142,39 +164,42 @@ module _ (setup : Setup) (v : Valid setup) (slot : ℕ) (hs : slot < 512) (n : �
   unfolding position rowOf columnOf
   at-place = div-add-mod' n (setup .size)
 
-  pub point-stands : (a s m : ℕ) → contentAt setup slot n ≡ point a s m → Stands setup slot n s m
-  unfolding standsAt usedPosition placeAt usedCarrier
-  point-stands a s m e =
+  pub point-stands : (mask a s m : ℕ) → contentAt setup mask slot n ≡ point a s m → Stands setup mask slot n s m
+  unfolding standsAt usedPosition placeAt usedCarrier litContent
+  point-stands mask a s m e =
+      let lit = lit-point _ _ a s m e in
       let l = locate-column setup (slot * symbols setup + rowOf setup n) (columnOf setup n) v (digits-lt hs row-lt) column-lt in
-      let q = placing setup a s m (placed-where-located setup (slot * symbols setup + rowOf setup n) (fromDc (setup .size) (columnOf setup n)) a s m (l ∙ ap accepted e)) in
+      let q = placing setup a s m (placed-where-located setup (slot * symbols setup + rowOf setup n) (fromDc (setup .size) (columnOf setup n)) a s m (l ∙ ap accepted (lit .1))) in
       let o = slot-law v a .lies s m (q .subchannel-lt) (q .index-lt) .offset-lt in
       let y : a * symbols setup + spotOf setup a s m .offset ≡ slot * symbols setup + rowOf setup n = ap (λ (p : Place). p .symbol) (q .place-is) in
       let k : carrierOf (band setup) (spotOf setup a s m .used) ≡ columnOf setup n = one-column (centred v .0) _ _ (ap (λ (p : Place). p .carrier) (q .place-is)) in
       let same-slot : a ≡ slot = sym (digits-div a o) ∙ ap (λ (t : ℕ). t / symbols setup) y ∙ digits-div slot row-lt in
       let same-row : spotOf setup a s m .offset ≡ rowOf setup n = sym (digits-mod a o) ∙ ap (λ (t : ℕ). t % symbols setup) y ∙ digits-mod slot row-lt in
+      let here : standsAt setup slot s m ≡ n = rw (← same-slot, same-row, k) at-place in
       record {
         subchannel-lt = q .subchannel-lt;
+        subchannel-lit = sym (stands-lit setup v slot s m (q .subchannel-lt) (q .index-lt) mask) ∙ ap (litAt setup mask) here ∙ lit .0;
         index-lt = q .index-lt;
-        stands = rw (number-subchannel s m (q .index-lt), number-index s m (q .index-lt), ← same-slot, same-row, k) at-place;
+        stands = here;
       }
 
 -- the carrier of a point, as a number, is where the point stands
-carrier-stands : (setup : Setup) (slot s m : ℕ) → m < 48 → carrierNumber (setup .size) (band setup) (spotOf setup slot s m) ≡ standsAt setup slot (pointNumber s m)
+carrier-stands : (setup : Setup) (slot s m : ℕ) → carrierNumber (setup .size) (band setup) (spotOf setup slot s m) ≡ standsAt setup slot s m
 unfolding standsAt usedPosition position
-carrier-stands setup slot s m h = rw (number-subchannel s m h, number-index s m h)
+carrier-stands setup slot s m = refl
 
 -- a subchannel's row, started at the place of its first point: what the copies ask of it, and what they come to
 module _ {setup : Setup} (v : Valid setup) (slot s : ℕ) (hs : s < subchannels setup) (row : List ℕ)
     (t : Turned (shiftOf setup s) (λ m. carrierNumber (setup .size) (band setup) (spotOf setup slot s m)) row) (by : ℕ) (e : by ≡ shiftOf setup s) where
-  row-at : (m : ℕ) → m < 48 → turned row by m ≡ standsAt setup slot (pointNumber s m)
-  row-at m h = rw e (t m h ∙ carrier-stands setup slot s m h)
+  row-at : (m : ℕ) → m < 48 → turned row by m ≡ standsAt setup slot s m
+  row-at m h = rw e (t m h ∙ carrier-stands setup slot s m)
 
   pub row-within : (floats : ℕ) → floats ≡ 2 * gridPoints setup → Within row floats
   row-within floats long k h =
-      omega (arith, turned-below (shiftOf setup s) (gridPoints setup) _ row (shift-lt setup s) t (λ m l. rw (carrier-stands setup slot s m l) (stands-lt setup v slot (pointNumber s m) (omega arith))) k h)
+      omega (arith, turned-below (shiftOf setup s) (gridPoints setup) _ row (shift-lt setup s) t (λ m l. rw (carrier-stands setup slot s m) (stands-lt setup v slot s m hs l)) k h)
 
-  pub row-laid : (points l l′ : List Float) → l′ ≡ puts (turned row by) (pointAt points) 48 l → l′ ≡ puts (λ m. standsAt setup slot (pointNumber s m)) (pointAt points) 48 l
+  pub row-laid : (points l l′ : List Float) → l′ ≡ puts (turned row by) (pointAt points) 48 l → l′ ≡ puts (standsAt setup slot s) (pointAt points) 48 l
   row-laid points l l′ q = q ∙ puts-as _ _ _ _ 48 l row-at (λ m h. refl)
 
-  pub row-taken : (grid l l′ : List Float) → l′ ≡ puts (λ m. s * 48 + m) (λ m. pointAt grid (turned row by m)) 48 l → l′ ≡ taken setup slot grid s l
-  row-taken grid l l′ q = q ∙ puts-as _ _ _ _ 48 l (λ m h. refl) (λ m h. ap (pointAt grid) (row-at m h))
+  pub row-taken : (place : ℕ) (grid l l′ : List Float) → l′ ≡ puts (λ m. place * 48 + m) (λ m. pointAt grid (turned row by m)) 48 l → l′ ≡ taken setup slot grid s place l
+  row-taken place grid l l′ q = q ∙ puts-as _ _ _ _ 48 l (λ m h. refl) (λ m h. ap (pointAt grid) (row-at m h))

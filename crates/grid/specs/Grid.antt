@@ -1,4 +1,4 @@
--- Ground, lay, empty and look. Document 01, "Grids"; document 02, wish 4.
+-- Ground, lay, empty and look. Document 01, "Grids"; document 02, wishes 4 and 5.
 use mathlib.Core.List.{List}
 use Prim.Native.Nat.{ℕ, _+_, _*_, _/_, _%_}
 use lib.Dec.{eqb}
@@ -9,8 +9,9 @@ use Rattle.base.specs.Answer.{Answer, accepted, refused}
 use Rattle.base.specs.Choice.{pick}
 use Rattle.centre.specs.Centre.{onRow}
 use Rattle.map.specs.declared.Setup.{Setup}
-use Rattle.map.specs.Mode.{subchannels, symbols, spotOf}
-use Rattle.map.specs.Place.{Content, guard, dc, pilot, point, contentOf}
+use Rattle.map.specs.Mode.{symbols, spotOf}
+use Rattle.map.specs.Place.{Content, guard, dc, pilot, point}
+use Rattle.mask.specs.Mask.{litContent, litSubchannels, litRank, ofLitRank}
 use Rattle.points.specs.declared.Point.{Point}
 use Rattle.points.specs.Points.{pointAt, floatsOf, zeroPoint}
 use Rattle.lengths.specs.Length.{gridPoints}
@@ -29,13 +30,13 @@ abbrev pub outcome : (answer : Answer (List Float)) (old : List Float) → Outco
 outcome (accepted new) old = record { refusal = 0; buffer = new }
 outcome (refused number) old = record { refusal = number; buffer = old }
 
--- the number of a point among a slot's points: by subchannel and index, 48 a subchannel
-abbrev pub pointNumber : (subchannel index : ℕ) → ℕ
-pointNumber subchannel index = subchannel * 48 + index
+-- the number of a point among the points of subchannels one after another: by the subchannel's place among these and index, 48 a subchannel
+abbrev pub pointNumber : (place index : ℕ) → ℕ
+pointNumber place index = place * 48 + index
 
--- what the carrier holds that stands at point n of a slot's grid
-abbrev pub contentAt : (setup : Setup) (slot n : ℕ) → Content
-contentAt setup slot n = contentOf setup (slot * symbols setup + rowOf setup n) (columnOf setup n)
+-- what the carrier holds that stands at point n of a slot's grid, where only the mask's groups are lit
+abbrev pub contentAt : (setup : Setup) (mask slot n : ℕ) → Content
+contentAt setup mask slot n = litContent setup mask (slot * symbols setup + rowOf setup n) (columnOf setup n)
 
 -- Document 02, wish 4: fill becomes two moves. The ground has the pilot point p on pilots and 0.0 elsewhere, on every data carrier too.
 unfoldable pub bare : (p : Point) (content : Content) → Point
@@ -44,13 +45,13 @@ bare p dc = zeroPoint
 bare p pilot = p
 bare p (point slot subchannel index) = zeroPoint
 
-unfoldable pub grounded : (setup : Setup) (slot : ℕ) (p : Point) → List Float
-grounded setup slot p = floatsOf (gridPoints setup) (λ n. bare p (contentAt setup slot n))
+unfoldable pub grounded : (setup : Setup) (mask slot : ℕ) (p : Point) → List Float
+grounded setup mask slot p = floatsOf (gridPoints setup) (λ n. bare p (contentAt setup mask slot n))
 
--- Ground takes mode, size, cell, slot and a pilot point, and writes the slot's grid. Questions 1, 2, 3, 4, 9.
-unfoldable pub groundOf : (setup : Setup) (slot : ℕ) (p : Point) (grid : List Float) → Outcome
-groundOf setup slot p grid =
-    outcome (askGround setup slot (length grid) (accepted (grounded setup slot p))) grid
+-- Ground takes mode, size, cell, mask, slot and a pilot point, and writes the slot's grid. Questions 1, 2, 3, 17, 4, 9.
+unfoldable pub groundOf : (setup : Setup) (mask slot : ℕ) (p : Point) (grid : List Float) → Outcome
+groundOf setup mask slot p grid =
+    outcome (askGround setup mask slot (length grid) (accepted (grounded setup mask slot p))) grid
 
 -- A lay touches no other float: on the carriers of its subchannel stand its points, by index; elsewhere what stood there, `old`.
 unfoldable pub relaid : (subchannel : ℕ) (points : List Float) (old : Point) (content : Content) → Point
@@ -59,39 +60,41 @@ relaid subchannel points old dc = old
 relaid subchannel points old pilot = old
 relaid subchannel points old (point slot s index) = pick (eqb s subchannel) (pointAt points index) old
 
-unfoldable pub laid : (setup : Setup) (slot subchannel : ℕ) (points grid : List Float) → List Float
-laid setup slot subchannel points grid =
-    floatsOf (gridPoints setup) (λ n. relaid subchannel points (pointAt grid n) (contentAt setup slot n))
+unfoldable pub laid : (setup : Setup) (mask slot subchannel : ℕ) (points grid : List Float) → List Float
+laid setup mask slot subchannel points grid =
+    floatsOf (gridPoints setup) (λ n. relaid subchannel points (pointAt grid n) (contentAt setup mask slot n))
 
--- Lay takes mode, size, cell, slot, a subchannel and its 48 points, and writes these on the slot's grid. Questions 1, 2, 3, 4, 5, 8, 9.
-unfoldable pub layOf : (setup : Setup) (slot subchannel : ℕ) (points grid : List Float) → Outcome
-layOf setup slot subchannel points grid =
-    outcome (askLay setup slot subchannel (length points) (length grid) (accepted (laid setup slot subchannel points grid))) grid
+-- Lay takes mode, size, cell, mask, slot, a subchannel and its 48 points, and writes these on the slot's grid. Questions 1, 2, 3, 17, 4, 5, 8, 9.
+unfoldable pub layOf : (setup : Setup) (mask slot subchannel : ℕ) (points grid : List Float) → Outcome
+layOf setup mask slot subchannel points grid =
+    outcome (askLay setup mask slot subchannel (length points) (length grid) (accepted (laid setup mask slot subchannel points grid))) grid
 
--- What both moves together give, as document 01 defines the filled grid: data, the pilot point p on pilots, 0.0 elsewhere.
-unfoldable pub held : (p : Point) (points : List Float) (content : Content) → Point
-held p points guard = zeroPoint
-held p points dc = zeroPoint
-held p points pilot = p
-held p points (point slot subchannel index) = pointAt points (pointNumber subchannel index)
+-- What both moves together give, as document 01 defines the filled grid: data, the pilot point p on pilots, 0.0 elsewhere. The points are those of the lit subchannels: the rank among these gives the place.
+unfoldable pub held : (setup : Setup) (mask : ℕ) (p : Point) (points : List Float) (content : Content) → Point
+held setup mask p points guard = zeroPoint
+held setup mask p points dc = zeroPoint
+held setup mask p points pilot = p
+held setup mask p points (point slot subchannel index) = pointAt points (pointNumber (litRank setup mask subchannel) index)
 
-unfoldable pub filled : (setup : Setup) (slot : ℕ) (p : Point) (points : List Float) → List Float
-filled setup slot p points = floatsOf (gridPoints setup) (λ n. held p points (contentAt setup slot n))
+unfoldable pub filled : (setup : Setup) (mask slot : ℕ) (p : Point) (points : List Float) → List Float
+filled setup mask slot p points = floatsOf (gridPoints setup) (λ n. held setup mask p points (contentAt setup mask slot n))
 
--- where in the grid point n of the slot stands
-unfoldable pub standsAt : (setup : Setup) (slot n : ℕ) → ℕ
-standsAt setup slot n =
-    let spot = spotOf setup slot (n / 48) (n % 48) in
+-- where in the grid a point of the slot stands
+unfoldable pub standsAt : (setup : Setup) (slot subchannel index : ℕ) → ℕ
+standsAt setup slot subchannel index =
+    let spot = spotOf setup slot subchannel index in
     usedPosition setup (spot .offset) (spot .used)
 
-unfoldable pub emptied : (setup : Setup) (slot : ℕ) (grid : List Float) → List Float
-emptied setup slot grid = floatsOf (48 * subchannels setup) (λ n. pointAt grid (standsAt setup slot n))
+-- Document 02, wish 5: emptying gives back the lit subchannels' points, rising, 96 floats each.
+unfoldable pub emptied : (setup : Setup) (mask slot : ℕ) (grid : List Float) → List Float
+emptied setup mask slot grid =
+    floatsOf (48 * litSubchannels setup mask) (λ n. pointAt grid (standsAt setup slot (ofLitRank setup mask (n / 48)) (n % 48)))
 
--- Empty does the reverse and writes the points only. Questions 1, 2, 3, 4, 8, 9. (It is to be believed: what emptying gives of a grid that both moves did not leave, no law says.)
-unfoldable pub emptyOf : (setup : Setup) (slot : ℕ) (grid points : List Float) → Outcome
-emptyOf setup slot grid points =
+-- Empty does the reverse and writes the points only. Questions 1, 2, 3, 17, 4, 8, 9. (It is to be believed: what emptying gives of a grid that both moves did not leave, no law says.)
+unfoldable pub emptyOf : (setup : Setup) (mask slot : ℕ) (grid points : List Float) → Outcome
+emptyOf setup mask slot grid points =
     outcome
-    (askEmpty setup slot (length points) (length grid) (accepted (emptied setup slot grid)))
+    (askEmpty setup mask slot (length points) (length grid) (accepted (emptied setup mask slot grid)))
     points
 
 -- nothing (guard or DC), a pilot with its point, or data with its point, slot, subchannel and index
@@ -106,11 +109,11 @@ sight p dc = nothing
 sight p pilot = pilot-with p
 sight p (point slot subchannel index) = data-with p slot subchannel index
 
--- Look takes mode, size, cell, a zone's symbol, its slot's filled grid and a carrier, and reads the point from the grid. Questions 1, 2, 3, 4, 7, 9.
-unfoldable pub lookOf : (setup : Setup) (symbol : ℕ) (grid : List Float) (carrier : ℤ) → Answer Sight
-lookOf setup symbol grid carrier =
-    askLook setup symbol carrier (length grid)
-    (accepted (sight (pointAt grid (carrierPosition setup (symbol % symbols setup) carrier)) (contentOf setup symbol (onRow (setup .size) carrier))))
+-- Look takes mode, size, cell, mask, a zone's symbol, its slot's filled grid and a carrier, and reads the point from the grid. Questions 1, 2, 3, 17, 4, 7, 9.
+unfoldable pub lookOf : (setup : Setup) (mask symbol : ℕ) (grid : List Float) (carrier : ℤ) → Answer Sight
+lookOf setup mask symbol grid carrier =
+    askLook setup mask symbol carrier (length grid)
+    (accepted (sight (pointAt grid (carrierPosition setup (symbol % symbols setup) carrier)) (litContent setup mask symbol (onRow (setup .size) carrier))))
 
 -- What an answer of `look` says: document 01's values, or its number.
 abbrev pub seen : (answer : Seen) → Answer Sight

@@ -3,18 +3,18 @@ use map::Located;
 use map::Setup;
 use points::Point;
 ghost use mathlib.Core.Path.{_≡_};
-ghost use Prim.Native.Nat.{_*_, _%_, _<_};
+ghost use Prim.Native.Nat.{ℕ, _+_, _*_, _%_, _<_, _≤_};
 ghost use lib.ListN.{length};
-ghost use Rattle.base.specs.Answer.{refusalOf};
+ghost use Rattle.base.specs.Answer.{accepted};
 ghost use Rattle.map.specs.Mode.{symbols, subchannels, band};
-ghost use Rattle.map.specs.Place.{located};
 ghost use Rattle.map.specs.Model.{Valid};
-ghost use Rattle.rows.specs.Model.{TableOf};
+ghost use Rattle.mask.specs.Mask.{litContent, litSubchannels, litRank};
+ghost use Rattle.rows.specs.Model.{TableOf, runLit};
 ghost use Rattle.points.specs.Model.{putPoint};
 ghost use Rattle.lengths.specs.Length.{gridPoints};
 ghost use Rattle.grid.specs.Row.{position, usedPosition};
-ghost use Rattle.grid.specs.Grid.{grounded, groundOf, layOf, emptyOf, seen, lookOf};
-ghost use Rattle.grid.specs.Model.{pilotRow, taken, sightOf};
+ghost use Rattle.grid.specs.Grid.{grounded, groundOf, layOf, emptyOf, sight as sightOf, seen, lookOf};
+ghost use Rattle.grid.specs.Model.{pilotRow, taken, takenLit};
 
 // What `look` finds on a carrier, or the first refusal.
 pub enum Seen {
@@ -39,53 +39,64 @@ fn put_used(setup: Setup, row: usize, used: usize, p: Point, grid: &mut [f32])
     points::put_point(grid, place, p);
 }
 
-// The pilot point on the pilots of a row.
-fn pilot_row(setup: Setup, slot: usize, row: usize, p: Point, grid: &mut [f32])
+// The pilot point on the lit pilots of a row, 0.0 on the others.
+fn pilot_row(setup: Setup, lit: &[u8; 120], slot: usize, row: usize, p: Point, grid: &mut [f32])
     requires { ⌜ Valid setup ⌝ }
     requires { ⌜ (slot < 512) × (row < symbols setup) × (length (now grid) ≡ 2 * gridPoints setup) ⌝ }
-    ensures { λ _. ⌜ now (grid .exit) ≡ pilotRow setup slot p row (now (grid .entry)) ⌝ }
+    requires { ⌜ ((i : ℕ) → (setup .mode ≡ 0 → i < 120) → runLit setup (now lit) i < 2) ⌝ }
+    ensures { λ _. ⌜ now (grid .exit) ≡ pilotRow setup (now (lit .entry)) slot p row (now (grid .entry)) ⌝ }
 {
     let comb = rows::pilot_comb(setup, slot * map::symbols(setup) + row);
+    let points = [Point { i: 0.0, q: 0.0 }, p];
     let mut i = 0;
     while i < comb.count {
-        put_used(setup, row, rows::pilot_number(comb, i * 2), p, grid);
-        put_used(setup, row, rows::pilot_number(comb, i * 2 + 1), p, grid);
+        let own = points[rows::run_lit(setup, lit, i)];
+        put_used(setup, row, rows::pilot_number(comb, i * 2), own, grid);
+        put_used(setup, row, rows::pilot_number(comb, i * 2 + 1), own, grid);
         i += 1;
     }
 }
 
-// Zeros, and the pilot point on the pilots.
-fn zeros_and_pilots(setup: Setup, slot: usize, p: Point, grid: &mut [f32])
+// Zeros, and the pilot point on the lit pilots.
+fn zeros_and_pilots(setup: Setup, mask: usize, slot: usize, p: Point, grid: &mut [f32])
     requires { ⌜ Valid setup ⌝ }
-    requires { ⌜ (slot < 512) × (length (now grid) ≡ 2 * gridPoints setup) ⌝ }
-    ensures { λ _. ⌜ now (grid .exit) ≡ grounded setup slot p ⌝ }
+    requires { ⌜ (mask < 64) × (slot < 512) × (length (now grid) ≡ 2 * gridPoints setup) ⌝ }
+    ensures { λ _. ⌜ now (grid .exit) ≡ grounded setup mask slot p ⌝ }
 {
     points::clear(grid);
+    let lit = rows::lit_runs(setup, mask);
     let rows = map::symbols(setup);
     let mut row = 0;
     while row < rows {
-        pilot_row(setup, slot, row, p, grid);
+        pilot_row(setup, &lit, slot, row, p, grid);
         row += 1;
     }
 }
 
-// Lays the ground of a slot's grid, the pilot point on pilots and 0.0 elsewhere; or the first refusal of 1, 2, 3, 4, 9.
-pub fn ground(setup: Setup, slot: usize, pilot: Point, grid: &mut [f32]) -> u8
-    ensures { λ r. ⌜ record { refusal = r; buffer = now (grid .exit) } ≡ groundOf setup slot pilot (now (grid .entry)) ⌝ }
+// Lays the ground of a slot's grid, the pilot point on lit pilots and 0.0 elsewhere; or the first refusal of 1, 2, 3, 17, 4, 9.
+pub fn ground(setup: Setup, mask: usize, slot: usize, pilot: Point, grid: &mut [f32]) -> u8
+    ensures { λ r. ⌜ record { refusal = r; buffer = now (grid .exit) } ≡ groundOf setup mask slot pilot (now (grid .entry)) ⌝ }
 {
-    let refusal = lengths::ground_refusal(setup, slot, grid.len());
+    let refusal = lengths::ground_refusal(setup, mask, slot, grid.len());
     if refusal != 0 {
         return refusal;
     }
-    zeros_and_pilots(setup, slot, pilot, grid);
+    zeros_and_pilots(setup, mask, slot, pilot, grid);
     0
 }
 
-// Lays a subchannel's 48 points on a slot's grid and leaves the rest of it; or the first refusal of 1, 2, 3, 4, 5, 8, 9.
-pub fn lay(setup: Setup, slot: usize, subchannel: usize, points: &[f32], grid: &mut [f32]) -> u8
-    ensures { λ r. ⌜ record { refusal = r; buffer = now (grid .exit) } ≡ layOf setup slot subchannel (now (points .entry)) (now (grid .entry)) ⌝ }
+// Lays a lit subchannel's 48 points on a slot's grid and leaves the rest of it; or the first refusal of 1, 2, 3, 17, 4, 5, 8, 9.
+pub fn lay(
+    setup: Setup,
+    mask: usize,
+    slot: usize,
+    subchannel: usize,
+    points: &[f32],
+    grid: &mut [f32],
+) -> u8
+    ensures { λ r. ⌜ record { refusal = r; buffer = now (grid .exit) } ≡ layOf setup mask slot subchannel (now (points .entry)) (now (grid .entry)) ⌝ }
 {
-    let refusal = lengths::lay_refusal(setup, slot, subchannel, points.len(), grid.len());
+    let refusal = lengths::lay_refusal(setup, mask, slot, subchannel, points.len(), grid.len());
     if refusal != 0 {
         return refusal;
     }
@@ -96,79 +107,103 @@ pub fn lay(setup: Setup, slot: usize, subchannel: usize, points: &[f32], grid: &
     0
 }
 
-// The points of one subchannel taken off the grid.
+// The points of one subchannel taken off the grid, to a place among the points.
 fn take(
     setup: Setup,
     slot: usize,
     subchannel: usize,
+    place: usize,
     table: &[u16; 48],
     grid: &[f32],
     points: &mut [f32],
 )
     requires { ⌜ Valid setup ⌝ }
-    requires { ⌜ (subchannel < subchannels setup) × (length (now points) ≡ 96 * subchannels setup) × (length (now grid) ≡ 2 * gridPoints setup) ⌝ }
+    requires { ⌜ (subchannel < subchannels setup) × (place < 192) × (96 * place + 96 ≤ length (now points)) × (length (now grid) ≡ 2 * gridPoints setup) ⌝ }
     requires { ⌜ TableOf setup slot (now table) ⌝ }
-    ensures { λ _. ⌜ now (points .exit) ≡ taken setup slot (now (grid .entry)) subchannel (now (points .entry)) ⌝ }
+    ensures { λ _. ⌜ now (points .exit) ≡ taken setup slot (now (grid .entry)) subchannel place (now (points .entry)) ⌝ }
 {
     let row = rows::carrier_row(setup, slot, subchannel, table);
     let by = rows::shift(setup, subchannel);
-    points::take_row(&row, by, subchannel * 48, grid, points);
+    points::take_row(&row, by, place * 48, grid, points);
 }
 
-// Takes a slot's points off its grid; or the first refusal of 1, 2, 3, 4, 8, 9.
-pub fn empty(setup: Setup, slot: usize, grid: &[f32], points: &mut [f32]) -> u8
-    ensures { λ r. ⌜ record { refusal = r; buffer = now (points .exit) } ≡ emptyOf setup slot (now (grid .entry)) (now (points .entry)) ⌝ }
+// The same where the subchannel is lit, which has this rank; answers the rank of the next one.
+fn take_lit(
+    setup: Setup,
+    mask: usize,
+    slot: usize,
+    subchannel: usize,
+    rank: usize,
+    table: &[u16; 48],
+    grid: &[f32],
+    points: &mut [f32],
+) -> usize
+    requires { ⌜ Valid setup ⌝ }
+    requires { ⌜ (subchannel < subchannels setup) × (rank ≡ litRank setup mask subchannel) × (length (now points) ≡ 96 * litSubchannels setup mask) × (length (now grid) ≡ 2 * gridPoints setup) ⌝ }
+    requires { ⌜ TableOf setup slot (now table) ⌝ }
+    ensures { λ r. ⌜ (r ≡ litRank setup mask (subchannel + 1)) × (now (points .exit) ≡ takenLit setup mask slot (now (grid .entry)) subchannel (now (points .entry))) ⌝ }
 {
-    let refusal = lengths::empty_refusal(setup, slot, points.len(), grid.len());
+    if !mask::is_lit(setup, mask, subchannel) {
+        return rank;
+    }
+    take(setup, slot, subchannel, rank, table, grid, points);
+    rank + 1
+}
+
+// Takes a slot's points off its grid, those of the lit subchannels; or the first refusal of 1, 2, 3, 17, 4, 8, 9.
+pub fn empty(setup: Setup, mask: usize, slot: usize, grid: &[f32], points: &mut [f32]) -> u8
+    ensures { λ r. ⌜ record { refusal = r; buffer = now (points .exit) } ≡ emptyOf setup mask slot (now (grid .entry)) (now (points .entry)) ⌝ }
+{
+    let refusal = lengths::empty_refusal(setup, mask, slot, points.len(), grid.len());
     if refusal != 0 {
         return refusal;
     }
     let table = rows::table(setup, slot);
     let n = map::subchannels(setup);
+    let mut rank = 0;
     let mut subchannel = 0;
     while subchannel < n {
-        take(setup, slot, subchannel, &table, grid, points);
+        rank = take_lit(setup, mask, slot, subchannel, rank, &table, grid, points);
         subchannel += 1;
     }
     0
 }
 
-// What is seen on a carrier that holds what `found` says, with the point p there.
-fn sight(found: Located, p: Point) -> Seen
-    ensures { λ r. ⌜ seen r ≡ sightOf (located found) p ⌝ }
+// What is seen in a column of an accepted symbol's row, with the point p there: data is lit by its subchannel, a pilot by its
+// used number.
+fn sight(setup: Setup, mask: usize, symbol: usize, column: usize, p: Point) -> Seen
+    requires { ⌜ Valid setup ⌝ }
+    requires { ⌜ (symbol < 512 * symbols setup) × (column < setup .size) ⌝ }
+    ensures { λ r. ⌜ seen r ≡ accepted (sightOf p (litContent setup mask symbol column)) ⌝ }
 {
-    match found {
+    match map::content(setup, symbol, column) {
         Located::Guard => Seen::Nothing,
         Located::Dc => Seen::Nothing,
-        Located::Pilot => Seen::Pilot(p),
+        Located::Pilot => {
+            let used = carriers::used(map::band(setup), column);
+            if mask::is_used_lit(setup, mask, used) {
+                Seen::Pilot(p)
+            } else {
+                Seen::Nothing
+            }
+        }
         Located::Data {
             slot,
             subchannel,
             index,
-        } => Seen::Data {
-            point: p,
-            slot,
-            subchannel,
-            index,
-        },
+        } => {
+            if mask::is_lit(setup, mask, subchannel) {
+                Seen::Data {
+                    point: p,
+                    slot,
+                    subchannel,
+                    index,
+                }
+            } else {
+                Seen::Nothing
+            }
+        }
         Located::Refused(number) => Seen::Refused(number),
-    }
-}
-
-// The number of a refusal, or 0.
-fn refusal_of(found: Located) -> u8
-    ensures { λ r. ⌜ r ≡ refusalOf (located found) ⌝ }
-{
-    match found {
-        Located::Guard => 0,
-        Located::Dc => 0,
-        Located::Pilot => 0,
-        Located::Data {
-            slot: _,
-            subchannel: _,
-            index: _,
-        } => 0,
-        Located::Refused(number) => number,
     }
 }
 
@@ -181,21 +216,15 @@ fn column_position(setup: Setup, symbol: usize, column: usize) -> usize
     map::offset_of(setup, symbol) * setup.size + column
 }
 
-// The point on a carrier of a zone's symbol, and whose it is; or the first refusal of 1, 2, 3, 4, 7, 9.
-pub fn look(setup: Setup, symbol: usize, grid: &[f32], carrier: i32) -> Seen
-    ensures { λ r. ⌜ seen r ≡ lookOf setup symbol (now (grid .entry)) carrier ⌝ }
+// The point on a lit carrier of a zone's symbol, and whose it is; or the first refusal of 1, 2, 3, 17, 4, 7, 9.
+pub fn look(setup: Setup, mask: usize, symbol: usize, grid: &[f32], carrier: i32) -> Seen
+    ensures { λ r. ⌜ seen r ≡ lookOf setup mask symbol (now (grid .entry)) carrier ⌝ }
 {
-    let found = map::locate(setup, symbol, carrier);
-    let refusal = refusal_of(found);
+    let refusal = lengths::look_refusal(setup, mask, symbol, carrier, grid.len());
     if refusal != 0 {
         return Seen::Refused(refusal);
     }
-    if grid.len() != 2 * lengths::grid_points(setup) {
-        return Seen::Refused(9);
-    }
     let column = centre::column(setup.size, carrier);
-    sight(
-        found,
-        points::point_at(grid, column_position(setup, symbol, column)),
-    )
+    let p = points::point_at(grid, column_position(setup, symbol, column));
+    sight(setup, mask, symbol, column, p)
 }

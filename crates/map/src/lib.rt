@@ -324,7 +324,7 @@ pub fn place(setup: Setup, slot: usize, subchannel: usize, index: usize) -> Plac
 }
 
 // What stands in a column of an accepted symbol's row.
-fn content(setup: Setup, symbol: usize, column: usize) -> Located
+pub fn content(setup: Setup, symbol: usize, column: usize) -> Located
     requires { ⌜ Valid setup ⌝ }
     requires { ⌜ column < setup .size ⌝ }
     ensures { λ r. ⌜ located r ≡ accepted (contentOf setup symbol column) ⌝ }

@@ -14,6 +14,8 @@ use Rattle.base.proofs.Tabulate.{entry-of}
 use Rattle.carriers.specs.Bin.{isBinPilot, binPilotPlace}
 use Rattle.pusc_dl.specs.Cluster.{isClusterPilot, firstPilot, secondPilot}
 use Rattle.pusc_dl.specs.declared.Physical.{Physical}
+use Rattle.pusc_dl.specs.Group.{hasGroup}
+use Rattle.pusc_dl.specs.Map.{usedGroup}
 use Rattle.pusc_dl.specs.Model.{clusterLit}
 use Rattle.pusc_ul.specs.Tile.{isTilePilot}
 use Rattle.ofusc.proofs.Sequence.{size}
@@ -158,6 +160,19 @@ run-few (pusc-dl h) y i l e = l
 run-few (pusc-ul h) y i l e = absurd (omega arith)
 run-few (ofusc w h) y i l e = absurd (omega arith)
 run-few (amc q w h) y i l e = absurd (omega arith)
+
+-- a run is lit or not
+pub run-two : (c : Setup) (mask : ℕ) (lit : List ℕ) → LitRuns c mask lit → (i : ℕ) → (c .mode ≡ 0 → i < 120) → runLit c lit i < 2
+unfolding runLit clusterLit
+run-two c mask lit t i h =
+    cases (eqb (c .mode) 0)
+    (λ e. let z = eqb-true (c .mode) 0 e in
+    rw (e, entry-of lit 120 (clusterLit (c .cell) mask) (t z) i (h z)) (bit (hasGroup mask (usedGroup (c .cell) (i * 14)))))
+    (λ e. rw e (lit< tt))
+  where
+    bit : (b : Bool) → pick b 1 0 < 2
+    bit true = lit< tt
+    bit false = lit< tt
 
 -- and a pilot is lit where its run is
 pub run-lit : {c : Setup} → Valid c → (mask : ℕ) (lit : List ℕ) → LitRuns c mask lit → (y j : ℕ) → j < combOf c y .count * 2

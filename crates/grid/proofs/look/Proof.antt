@@ -1,16 +1,39 @@
 -- `grid::look` meets its contract.
+use mathlib.Core.Path.{refl}
+use native.Mathlib.Omega.{arith}
 use borrow.Author.Needs.{needs}
 use Rattle.map.proofs.Outcome.{size-few}
-use Rattle.grid.proofs.Looked.{look-refused, look-valid, look-carrier, look-column, look-9, look-done}
+use Rattle.grid.proofs.Looked.{look-refused, look-asked, look-column, look-done}
 use Rattle.grid.proofs.look.Statement.{statement}
 use Rattle.grid.proofs.look.Tie as tie
 
 column-requires : tie.Need-column-requires
-column-requires c κs = (search (size-few, look-valid, needs), search (look-carrier, needs))
+column-requires c κs =
+    let grid = c .before .before .before .args .grid .now in
+    let a = look-asked _ _ _ _ _ refl grid _ (c .before .look-refusal .ensures) (c .if1 .left) in
+    (size-few (a .lit .valid), a .in-range)
+
+column-position-requires : tie.Need-column-position-requires
+column-position-requires c κs =
+    let grid = c .before .before .before .before .args .grid .now in
+    let a = look-asked _ _ _ _ _ refl grid _ (c .before .before .look-refusal .ensures) (c .before .if1 .left) in
+    (a .lit .valid, look-column _ _ _ _ _ refl grid _ (c .before .before .look-refusal .ensures) (c .before .if1 .left) _ (c .column .ensures))
+
+point-at-requires : tie.Need-point-at-requires
+point-at-requires c κs =
+    let grid = c .before .before .before .before .before .args .grid .now in
+    let a = look-asked _ _ _ _ _ refl grid _ (c .before .before .before .look-refusal .ensures) (c .before .before .if1 .left) in
+    omega (arith, a .grid-long, c .column-position .ensures .1)
+
+sight-requires : tie.Need-sight-requires
+sight-requires c κs =
+    let grid = c .before .before .before .before .before .before .args .grid .now in
+    let a = look-asked _ _ _ _ _ refl grid _ (c .before .before .before .before .look-refusal .ensures) (c .before .before .before .if1 .left) in
+    (a .lit .valid, (a .symbol-lt, look-column _ _ _ _ _ refl grid _ (c .before .before .before .before .look-refusal .ensures) (c .before .before .before .if1 .left) _ (c .before .before .column .ensures)))
 
 pub look-spec : {M : Type 1} → statement M
 look-spec =
     tie.close
     (tie.spec
-    (λ c κs. search needs) (λ c κs. search needs) (λ c. search (look-refused, needs)) (λ c κs. search (look-valid, needs)) (λ c. search needs) (λ c. search (look-9, needs))
-    column-requires (λ c κs. search (look-valid, look-column, needs)) (λ c κs. search needs) (λ c κs. search needs) (λ c. search (look-done, needs)))
+    (λ c κs. search needs) (λ c. search (look-refused, needs)) column-requires column-position-requires point-at-requires sight-requires
+    (λ c. search (look-done, needs)))
