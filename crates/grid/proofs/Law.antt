@@ -1,105 +1,155 @@
--- THE LAW OF THE GRID: it rests on the law of the map, and on no mode's text.
+-- THE LAW OF THE GRID: it rests on the laws of the map and of the mask, and on no mode's text.
 use mathlib.Core.Path.{_≡_, refl, sym, ap, _∙_}
+use mathlib.Core.Bool.{Bool, true, false, not}
 use mathlib.Core.List.{List, [], _∷_}
 use Prim.Native.Nat.{ℕ, _+_, _*_, _/_, _%_, _<_}
-use native.Mathlib.Nat.{mod-lt, div-add-mod'}
+use native.Mathlib.Nat.{mod-lt, div-add-mod', div-lt-iff-lt-mul}
 use native.Mathlib.Omega.{arith}
+use lib.Arith.{digits-lt}
 use lib.ListN.{length}
 use lib.IntN.{ℤ}
 use lib.Ieee.{Float}
-use borrow.Author.Tests.{eq-eqb, ne-eqb}
+use borrow.Author.Tests.{eq-eqb, ne-eqb, lt-ltb}
+use Rattle.base.specs.Choice.{pick}
 use Rattle.base.specs.Answer.{accepted}
-use Rattle.centre.specs.Centre.{onRow}
+use Rattle.base.proofs.Test.{cases}
+use Rattle.base.proofs.Chain.{yes-all}
+use Rattle.carriers.specs.Band.{carrierOf, usedOf}
+use Rattle.carriers.proofs.Guards.{carrier-lt, used-carrier}
+use Rattle.centre.specs.Centre.{fromDc, onRow}
 use Rattle.map.specs.declared.Setup.{Setup}
-use Rattle.map.specs.Mode.{subchannels, symbols}
+use Rattle.map.specs.Mode.{subchannels, symbols, band}
 use Rattle.map.specs.Model.{Valid}
-use Rattle.map.specs.Place.{Place, Content, guard, dc, pilot, point, placeOf, locateOf}
+use Rattle.map.specs.Law.{Passes}
+use Rattle.map.specs.Place.{Place, Content, guard, dc, pilot, point, usedCarrier, placeOf, contentOf, locateOf}
 use Rattle.map.proofs.ByMode.{few}
-use Rattle.map.proofs.Law.{setup-asked, locating, located-where-placed, in-own-slot}
+use Rattle.map.proofs.Slot.{band-law, centred}
+use Rattle.map.proofs.Law.{setup-asked, locating, locate-column, located-where-placed, in-own-slot}
+use Rattle.mask.specs.Mask.{isMask, isLit, isUsedLit, litContent, litSubchannels, litRank, ofLitRank, allLit}
+use Rattle.mask.proofs.Law.{mask-law}
 use Rattle.points.specs.declared.Point.{Point}
-use Rattle.points.specs.Points.{pointAt}
+use Rattle.points.specs.Points.{zeroPoint, pointAt}
 use Rattle.points.proofs.Points.{point-floats, by-points}
-use Rattle.lengths.specs.Length.{gridPoints, pointsLength, gridLength}
-use Rattle.lengths.specs.Model.{gridRefusal, groundRefusal, layRefusal}
-use Rattle.lengths.proofs.Length.{lengths-listed}
-use Rattle.lengths.proofs.Refusal.{GroundAccepted, LayAccepted, ground-numbered, ground-accepted, ground-last, lay-numbered, lay-accepted, lay-last, empty-numbered, empty-last, grid-0}
+use Rattle.lengths.specs.Length.{gridPoints, litPointsLength, gridLength}
+use Rattle.lengths.specs.Model.{gridRefusal, groundRefusal, layRefusal, lookRefusal}
+use Rattle.lengths.proofs.Length.{lengths-listed, all-lit-length}
+use Rattle.lengths.proofs.Refusal.{MaskAccepted, GroundAccepted, LayAccepted, LookAccepted, ground-numbered, ground-accepted, ground-last, lay-numbered, lay-accepted, lay-unlit, lay-last, empty-numbered, empty-last, look-0, grid-0}
 use Rattle.grid.specs.Row.{carrierPosition}
-use Rattle.grid.specs.Grid.{contentAt, pointNumber, bare, grounded, groundOf, relaid, laid, layOf, held, filled, standsAt, emptied, emptyOf, data-with, sight, lookOf}
-use Rattle.grid.specs.Model.{sightOf}
+use Rattle.grid.specs.Grid.{contentAt, pointNumber, bare, grounded, groundOf, relaid, laid, layOf, held, filled, standsAt, emptied, emptyOf, nothing, data-with, sight, lookOf}
 use Rattle.grid.specs.Law.{Leaves, Lay, Lays, no-lay, lay-then, Never, none, another, LastLay, here, later, ownPoints, FilledGrid, GridLaw}
-use Rattle.grid.proofs.Outcome.{left, accepted-anew, accepted-number}
-use Rattle.grid.proofs.Slot.{floats-long, row-position, column-position, position-lt, stands-lt, stands-holds, point-stands}
-use Rattle.grid.proofs.Looked.{look-done}
+use Rattle.grid.proofs.Outcome.{left, refused-leaves, accepted-anew, accepted-number}
+use Rattle.grid.proofs.Slot.{floats-long, row-position, column-position, position-lt, stands-lt, lit-holds, point-stands}
+use Rattle.grid.proofs.Looked.{content-lit, look-done}
 
 -- where a carrier of a zone's symbol stands in its slot's grid
 abbrev there : (setup : Setup) (symbol : ℕ) (carrier : ℤ) → ℕ
 there setup symbol carrier = carrierPosition setup (symbol % symbols setup) carrier
 
--- a carrier of a slot, which holds w
-record OnGrid (setup : Setup) (slot : ℕ) (w : Content) (symbol : ℕ) (carrier : ℤ) : Type 0 where
+-- whether it is lit, and what is there then of what it holds
+abbrev lit-there : (setup : Setup) (mask : ℕ) (carrier : ℤ) → Bool
+lit-there setup mask carrier = isUsedLit setup mask (usedOf (band setup) (onRow (setup .size) carrier))
+
+abbrev shown : (setup : Setup) (mask : ℕ) (carrier : ℤ) (w : Content) → Content
+shown setup mask carrier w = pick (lit-there setup mask carrier) w guard
+
+-- a carrier of a slot, where w is shown
+record OnGrid (setup : Setup) (mask slot : ℕ) (w : Content) (symbol : ℕ) (carrier : ℤ) : Type 0 where
   there-lt : there setup symbol carrier < gridPoints setup
-  there-holds : contentAt setup slot (there setup symbol carrier) ≡ w
+  there-holds : contentAt setup mask slot (there setup symbol carrier) ≡ w
   -- what is seen where a grid has a point there
   looked : (grid : List Float) → length grid ≡ 2 * gridPoints setup → (p : Point) → pointAt grid (there setup symbol carrier) ≡ p
-      → lookOf setup symbol grid carrier ≡ accepted (sight p w)
+      → lookOf setup mask symbol grid carrier ≡ accepted (sight p w)
 
-on-grid : {setup : Setup} → Valid setup → (slot : ℕ) (w : Content) (symbol : ℕ) (carrier : ℤ) → symbol / symbols setup ≡ slot → locateOf setup symbol carrier ≡ accepted w
-    → OnGrid setup slot w symbol carrier
-unfolding sightOf
-on-grid {setup} v slot w symbol carrier own a =
-    let q = locating setup symbol carrier a in
-    let row = symbol % symbols setup in
-    let column = onRow (setup .size) carrier in
-    let r : slot * symbols setup + row ≡ symbol = ap (λ (t : ℕ). t * symbols setup + row) (sym own) ∙ div-add-mod' symbol (symbols setup) in
-    record {
-      there-lt = position-lt setup row column (q .column-lt) (mod-lt symbol (few v .symbols-pos));
-      there-holds = rw (row-position setup row column (q .column-lt), column-position setup row column (q .column-lt), r) (q .content-is);
-      looked = λ grid long p e.
-          sym (look-done setup symbol carrier (accepted w) carrier (sym a) refl 0 refl grid refl (gridPoints setup) refl long _ refl _ refl p (sym e) _ refl);
-    }
+module _ {setup : Setup} {mask : ℕ} (m : MaskAccepted setup mask) where
+  on-grid : (slot : ℕ) (w : Content) (symbol : ℕ) (carrier : ℤ) → symbol / symbols setup ≡ slot → locateOf setup symbol carrier ≡ accepted w
+      → OnGrid setup mask slot (shown setup mask carrier w) symbol carrier
+  unfolding litContent
+  on-grid slot w symbol carrier own a =
+      let q = locating setup symbol carrier a in
+      let row = symbol % symbols setup in
+      let column = onRow (setup .size) carrier in
+      let r : slot * symbols setup + row ≡ symbol = ap (λ (t : ℕ). t * symbols setup + row) (sym own) ∙ div-add-mod' symbol (symbols setup) in
+      record {
+        there-lt = position-lt setup row column (q .column-lt) (mod-lt symbol (few (m .valid) .symbols-pos));
+        there-holds = rw (row-position setup row column (q .column-lt), column-position setup row column (q .column-lt), r, q .content-is);
+        looked = λ grid long p e.
+            let asked : LookAccepted setup mask symbol carrier (length grid) = record { lit = m; symbol-lt = q .symbol-lt; in-range = q .in-range; grid-long = long } in
+            sym (look-done setup mask symbol carrier carrier refl grid 0 (look-0 setup mask symbol carrier (length grid) asked) refl _ refl _ refl p (sym e) _ (rw (q .content-is)));
+      }
 
-point-on-grid : {setup : Setup} → Valid setup → (slot s index : ℕ) (place : Place) → placeOf setup slot s index ≡ accepted place
-    → OnGrid setup slot (point slot s index) (place .symbol) (place .carrier)
-point-on-grid {setup} v slot s index place q = on-grid v slot (point slot s index) (place .symbol) (place .carrier) (in-own-slot setup slot s index q) (located-where-placed setup slot s index q)
+  -- at the place of a point its subchannel tells whether it is lit
+  point-there : (slot s index : ℕ) (place : Place) → placeOf setup slot s index ≡ accepted place → lit-there setup mask (place .carrier) ≡ isLit setup mask s
+  point-there slot s index place q =
+      let l = locating setup (place .symbol) (place .carrier) (located-where-placed setup slot s index q) in
+      content-lit setup (m .valid) mask (place .symbol) (onRow (setup .size) (place .carrier)) (l .symbol-lt) (l .column-lt) slot s index (l .content-is)
+
+  point-on-grid : (slot s index : ℕ) (place : Place) → placeOf setup slot s index ≡ accepted place
+      → OnGrid setup mask slot (pick (isLit setup mask s) (point slot s index) guard) (place .symbol) (place .carrier)
+  point-on-grid slot s index place q =
+      rw (point-there slot s index place q) at
+      (on-grid slot (point slot s index) (place .symbol) (place .carrier) (in-own-slot setup slot s index q) (located-where-placed setup slot s index q))
+
+  -- a used number's carrier by its number
+  used-there : (used : ℕ) → used < band setup .used → lit-there setup mask (usedCarrier setup used) ≡ isUsedLit setup mask used
+  unfolding usedCarrier
+  used-there used h =
+      ap (λ (k : ℕ). isUsedLit setup mask (usedOf (band setup) k)) (centred (m .valid) .0 .back (carrierOf (band setup) used))
+      ∙ ap (isUsedLit setup mask) (used-carrier (band setup) (setup .size) (band-law (m .valid)) used h)
+
+  used-located : (symbol used : ℕ) → symbol < 512 * symbols setup → used < band setup .used
+      → locateOf setup symbol (usedCarrier setup used) ≡ accepted (contentOf setup symbol (carrierOf (band setup) used))
+  unfolding usedCarrier
+  used-located symbol used hy h = locate-column setup symbol (carrierOf (band setup) used) (m .valid) hy (carrier-lt (band setup) (setup .size) (band-law (m .valid)) used h)
+
+  -- one that is not lit
+  dark-on-grid : (slot symbol used : ℕ) → symbol / symbols setup ≡ slot → symbol < 512 * symbols setup → used < band setup .used → isUsedLit setup mask used ≡ false
+      → OnGrid setup mask slot guard symbol (usedCarrier setup used)
+  dark-on-grid slot symbol used own hy h dark =
+      rw (used-there used h ∙ dark) at (on-grid slot _ symbol (usedCarrier setup used) own (used-located symbol used hy h))
 
 -- ---- one lay
 
-module _ (setup : Setup) (slot s : ℕ) (points grid next : List Float) (e : Leaves (layOf setup slot s points grid) next) where
-  left-lay : (layRefusal setup slot s (length points) (length grid) ≡ 0) × (next ≡ laid setup slot s points grid)
+module _ (setup : Setup) (mask slot s : ℕ) (points grid next : List Float) (e : Leaves (layOf setup mask slot s points grid) next) where
+  left-lay : (layRefusal setup mask slot s (length points) (length grid) ≡ 0) × (next ≡ laid setup mask slot s points grid)
   unfolding layOf
-  left-lay = left _ _ _ (lay-numbered setup slot s (length points) (length grid) (accepted (laid setup slot s points grid))) _ next e
+  left-lay = left _ _ _ (lay-numbered setup mask slot s (length points) (length grid) (accepted (laid setup mask slot s points grid))) _ next e
 
-  lay-fits : LayAccepted setup slot s (length points) (length grid)
-  lay-fits = lay-accepted setup slot s (length points) (length grid) _ refl (left-lay .0)
+  lay-fits : LayAccepted setup mask slot s (length points) (length grid)
+  lay-fits = lay-accepted setup mask slot s (length points) (length grid) _ refl (left-lay .0)
 
   lay-long : length next ≡ 2 * gridPoints setup
   unfolding laid
   lay-long = ap length (left-lay .1) ∙ floats-long setup _
 
-  lay-at : (n : ℕ) → n < gridPoints setup → pointAt next n ≡ relaid s points (pointAt grid n) (contentAt setup slot n)
+  lay-at : (n : ℕ) → n < gridPoints setup → pointAt next n ≡ relaid s points (pointAt grid n) (contentAt setup mask slot n)
   unfolding laid
   lay-at n h = ap (λ (g : List Float). pointAt g n) (left-lay .1) ∙ point-floats (gridPoints setup) _ n h
 
   -- what is seen then at the place of a point of the slot
   module _ (t index : ℕ) (place : Place) (q : placeOf setup slot t index ≡ accepted place) where
-    abbrev k : OnGrid setup slot (point slot t index) (place .symbol) (place .carrier)
-    k = point-on-grid (lay-fits .fits .valid) slot t index place q
+    abbrev w : Content
+    w = pick (isLit setup mask t) (point slot t index) guard
+
+    abbrev k : OnGrid setup mask slot w (place .symbol) (place .carrier)
+    k = point-on-grid (lay-fits .fits .lit) slot t index place q
 
     abbrev old : Point
     old = pointAt grid (there setup (place .symbol) (place .carrier))
 
-    seen-then : lookOf setup (place .symbol) next (place .carrier) ≡ accepted (data-with (relaid s points old (point slot t index)) slot t index)
-    unfolding sight
+    seen-then : lookOf setup mask (place .symbol) next (place .carrier) ≡ accepted (sight (relaid s points old w) w)
     seen-then = k .looked next lay-long _ (lay-at (there setup (place .symbol) (place .carrier)) (k .there-lt) ∙ ap (relaid s points old) (k .there-holds))
 
-    other-seen : (t ≡ s → ⊥) → lookOf setup (place .symbol) next (place .carrier) ≡ lookOf setup (place .symbol) grid (place .carrier)
-    unfolding relaid sight
-    other-seen ne = (rw (ne-eqb t s ne) at seen-then) ∙ sym (k .looked grid (lay-fits .fits .grid-long) _ refl)
+    other-stays : (t ≡ s → ⊥) → relaid s points old w ≡ old
+    unfolding relaid
+    other-stays ne = cases (isLit setup mask t) (λ b. rw (b, ne-eqb t s ne)) (λ b. rw b)
+
+    other-seen : (t ≡ s → ⊥) → lookOf setup mask (place .symbol) next (place .carrier) ≡ lookOf setup mask (place .symbol) grid (place .carrier)
+    other-seen ne = seen-then ∙ ap (λ (p : Point). accepted (sight p w)) (other-stays ne) ∙ sym (k .looked grid (lay-fits .fits .grid-long) _ refl)
 
   own-seen : (index : ℕ) (place : Place) → placeOf setup slot s index ≡ accepted place
-      → lookOf setup (place .symbol) next (place .carrier) ≡ accepted (data-with (pointAt points index) slot s index)
-  unfolding relaid
-  own-seen index place q = rw (eq-eqb s s refl) at (seen-then s index place q)
+      → lookOf setup mask (place .symbol) next (place .carrier) ≡ accepted (data-with (pointAt points index) slot s index)
+  unfolding relaid sight
+  own-seen index place q = rw (lay-fits .subchannel-lit, eq-eqb s s refl) at (seen-then s index place q)
 
 -- ---- lays one after another
 
@@ -118,141 +168,173 @@ no-point : (w : Content) → ((s : ℕ) (points : List Float) (old : Point) → 
 no-point w h [] = no-more
 no-point w h (first ∷ rest) = still (h (first .subchannel)) (no-point w h rest)
 
-module _ {setup : Setup} {slot : ℕ} where
-  lays-long : {before after : List Float} {lays : List Lay} → length before ≡ 2 * gridPoints setup → Lays setup slot before lays after → length after ≡ 2 * gridPoints setup
+module _ {setup : Setup} {mask slot : ℕ} where
+  lays-long : {before after : List Float} {lays : List Lay} → length before ≡ 2 * gridPoints setup → Lays setup mask slot before lays after → length after ≡ 2 * gridPoints setup
   lays-long long no-lay = long
-  lays-long long (lay-then e rest) = lays-long (lay-long setup slot _ _ _ _ e) rest
+  lays-long long (lay-then e rest) = lays-long (lay-long setup mask slot _ _ _ _ e) rest
 
-  module _ (n : ℕ) (hn : n < gridPoints setup) (w : Content) (c : contentAt setup slot n ≡ w) where
-    stays : {before after : List Float} {lays : List Lay} → Lays setup slot before lays after → Untouched w lays → pointAt after n ≡ pointAt before n
+  module _ (n : ℕ) (hn : n < gridPoints setup) (w : Content) (c : contentAt setup mask slot n ≡ w) where
+    stays : {before after : List Float} {lays : List Lay} → Lays setup mask slot before lays after → Untouched w lays → pointAt after n ≡ pointAt before n
     stays no-lay no-more = refl
-    stays (lay-then e rest) (still same more) = stays rest more ∙ lay-at setup slot _ _ _ _ e n hn ∙ rw c (same _ _)
+    stays (lay-then e rest) (still same more) = stays rest more ∙ lay-at setup mask slot _ _ _ _ e n hn ∙ rw c (same _ _)
 
-  last-counts : (n : ℕ) → n < gridPoints setup → (a s m : ℕ) → contentAt setup slot n ≡ point a s m → {points before after : List Float} {lays : List Lay}
-      → LastLay s points lays → Lays setup slot before lays after → pointAt after n ≡ pointAt points m
+  last-counts : (n : ℕ) → n < gridPoints setup → (a s m : ℕ) → contentAt setup mask slot n ≡ point a s m → {points before after : List Float} {lays : List Lay}
+      → LastLay s points lays → Lays setup mask slot before lays after → pointAt after n ≡ pointAt points m
   unfolding relaid
   last-counts n hn a s m c (here never) (lay-then e rest) =
-      stays n hn (point a s m) c rest (never-touched a m never) ∙ lay-at setup slot s _ _ _ e n hn ∙ rw (c, eq-eqb s s refl)
+      stays n hn (point a s m) c rest (never-touched a m never) ∙ lay-at setup mask slot s _ _ _ e n hn ∙ rw (c, eq-eqb s s refl)
   last-counts n hn a s m c (later more) (lay-then e rest) = last-counts n hn a s m c more rest
 
 -- ---- the two moves
 
 -- a grid that is filled
-module _ (setup : Setup) (v : Valid setup) (slot : ℕ) (hs : slot < 512) (p : Point) (points grid : List Float) (points-long : length points ≡ 96 * subchannels setup)
-    (is : grid ≡ filled setup slot p points) where
+module _ (setup : Setup) (mask : ℕ) (m : MaskAccepted setup mask) (slot : ℕ) (hs : slot < 512) (p : Point) (points grid : List Float)
+    (points-long : length points ≡ 96 * litSubchannels setup mask) (is : grid ≡ filled setup mask slot p points) where
   long : length grid ≡ 2 * gridPoints setup
   unfolding filled
   long = ap length is ∙ floats-long setup _
 
   -- what stands at a place of it
-  holds : (n : ℕ) → n < gridPoints setup → pointAt grid n ≡ held p points (contentAt setup slot n)
+  holds : (n : ℕ) → n < gridPoints setup → pointAt grid n ≡ held setup mask p points (contentAt setup mask slot n)
   unfolding filled
   holds n h = ap (λ (g : List Float). pointAt g n) is ∙ point-floats (gridPoints setup) _ n h
 
-  back : (k : ℕ) → k < 48 * subchannels setup → pointAt points k ≡ pointAt grid (standsAt setup slot k)
+  back : (k : ℕ) → k < 48 * litSubchannels setup mask → pointAt points k ≡ pointAt grid (standsAt setup slot (ofLitRank setup mask (k / 48)) (k % 48))
   unfolding held
   back k h =
+      let s = ofLitRank setup mask (k / 48) in
+      let r : k / 48 < litSubchannels setup mask = omega arith in
+      let q = mask-law .of-rank-lit setup mask (k / 48) r in
+      let i : k % 48 < 48 = omega arith in
       let same : pointNumber (k / 48) (k % 48) ≡ k = omega arith in
-      sym (holds (standsAt setup slot k) (stands-lt setup v slot k h) ∙ ap (held p points) (stands-holds setup v slot k h) ∙ ap (pointAt points) same)
+      let number : pointNumber (litRank setup mask s) (k % 48) ≡ k = ap (λ (x : ℕ). pointNumber x (k % 48)) (mask-law .rank-forth setup mask (k / 48) r) ∙ same in
+      sym (holds (standsAt setup slot s (k % 48)) (stands-lt setup (m .valid) slot s (k % 48) (q .0) i)
+      ∙ ap (held setup mask p points) (lit-holds setup (m .valid) slot s (k % 48) (q .0) i mask (q .1)) ∙ ap (pointAt points) number)
 
-  again : (before : List Float) → length before ≡ length points → Leaves (emptyOf setup slot grid before) points
+  again : (before : List Float) → length before ≡ length points → Leaves (emptyOf setup mask slot grid before) points
   unfolding emptyOf emptied
   again before l =
-      sym (accepted-anew _ _ _ (empty-numbered setup slot (length before) (length grid) _) before
-      (sym (empty-last setup slot (length before) (length grid) v hs (subchannels setup) refl (l ∙ points-long) 0 (grid-0 setup (length grid) (gridPoints setup) refl long)))
-      points (by-points points (48 * subchannels setup) _ (points-long ∙ omega arith) back))
+      sym (accepted-anew _ _ _ (empty-numbered setup mask slot (length before) (length grid) _) before
+      (sym (empty-last setup mask slot (length before) (length grid) m hs (litSubchannels setup mask) refl (l ∙ points-long) 0 (grid-0 setup (length grid) (gridPoints setup) refl long)))
+      points (by-points points (48 * litSubchannels setup mask) _ (points-long ∙ omega arith) back))
 
-  module _ (w : Content) (symbol : ℕ) (carrier : ℤ) (own : symbol / symbols setup ≡ slot) (a : locateOf setup symbol carrier ≡ accepted w) where
-    point-there : pointAt grid (there setup symbol carrier) ≡ held p points w
-    point-there = let k = on-grid v slot w symbol carrier own a in holds (there setup symbol carrier) (k .there-lt) ∙ ap (held p points) (k .there-holds)
+  -- what stands and is seen on a carrier where w is shown
+  module _ {w : Content} {symbol : ℕ} {carrier : ℤ} (k : OnGrid setup mask slot w symbol carrier) where
+    standing-there : pointAt grid (there setup symbol carrier) ≡ held setup mask p points w
+    standing-there = holds (there setup symbol carrier) (k .there-lt) ∙ ap (held setup mask p points) (k .there-holds)
 
-    seen-there : lookOf setup symbol grid carrier ≡ accepted (sight (held p points w) w)
-    seen-there = on-grid v slot w symbol carrier own a .looked grid long _ point-there
+    seen-there : lookOf setup mask symbol grid carrier ≡ accepted (sight (held setup mask p points w) w)
+    seen-there = k .looked grid long _ standing-there
 
-  filled-grid : FilledGrid setup slot p points grid
+  -- guards and DC, lit or not
+  zero-there : (w : Content) → held setup mask p points w ≡ zeroPoint → (symbol : ℕ) (carrier : ℤ) → symbol / symbols setup ≡ slot → locateOf setup symbol carrier ≡ accepted w
+      → pointAt grid (there setup symbol carrier) ≡ zeroPoint
+  unfolding held
+  zero-there w z symbol carrier own a =
+      standing-there (on-grid m slot w symbol carrier own a)
+      ∙ cases (lit-there setup mask carrier) (λ t. rw t z) (λ t. rw t)
+
+  symbol-few : (symbol : ℕ) → symbol / symbols setup ≡ slot → symbol < 512 * symbols setup
+  symbol-few symbol own = div-lt-iff-lt-mul (few (m .valid) .symbols-pos) .0 (rw own hs)
+
+  filled-grid : FilledGrid setup mask slot p points grid
   unfolding sight held
   filled-grid =
-      let long′ = lengths-listed v in
+      let long′ = lengths-listed m in
       record {
         is-filled = is;
         lengths-fit = (points-long ∙ long′ .0, long ∙ long′ .1);
         emptied-again = again;
-        look-at-point = λ s m place h. seen-there (point slot s m) (place .symbol) (place .carrier) (in-own-slot setup slot s m h) (located-where-placed setup slot s m h);
-        look-at-pilot = seen-there pilot;
-        zero-on-guards = point-there guard;
-        zero-on-dc = point-there dc;
+        look-at-point = λ s index place lit h. rw lit at (seen-there (point-on-grid m slot s index place h));
+        look-at-pilot = λ symbol used own h lit a. rw (used-there m used h, lit) at (seen-there (on-grid m slot pilot symbol (usedCarrier setup used) own a));
+        zero-on-guards = zero-there guard refl;
+        zero-on-dc = zero-there dc refl;
+        zero-on-unlit = λ symbol used own h dark. standing-there (dark-on-grid m slot symbol used own (symbol-few symbol own) h dark);
       }
 
 -- the ground
-module _ (setup : Setup) (slot : ℕ) (p : Point) (old ground : List Float) (e : Leaves (groundOf setup slot p old) ground) where
-  left-ground : (groundRefusal setup slot (length old) ≡ 0) × (ground ≡ grounded setup slot p)
+module _ (setup : Setup) (mask slot : ℕ) (p : Point) (old ground : List Float) (e : Leaves (groundOf setup mask slot p old) ground) where
+  left-ground : (groundRefusal setup mask slot (length old) ≡ 0) × (ground ≡ grounded setup mask slot p)
   unfolding groundOf
-  left-ground = left _ _ _ (ground-numbered setup slot (length old) (accepted (grounded setup slot p))) _ ground e
+  left-ground = left _ _ _ (ground-numbered setup mask slot (length old) (accepted (grounded setup mask slot p))) _ ground e
 
-  ground-fits : GroundAccepted setup slot (length old)
-  ground-fits = ground-accepted setup slot (length old) _ refl (left-ground .0)
+  ground-fits : GroundAccepted setup mask slot (length old)
+  ground-fits = ground-accepted setup mask slot (length old) _ refl (left-ground .0)
 
   ground-long : length ground ≡ 2 * gridPoints setup
   unfolding grounded
   ground-long = ap length (left-ground .1) ∙ floats-long setup _
 
-  ground-at : (n : ℕ) → n < gridPoints setup → pointAt ground n ≡ bare p (contentAt setup slot n)
+  ground-at : (n : ℕ) → n < gridPoints setup → pointAt ground n ≡ bare p (contentAt setup mask slot n)
   unfolding grounded
   ground-at n hn = ap (λ (g : List Float). pointAt g n) (left-ground .1) ∙ point-floats (gridPoints setup) _ n hn
 
--- and then lays in which every subchannel occurs
-module _ (setup : Setup) (slot : ℕ) (p : Point) (points old ground grid : List Float) (lays : List Lay) (e : Leaves (groundOf setup slot p old) ground)
-    (l : Lays setup slot ground lays grid) (every : (s : ℕ) → s < subchannels setup → LastLay s (ownPoints points s) lays) where
-  abbrev fits : GroundAccepted setup slot (length old)
-  fits = ground-fits setup slot p old ground e
+-- and then lays in which every lit subchannel occurs
+module _ (setup : Setup) (mask slot : ℕ) (p : Point) (points old ground grid : List Float) (lays : List Lay) (e : Leaves (groundOf setup mask slot p old) ground)
+    (l : Lays setup mask slot ground lays grid) (every : (s : ℕ) → s < subchannels setup → isLit setup mask s ≡ true → LastLay s (ownPoints setup mask points s) lays) where
+  abbrev fits : GroundAccepted setup mask slot (length old)
+  fits = ground-fits setup mask slot p old ground e
 
   module _ (n : ℕ) (hn : n < gridPoints setup) where
-    as-the-ground : (w : Content) → contentAt setup slot n ≡ w → ((s : ℕ) (points : List Float) (old : Point) → relaid s points old w ≡ old) → pointAt grid n ≡ bare p w
-    as-the-ground w c h = stays n hn w c l (no-point w h lays) ∙ ground-at setup slot p old ground e n hn ∙ ap (bare p) c
+    as-the-ground : (w : Content) → contentAt setup mask slot n ≡ w → ((s : ℕ) (points : List Float) (old : Point) → relaid s points old w ≡ old) → pointAt grid n ≡ bare p w
+    as-the-ground w c h = stays n hn w c l (no-point w h lays) ∙ ground-at setup mask slot p old ground e n hn ∙ ap (bare p) c
 
-    in-the-end : (w : Content) → contentAt setup slot n ≡ w → pointAt grid n ≡ held p points w
+    in-the-end : (w : Content) → contentAt setup mask slot n ≡ w → pointAt grid n ≡ held setup mask p points w
     unfolding held bare relaid ownPoints
     in-the-end guard c = as-the-ground guard c (λ s x o. refl)
     in-the-end dc c = as-the-ground dc c (λ s x o. refl)
     in-the-end pilot c = as-the-ground pilot c (λ s x o. refl)
-    in-the-end (point a s m) c =
-        let q = point-stands setup (fits .valid) slot (fits .slot-lt) n hn a s m c in
-        last-counts n hn a s m c (every s (q .subchannel-lt)) l ∙ point-floats 48 _ m (q .index-lt)
+    in-the-end (point a s i) c =
+        let q = point-stands setup (fits .lit .valid) slot (fits .slot-lt) n hn mask a s i c in
+        last-counts n hn a s i c (every s (q .subchannel-lt) (q .subchannel-lit)) l ∙ point-floats 48 _ i (q .index-lt)
 
-  is-filled : grid ≡ filled setup slot p points
+  is-filled : grid ≡ filled setup mask slot p points
   unfolding filled
   is-filled =
-      by-points grid (gridPoints setup) _ (lays-long (ground-long setup slot p old ground e) l ∙ omega arith)
-      (λ n hn. in-the-end n hn (contentAt setup slot n) refl)
+      by-points grid (gridPoints setup) _ (lays-long (ground-long setup mask slot p old ground e) l ∙ omega arith)
+      (λ n hn. in-the-end n hn (contentAt setup mask slot n) refl)
 
-  both-moves : length points ≡ pointsLength (setup .mode) (setup .size) → FilledGrid setup slot p points grid
+  both-moves : length points ≡ litPointsLength (setup .mode) (setup .size) mask → FilledGrid setup mask slot p points grid
   both-moves long =
-      let v = fits .valid in
-      filled-grid setup v slot (fits .slot-lt) p points grid (long ∙ sym (lengths-listed v .0)) is-filled
+      let m = fits .lit in
+      filled-grid setup mask m slot (fits .slot-lt) p points grid (long ∙ sym (lengths-listed m .0)) is-filled
 
--- a grid of the length that is told passes the last question
-told : {setup : Setup} → Valid setup → (grid : ℕ) → grid ≡ gridLength (setup .mode) (setup .size) → 0 ≡ gridRefusal setup grid
-told {setup} v grid g = grid-0 setup grid (gridPoints setup) refl (g ∙ sym (lengths-listed v .1))
+-- a setup and a mask that pass, and a grid of the length that is told, which passes the last question
+passed : {setup : Setup} {mask : ℕ} → Passes setup → isMask (setup .mode) mask ≡ true → MaskAccepted setup mask
+passed {setup} e k = record { valid = setup-asked setup _ e .0; mask-is = k }
+
+told-long : {setup : Setup} {mask : ℕ} → MaskAccepted setup mask → (grid : ℕ) → grid ≡ gridLength (setup .mode) (setup .size) → grid ≡ 2 * gridPoints setup
+told-long m grid g = g ∙ sym (lengths-listed m .1)
+
+told : {setup : Setup} {mask : ℕ} → MaskAccepted setup mask → (grid : ℕ) → grid ≡ gridLength (setup .mode) (setup .size) → 0 ≡ gridRefusal setup grid
+told {setup} m grid g = grid-0 setup grid (gridPoints setup) refl (told-long m grid g)
 
 pub grid-law : GridLaw
-unfolding groundOf layOf emptyOf
+unfolding groundOf layOf emptyOf sight
 grid-law =
     record {
-      two-moves = λ setup slot p points old ground grid lays e l long every. both-moves setup slot p points old ground grid lays e l every long;
+      two-moves = λ setup mask slot p points old ground grid lays e l long every. both-moves setup mask slot p points old ground grid lays e l every long;
       laid-is-seen = own-seen;
-      others-stay = λ setup slot s points grid next e other index place ne q. other-seen setup slot s points grid next e other index place q ne;
-      ground-keeps-length = λ setup slot p old ground e. ground-long setup slot p old ground e ∙ sym (ground-fits setup slot p old ground e .grid-long);
-      lay-keeps-length = λ setup slot s points grid next e. lay-long setup slot s points grid next e ∙ sym (lay-fits setup slot s points grid next e .fits .grid-long);
-      ground-accepts = λ setup slot p old e h g.
-          let v = setup-asked setup _ e .0 in
-          accepted-number _ _ _ (ground-numbered setup slot (length old) _) _
-          (sym (ground-last setup slot (length old) v h 0 (told v (length old) g)));
-      lay-accepts = λ setup slot s points grid e h hs q g.
-          let v = setup-asked setup _ e .0 in
-          accepted-number _ _ _ (lay-numbered setup slot s (length points) (length grid) _) _
-          (sym (lay-last setup slot s (length points) (length grid) v h (subchannels setup) refl hs q 0 (told v (length grid) g)));
-      empty-accepts = λ setup slot grid old e h l g.
-          let v = setup-asked setup _ e .0 in
-          accepted-number _ _ _ (empty-numbered setup slot (length old) (length grid) _) _
-          (sym (empty-last setup slot (length old) (length grid) v h (subchannels setup) refl (l ∙ sym (lengths-listed v .0)) 0 (told v (length grid) g)));
+      others-stay = λ setup mask slot s points grid next e other index place ne q. other-seen setup mask slot s points grid next e other index place q ne;
+      unlit-meets-5 = λ setup mask slot s points grid e k h l dark.
+          sym (refused-leaves _ _ _ (lay-numbered setup mask slot s (length points) (length grid) _) grid 5
+          (lay-unlit setup mask slot s (length points) (length grid) (passed e k) h (subchannels setup) refl l _ refl (ap not dark)) (λ z. omega arith));
+      unlit-is-nothing = λ setup mask symbol used grid e k hy h dark g.
+          let m = passed e k in
+          dark-on-grid m (symbol / symbols setup) symbol used refl hy h dark .looked grid (told-long m (length grid) g) _ refl;
+      ground-keeps-length = λ setup mask slot p old ground e. ground-long setup mask slot p old ground e ∙ sym (ground-fits setup mask slot p old ground e .grid-long);
+      lay-keeps-length = λ setup mask slot s points grid next e. lay-long setup mask slot s points grid next e ∙ sym (lay-fits setup mask slot s points grid next e .fits .grid-long);
+      ground-accepts = λ setup mask slot p old e k h g.
+          let m = passed e k in
+          accepted-number _ _ _ (ground-numbered setup mask slot (length old) _) _
+          (sym (ground-last setup mask slot (length old) m h 0 (told m (length old) g)));
+      lay-accepts = λ setup mask slot s points grid e k h hs lit q g.
+          let m = passed e k in
+          accepted-number _ _ _ (lay-numbered setup mask slot s (length points) (length grid) _) _
+          (sym (lay-last setup mask slot s (length points) (length grid) m h (subchannels setup) refl hs _ refl (ap not lit) q 0 (told m (length grid) g)));
+      empty-accepts = λ setup mask slot grid old e k h l g.
+          let m = passed e k in
+          accepted-number _ _ _ (empty-numbered setup mask slot (length old) (length grid) _) _
+          (sym (empty-last setup mask slot (length old) (length grid) m h (litSubchannels setup mask) refl (l ∙ sym (lengths-listed m .0)) 0 (told m (length grid) g)));
+      all-lit-length = all-lit-length;
     }

@@ -40,7 +40,7 @@ module _ (setup : Setup) (v : Valid setup) (mask symbol column : ℕ) (hy : symb
   used = usedOf (band setup) column
 
   -- a column that holds a point is lit exactly when the point's subchannel is
-  content-lit : (a s m : ℕ) → contentOf setup symbol column ≡ point a s m → isUsedLit setup mask used ≡ isLit setup mask s
+  pub content-lit : (a s m : ℕ) → contentOf setup symbol column ≡ point a s m → isUsedLit setup mask used ≡ isLit setup mask s
   unfolding placeAt usedCarrier
   content-lit a s m e =
       let l = locate-column setup symbol column v hy hc in

@@ -88,7 +88,7 @@ pub record GridLaw : Type 0 where
       → lookOf setup mask (place .symbol) next (place .carrier) ≡ lookOf setup mask (place .symbol) grid (place .carrier)
   -- Document 02, wish 5: laying an unlit subchannel meets 5,
   pub unlit-meets-5 : (setup : Setup) (mask slot s : ℕ) (points grid : List Float) → Passes setup → isMask (setup .mode) mask ≡ true → slot < 512
-      → isLit setup mask s ≡ false → layOf setup mask slot s points grid ≡ record { refusal = 5; buffer = grid }
+      → s < subchannels setup → isLit setup mask s ≡ false → layOf setup mask slot s points grid ≡ record { refusal = 5; buffer = grid }
   -- and look answers nothing on what is not lit, whatever the grid holds there.
   pub unlit-is-nothing : (setup : Setup) (mask symbol used : ℕ) (grid : List Float) → Passes setup → isMask (setup .mode) mask ≡ true → symbol < 512 * symbols setup
       → used < band setup .used → isUsedLit setup mask used ≡ false → length grid ≡ gridLength (setup .mode) (setup .size)

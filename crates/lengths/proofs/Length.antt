@@ -14,8 +14,9 @@ use Rattle.map.specs.Mode.{width, cells, subchannels, symbols, setupWith}
 use Rattle.map.specs.Question.{isMode, isFourSizes, isSize, isCell}
 use Rattle.map.specs.Model.{setupRefusal}
 use Rattle.map.proofs.Accept.{passes}
-use Rattle.mask.specs.Mask.{isMask, isLit, litSubchannels}
-use Rattle.lengths.specs.Length.{gridPoints, whereListed, litPointsLength, gridLength}
+use Rattle.mask.specs.Mask.{isMask, isLit, litSubchannels, allLit}
+use Rattle.mask.proofs.Law.{mask-law}
+use Rattle.lengths.specs.Length.{gridPoints, whereListed, pointsLength, litPointsLength, gridLength}
 use Rattle.lengths.specs.Model.{maskRefusal}
 use Rattle.lengths.proofs.Refusal.{MaskAccepted, mask-accepted}
 
@@ -102,3 +103,8 @@ lengths-listed {setup} m =
     let e₁ = same-mode setup ∙ q₁ .0 in
     let e₂ = same-size setup ∙ q₂ .0 in
     (rw (e₁, e₂, m .mask-is), rw (e₁, e₂))
+
+-- where all is lit, the lit points are all points
+pub all-lit-length : (mode size : ℕ) → litPointsLength mode size (allLit mode) ≡ pointsLength mode size
+unfolding litPointsLength pointsLength
+all-lit-length mode size = rw (mask-law .all-passes mode, mask-law .all-subchannels (setupWith mode size 0))

@@ -297,3 +297,7 @@ module _ (setup : Setup) (mask symbol : ℕ) (carrier : ℤ) (grid : ℕ) where
         in-range = q₇ .0;
         grid-long = grid-yes setup grid (q₇ .1);
       }
+
+  pub look-0 : LookAccepted setup mask symbol carrier grid → 0 ≡ lookRefusal setup mask symbol carrier grid
+  unfolding lookRefusal isSymbol isCarrier isGrid
+  look-0 a = rw (lt-ltb symbol (512 * symbols setup) (a .symbol-lt), a .in-range, eq-eqb grid (2 * gridPoints setup) (a .grid-long)) (sym (ap refusalOf (mask-passes setup mask (a .lit))))
