@@ -1,7 +1,7 @@
 -- How many bytes zones and plans take, and the answers of writing.
-use mathlib.Core.Path.{_≡_, refl, sym, ap, _∙_}
-use mathlib.Core.List.{List, [], _∷_, _++_}
-use Prim.Native.Nat.{ℕ, _+_, _*_, _<_, _≤_}
+use mathlib.Core.Path.{_≡_}
+use mathlib.Core.List.{List}
+use Prim.Native.Nat.{ℕ, _*_, _<_, _≤_}
 use native.Mathlib.Nat.{zero-add}
 use native.Mathlib.Omega.{arith}
 use lib.ListN.{length, take, length-append, length-take}
@@ -15,7 +15,7 @@ use Rattle.plan.specs.declared.Zone.{Zone}
 use Rattle.plan.specs.declared.Plan.{Plan}
 use Rattle.plan.specs.declared.Before.{Before}
 use Rattle.plan.specs.Zone.{each}
-use Rattle.plan.specs.Write.{usedZones, zoneBytes, planBytes, writeOf}
+use Rattle.plan.specs.Write.{zoneBytes, planBytes, writeOf}
 use Rattle.plan.specs.Model.{Small, planRefusal}
 use Rattle.plan.proofs.Number.{plan-numbered}
 use Rattle.plan.proofs.Judge.{Judged, none, then, small, Fit, count-most, size-small}

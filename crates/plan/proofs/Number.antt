@@ -28,19 +28,6 @@ listed m h = rw (ne-eqb m 1 h)
 
 -- the questions put to a zone in its plan
 module _ (size : ℕ) (before : Before) (z : Zone) where
-  zone-chain : {A : Type 0} {chain rest : Answer A} {alone : Answer (Unit {0})} → Numbered chain rest alone → Numbered (askZone size before z chain) rest (askZone size before z alone)
-  zone-chain tail =
-      question (isZoneMode (z .mode)) 0
-      (question (isSize (setupOf size z)) 1
-      (question (isCell (setupOf size z)) 2
-      (question (isSlots (z .slots)) 12
-      (question (isMask (z .mode) (z .mask)) 16
-      (question (isOrder before size z) 13 tail)))))
-
-  pub zone-numbered : {A : Type 0} (rest : Answer A) → askZone size before z rest ≡ numbered (zoneRefusal size before z) rest
-  unfolding zoneRefusal
-  zone-numbered rest = zone-chain no-question .is
-
   pub zone-uplink : z .mode ≡ 1 → 1 ≡ zoneRefusal size before z
   unfolding zoneRefusal isZoneMode
   zone-uplink e = rw e
@@ -61,6 +48,20 @@ module _ (size : ℕ) (before : Before) (z : Zone) where
     pub zone-rest : r ≡ 0 → refusalOf (own {A = Unit {0}} (accepted tt)) ≡ zoneRefusal size before z
     unfolding zoneRefusal
     zone-rest h = sym (ap refusalOf (by-setup (accepted tt) ∙ yes-all r _ h))
+
+  -- all of them as one chain
+  zone-chain : {A : Type 0} {chain rest : Answer A} {alone : Answer (Unit {0})} → Numbered chain rest alone → Numbered (askZone size before z chain) rest (askZone size before z alone)
+  zone-chain tail =
+      question (isZoneMode (z .mode)) 0
+      (question (isSize (setupOf size z)) 1
+      (question (isCell (setupOf size z)) 2
+      (question (isSlots (z .slots)) 12
+      (question (isMask (z .mode) (z .mask)) 16
+      (question (isOrder before size z) 13 tail)))))
+
+  pub zone-numbered : {A : Type 0} (rest : Answer A) → askZone size before z rest ≡ numbered (zoneRefusal size before z) rest
+  unfolding zoneRefusal
+  zone-numbered rest = zone-chain no-question .is
 
 -- the zones one after the other
 zones-chain : {A : Type 0} (size : ℕ) (before : Before) (zones : List Zone) (rest : Answer A) → Numbered (askZones size before zones rest) rest (askZones size before zones (accepted tt))

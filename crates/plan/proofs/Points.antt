@@ -39,7 +39,7 @@ pub first-refusals :
 unfolding planOf readZones valueIn isZoneMode isUpTo isMask isOpening isAmc isFollowing isSize isCell isFourSizes cells width
 first-refusals = (refl, refl, refl, refl, refl, refl, refl, refl, refl)
 
--- Document 02, wish 5: masks of the starred plan line. 3F in mode 2 is met before 14; 00 and 40 are no masks of mode 0; 13 comes first; a line without its mask ends within a zone.
+-- Document 02, wish 5: the starred plan line with a mask out of its range. 3F in mode 2 meets 17, not 14; 00 and 40 in mode 0 meet it too; where there are no slots either, 13 comes before 17; without its mask the line ends within a zone.
 pub masks-refused :
     (planOf (1 ∷ 0x80 ∷ 0x10 ∷ 2 ∷ 0 ∷ 0x0C ∷ 0x3F ∷ []) ≡ refused 17)
     × (planOf (1 ∷ 0x80 ∷ 0x10 ∷ 0 ∷ 0 ∷ 0x0C ∷ 0 ∷ []) ≡ refused 17)

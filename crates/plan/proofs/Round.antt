@@ -23,7 +23,7 @@ use Rattle.plan.specs.Write.{usedZones, askPlan, zoneBytes, planBytes, O
 use Rattle.plan.specs.Law.{Eight}
 use Rattle.plan.specs.Model.{Small}
 use Rattle.plan.proofs.Places.{take-places, drop-places, places-of, places-length}
-use Rattle.plan.proofs.Judge.{Passed, zone-yes, zone-passes, Judged, none, then, small, Fit, plan-yes, plan-passes, count-most, size-small}
+use Rattle.plan.proofs.Judge.{zone-yes, zone-passes, Judged, none, then, small, Fit, plan-yes, plan-passes, count-most, size-small}
 use Rattle.plan.proofs.Bytes.{plan-51}
 
 -- From bytes to a value and back.

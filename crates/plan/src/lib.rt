@@ -11,7 +11,7 @@ ghost use Rattle.plan.specs.Write.{isUnused, areUnused, usedZones, zoneB
 ghost use Rattle.plan.specs.Read.{readZones, finish, planOf, answered};
 ghost use Rattle.plan.specs.Model.{zoneRefusal, zonesRefusal, planRefusal, Small, ZoneAt};
 
-// One zone: mode, cell, how many slots, and the mask of the major groups that are lit.
+// One zone: mode, cell, how many slots, and the mask, bit g for major group g (document 02, wish 5).
 pub struct Zone {
     pub mode: usize,
     pub cell: usize,

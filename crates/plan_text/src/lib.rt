@@ -2,7 +2,6 @@
 use plan::Plan;
 use plan::ReadPlan;
 use plan::Zone;
-ghost use mathlib.Core.Path.{_≡_};
 ghost use Prim.Native.Nat.{_+_, _≤_};
 ghost use lib.ListN.{length};
 ghost use Rattle.text.specs.Text.{Put};
