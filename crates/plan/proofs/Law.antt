@@ -15,6 +15,6 @@ plan-law =
       one-string = λ s t plan b c e q. sym (plan-of s e .bytes .same b) ∙ plan-of t q .bytes .same c;
       one-plan = λ p q d₁ d₂ after₁ after₂ n₁ n₂ l m e g h. same-accepted (sym (same-plan p d₁ after₁ n₁ l e) ∙ ap planOf h ∙ same-plan q d₂ after₂ n₂ m g);
       at-most-51 = read-51;
-      first-103-decide = λ s. first-bytes 103 s (omega arith);
+      first-102-decide = λ s. first-bytes 102 s (omega arith);
       first-128-decide = λ s. first-bytes 128 s (omega arith);
     }

@@ -28,7 +28,7 @@ pub record PlanLaw : Type 0 where
       → take n₁ after₁ ≡ take n₂ after₂ → p ≡ q
   -- An accepted plan has at most 51 bytes.
   pub at-most-51 : (s : List ℕ) (plan : Plan) → planOf s ≡ accepted plan → length s ≤ 51
-  -- Reading looks at 102 bytes at most, then at whether there is one more: the first 103 bytes decide the answer, whatever follows them.
-  pub first-103-decide : (s : List ℕ) → planOf (take 103 s) ≡ planOf s
+  -- Reading looks at 102 bytes at most: they decide the answer, whatever follows them.
+  pub first-102-decide : (s : List ℕ) → planOf (take 102 s) ≡ planOf s
   -- And so do the first 128 bytes.
   pub first-128-decide : (s : List ℕ) → planOf (take 128 s) ≡ planOf s
