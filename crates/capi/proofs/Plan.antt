@@ -8,7 +8,7 @@ use Rattle.plan.specs.declared.ReadPlan.{ReadPlan}
 use Rattle.plan.specs.declared.Written.{Written}
 use Rattle.plan.specs.declared.Written.the-variants.{Bytes}
 use Rattle.plan.specs.Write.{writeOf, written}
-use Rattle.plan.proofs.Round.{written-43}
+use Rattle.plan.proofs.Round.{written-51}
 use Rattle.plan_numbers.specs.Numbers.{numbersOf}
 use Rattle.capi.specs.Plan.{readOut, writeOut}
 
@@ -24,8 +24,8 @@ module _ (answer r : ReadPlan) (e : r ≡ answer) (count size : ℕ) (zones : Li
 
 -- the outcome of writing
 module _ (p : Plan) (d after : List ℕ) (r : Written) (e : written r after ≡ writeOf p d) where
-  pub few-bytes : (n : ℕ) → r ≡ Bytes n → n ≤ 43
-  few-bytes n h = written-43 p d after n (sym e ∙ ap (λ x. written x after) h)
+  pub few-bytes : (n : ℕ) → r ≡ Bytes n → n ≤ 51
+  few-bytes n h = written-51 p d after n (sym e ∙ ap (λ x. written x after) h)
 
   pub write-out : (w : ℕ) (v : Written) → r ≡ v → writeOut (written v after) w ≡ writeOut (writeOf p d) w
   write-out w v h = ap (λ o. writeOut o w) (sym (ap (λ x. written x after) h) ∙ e)

@@ -1,4 +1,4 @@
--- The outcome of `bp_plan_read` and `bp_plan_write`: the returned number and every out parameter as it is then.
+-- The outcome of `bp_zone_plan_read` and `bp_zone_plan_write`: the returned number and every out parameter as it is then.
 use mathlib.Core.List.{List}
 use Prim.Native.Nat.{ℕ}
 use lib.Dec.{eqb}

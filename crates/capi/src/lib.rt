@@ -273,11 +273,11 @@ pub extern "C" fn bp_look(
 }
 
 #[no_mangle]
-pub extern "C" fn bp_plan_read(
+pub extern "C" fn bp_zone_plan_read(
     bytes: &[u8],
     count: &mut u32,
     size: &mut u32,
-    zones: &mut [u32; 24],
+    zones: &mut [u32; 32],
 ) -> u32
     ensures { λ r. ⌜ record { refusal = r; count = now (count .exit); size = now (size .exit); zones = now (zones .exit) } ≡ readOut (answered (planOf (now (bytes .entry)))) (now (count .entry)) (now (size .entry)) (now (zones .entry)) ⌝ }
 {
@@ -294,10 +294,10 @@ pub extern "C" fn bp_plan_read(
 }
 
 #[no_mangle]
-pub extern "C" fn bp_plan_write(
+pub extern "C" fn bp_zone_plan_write(
     count: u32,
     size: u32,
-    zones: &[u32; 24],
+    zones: &[u32; 32],
     dest: &mut [u8],
     written: &mut u32,
 ) -> u32

@@ -45,8 +45,8 @@ abbrev pub indices : List ℕ
 indices = 8 ∷ 24 ∷ 32 ∷ []
 
 -- the zone of line 11 and its twin
-abbrev pub zone : (mode cell slots : ℕ) → Zone
-zone mode cell slots = record { mode = mode; cell = cell; slots = slots }
+abbrev pub zone : (mode cell slots mask : ℕ) → Zone
+zone mode cell slots mask = record { mode = mode; cell = cell; slots = slots; mask = mask }
 
 -- what a carrier holds under any PUSC downlink cell
 pub record AnyCell (cell : ℕ) : Type 0 where
@@ -76,10 +76,10 @@ pub record Known : Type 0 where
   pub line-9 : tabulate 6 (tileOf 0 5) ≡ tiles
   -- Down, any cell, carrier 184: data in symbol 0, pilot in symbol 1; 183 guard, 1024 DC.
   pub line-10 : (cell : ℕ) → cell < 32 → AnyCell cell
-  -- The plan 01 80 10 00 00 0C (hex) is read; with 02 for its mode, refusal 14.
-  pub line-11 : (planOf (1 ∷ 0x80 ∷ 0x10 ∷ 0 ∷ 0 ∷ 0x0C ∷ []) ≡ accepted (planWith 1 2048 (zone 0 0 12 ∷ []))) × (planOf (1 ∷ 0x80 ∷ 0x10 ∷ 2 ∷ 0 ∷ 0x0C ∷ []) ≡ refused 14)
-  -- Document 02, wish 1: its twin with cell 5, 01 80 10 00 05 0C (hex), is read.
-  pub line-11-twin : planOf (1 ∷ 0x80 ∷ 0x10 ∷ 0 ∷ 5 ∷ 0x0C ∷ []) ≡ accepted (planWith 1 2048 (zone 0 5 12 ∷ []))
+  -- The plan 01 80 10 00 00 0C (hex) is read; with 02 for its mode, refusal 14. Document 02, wish 5: it gains 3F (hex) for mode 0, else 00.
+  pub line-11 : (planOf (1 ∷ 0x80 ∷ 0x10 ∷ 0 ∷ 0 ∷ 0x0C ∷ 0x3F ∷ []) ≡ accepted (planWith 1 2048 (zone 0 0 12 63 ∷ []))) × (planOf (1 ∷ 0x80 ∷ 0x10 ∷ 2 ∷ 0 ∷ 0x0C ∷ 0 ∷ []) ≡ refused 14)
+  -- Document 02, wish 1: its twin with cell 5, by wish 5 01 80 10 00 05 0C 3F (hex), is read.
+  pub line-11-twin : planOf (1 ∷ 0x80 ∷ 0x10 ∷ 0 ∷ 5 ∷ 0x0C ∷ 0x3F ∷ []) ≡ accepted (planWith 1 2048 (zone 0 5 12 63 ∷ []))
   -- Not starred: points of AMC's shapes, worked out by hand from document 02, wish 2. Cell 0 has E = P, so its index 2 is at v = 33 and its index 41 at v = 47; cell 629 has its index 14 under the zero rule, at v = 12.
   pub amc-6x1 : placeOf (setupWith 3 256 0) 0 3 2 ≡ at 0 (pos 93)
   pub amc-2x3 : (placeOf (setupWith 4 256 0) 0 5 2 ≡ at 2 (minus 17)) × (placeOf (setupWith 4 2048 629) 511 95 14 ≡ at 1533 (pos 861))

@@ -1,7 +1,7 @@
 -- How many bytes zones and plans take, and the answers of writing.
-use mathlib.Core.Path.{_≡_, refl, sym, ap, _∙_}
-use mathlib.Core.List.{List, [], _∷_, _++_}
-use Prim.Native.Nat.{ℕ, _+_, _*_, _<_, _≤_}
+use mathlib.Core.Path.{_≡_}
+use mathlib.Core.List.{List}
+use Prim.Native.Nat.{ℕ, _*_, _<_, _≤_}
 use native.Mathlib.Nat.{zero-add}
 use native.Mathlib.Omega.{arith}
 use lib.ListN.{length, take, length-append, length-take}
@@ -15,29 +15,36 @@ use Rattle.plan.specs.declared.Zone.{Zone}
 use Rattle.plan.specs.declared.Plan.{Plan}
 use Rattle.plan.specs.declared.Before.{Before}
 use Rattle.plan.specs.Zone.{each}
-use Rattle.plan.specs.Write.{usedZones, zoneBytes, planBytes, writeOf}
+use Rattle.plan.specs.Write.{zoneBytes, planBytes, writeOf}
 use Rattle.plan.specs.Model.{Small, planRefusal}
 use Rattle.plan.proofs.Number.{plan-numbered}
 use Rattle.plan.proofs.Judge.{Judged, none, then, small, Fit, count-most, size-small}
 
--- A zone in range takes at most 5 bytes: 1 for the mode, 2 for the cell, 2 for the slots.
-pub record Five (z : Zone) : Type 0 where
+-- A zone in range takes at most 6 bytes: 1 for the mode, 2 for the cell, 2 for the slots, 1 for the mask.
+pub record Six (z : Zone) : Type 0 where
   pub mode-one : length (encode (z .mode)) ≤ 1
   pub cell-two : length (encode (z .cell)) ≤ 2
   pub slots-two : length (encode (z .slots)) ≤ 2
+  pub mask-one : length (encode (z .mask)) ≤ 1
 
-pub five : (z : Zone) → Small z → Five z
-five z s = record { mode-one = omega (arith, size-1 (z .mode) (omega arith)); cell-two = size-two (z .cell) (omega arith); slots-two = size-two (z .slots) (omega arith) }
+pub six : (z : Zone) → Small z → Six z
+six z s =
+    record {
+      mode-one = omega (arith, size-1 (z .mode) (omega arith));
+      cell-two = size-two (z .cell) (omega arith);
+      slots-two = size-two (z .slots) (omega arith);
+      mask-one = omega (arith, size-1 (z .mask) (omega arith));
+    }
 
--- So the zones of a fit plan take 40, and the plan 43.
-zones-most : {size : ℕ} {before : Before} {zones : List Zone} → Judged size before zones → length (each zoneBytes zones) ≤ 5 * length zones
+-- So the zones of a fit plan take 48, and the plan 51.
+zones-most : {size : ℕ} {before : Before} {zones : List Zone} → Judged size before zones → length (each zoneBytes zones) ≤ 6 * length zones
 unfolding each zoneBytes
 zones-most none = omega arith
-zones-most (then {z = z} p j) = let f = five z (small p) in simp length-append (omega (arith, zones-most j))
+zones-most (then {z = z} p j) = let f = six z (small p) in simp length-append (omega (arith, zones-most j))
 
-pub plan-43 : (p : Plan) → Fit p → length (planBytes p) ≤ 43
+pub plan-51 : (p : Plan) → Fit p → length (planBytes p) ≤ 51
 unfolding planBytes
-plan-43 p f =
+plan-51 p f =
     let c = count-most (p .count) (f .count-is) in
     let z = size-small (p .size) (f .size-is) in
     simp length-append (omega (arith, zones-most (f .judged), length-take (p .count) (p .zones), size-1 (p .count) (omega arith), size-two (p .size) (omega arith)))

@@ -3,14 +3,15 @@ use mathlib.Core.Path.{_≡_, refl, sym, ap, _∙_}
 use mathlib.Core.List.{List, [], _∷_}
 use Prim.Native.Nat.{ℕ, zero, suc, _+_, _-_, _*_, _≤_}
 use native.Mathlib.Omega.{arith}
-use lib.ListN.{length, take, drop}
+use lib.ListN.{length, take, drop, length-append, length-drop}
 use lib.Seq.{take-nil}
 use borrow.Author.Tests.{ne-eqb}
+use Rattle.base.specs.Choice.{pick}
 use Rattle.base.specs.Answer.{Answer, accepted, refused, ask}
 use Rattle.base.proofs.Test.{cases}
 use Rattle.map.specs.Question.{isFourSizes}
 use Rattle.value.specs.Value.{Value, valueOf}
-use Rattle.value.proofs.Laws.{first-decide, at-most-three}
+use Rattle.value.proofs.Laws.{size-1, size-within, again, first-decide, at-most-three}
 use Rattle.plan.specs.declared.Zone.{Zone}
 use Rattle.plan.specs.declared.Before.{Before}
 use Rattle.plan.specs.declared.Before.the-variants.{First, After}
@@ -28,28 +29,37 @@ drop-take (suc n) zero m s e = absurd (omega arith)
 drop-take (suc n) (suc j) m [] e = sym (take-nil m)
 drop-take (suc n) (suc j) m (x ∷ s) e = drop-take n j m s (omega arith)
 
-value-decided : {A : Type 0} (k : ℕ) (next : ℕ → List ℕ → Answer A) → ((value : ℕ) → Decided k (next value)) → Decided (3 + k) (λ s. readValue s next)
-value-decided k next d j h s = ap (λ v. handOn v (take j s) next) (first-decide 3 j s (omega arith)) ∙ by (valueOf s) refl
+-- after a value, so many bytes more as it needs
+then-more : {A : Type 0} (n : ℕ) (more : ℕ → ℕ) (next : ℕ → List ℕ → Answer A) → 3 ≤ n → ((s : List ℕ) (v : Value) → valueOf s ≡ accepted v → v .size + more (v .value) ≤ n)
+    → ((value : ℕ) → Decided (more value) (next value)) → Decided n (λ s. readValue s next)
+then-more n more next three most d j h s = ap (λ v. handOn v (take j s) next) (first-decide 3 j s (omega arith)) ∙ by (valueOf s) refl
   where
     by : (v : Answer Value) → valueOf s ≡ v → handOn v (take j s) next ≡ handOn v s next
     by (refused number) q = refl
     by (accepted v) q =
-        let few = at-most-three s q in
+        let few = most s v q in
         ap (next (v .value)) (drop-take (v .size) j (j - v .size) s (omega arith)) ∙ d (v .value) (j - v .size) (omega arith) (drop (v .size) s)
 
-zone-decided : {A : Type 0} (k : ℕ) (next : Zone → List ℕ → Answer A) → ((zone : Zone) → Decided k (next zone)) → Decided (9 + k) (λ s. readZone s next)
+value-decided : {A : Type 0} (k : ℕ) (next : ℕ → List ℕ → Answer A) → ((value : ℕ) → Decided k (next value)) → Decided (3 + k) (λ s. readValue s next)
+value-decided k next d = then-more (3 + k) (λ value. k) next (omega arith) (λ s v q. omega (arith, at-most-three s q)) d
+
+abbrev made : ℕ → ℕ → ℕ → ℕ → Zone
+made mode cell slots mask = record { mode = mode; cell = cell; slots = slots; mask = mask }
+
+zone-decided : {A : Type 0} (k : ℕ) (next : Zone → List ℕ → Answer A) → ((zone : Zone) → Decided k (next zone)) → Decided (12 + k) (λ s. readZone s next)
 zone-decided k next d j h s =
-    value-decided (6 + k) (λ mode s₁. readValue s₁ (λ cell s₂. readValue s₂ (λ slots s₃. next (record { mode = mode; cell = cell; slots = slots }) s₃)))
-    (λ mode j₁ h₁ s₁. value-decided (3 + k) (λ cell s₂. readValue s₂ (λ slots s₃. next (record { mode = mode; cell = cell; slots = slots }) s₃))
-    (λ cell j₂ h₂ s₂. value-decided k (λ slots s₃. next (record { mode = mode; cell = cell; slots = slots }) s₃)
-    (λ slots. d (record { mode = mode; cell = cell; slots = slots })) j₂ (omega arith) s₂) j₁ (omega arith) s₁) j (omega arith) s
+    value-decided (9 + k) (λ mode s₁. readValue s₁ (λ cell s₂. readValue s₂ (λ slots s₃. readValue s₃ (λ mask s₄. next (made mode cell slots mask) s₄))))
+    (λ mode j₁ h₁ s₁. value-decided (6 + k) (λ cell s₂. readValue s₂ (λ slots s₃. readValue s₃ (λ mask s₄. next (made mode cell slots mask) s₄)))
+    (λ cell j₂ h₂ s₂. value-decided (3 + k) (λ slots s₃. readValue s₃ (λ mask s₄. next (made mode cell slots mask) s₄))
+    (λ slots j₃ h₃ s₃. value-decided k (λ mask s₄. next (made mode cell slots mask) s₄)
+    (λ mask. d (made mode cell slots mask)) j₃ (omega arith) s₃) j₂ (omega arith) s₂) j₁ (omega arith) s₁) j (omega arith) s
 
 zones-decided : {A : Type 0} (count k size : ℕ) (before : Before) (next : List Zone → List ℕ → Answer A) → ((zones : List Zone) → Decided k (next zones))
-    → Decided (9 * count + k) (λ s. readZones count size before s next)
+    → Decided (12 * count + k) (λ s. readZones count size before s next)
 unfolding readZones
 zones-decided zero k size before next d j h s = d [] j (omega arith) s
 zones-decided (suc count) k size before next d j h s =
-    zone-decided (9 * count + k) (λ zone s₁. askZone size before zone (readZones count size (After (zone .mode)) s₁ (λ zones s₂. next (zone ∷ zones) s₂)))
+    zone-decided (12 * count + k) (λ zone s₁. askZone size before zone (readZones count size (After (zone .mode)) s₁ (λ zones s₂. next (zone ∷ zones) s₂)))
     (λ zone i l t. ap (askZone size before zone) (zones-decided count k size (After (zone .mode)) (λ zones. next (zone ∷ zones)) (λ zones. d (zone ∷ zones)) i l t))
     j (omega arith) s
 
@@ -58,16 +68,28 @@ finish-decided count size zones zero h s = absurd (omega arith)
 finish-decided count size zones (suc j) h [] = refl
 finish-decided count size zones (suc j) h (x ∷ s) = rw (ne-eqb (length (x ∷ take j s)) 0 (λ z. omega arith), ne-eqb (length (x ∷ s)) 0 (λ z. omega arith))
 
--- Count, size and three values of each of eight zones are 26, so 78 bytes and one more decide; a count above 8 has no zone read.
-count-decided : (count : ℕ) → Decided 76 (λ s. ask (isCount count) 12 (readValue s (λ size s₁. ask (isFourSizes size) 2 (readZones count size First s₁ (finish count size)))))
+-- A count takes one byte, the size and four values of each of eight zones 99 at most, so 100 bytes and one more decide; a count above 8 has no zone read.
+count-byte : (s : List ℕ) {v : Value} → valueOf s ≡ accepted v → v .value ≤ 8 → v .size ≡ 1
+count-byte s {v} q h = omega (arith, size-1 (v .value) (omega arith), size-within 3 s q, simp (length-append, length-drop) at (again 3 s q .length-is))
+
+abbrev afterCount : (count : ℕ) → ℕ
+afterCount count = pick (isCount count) 100 0
+
+count-decided : (count : ℕ) → Decided (afterCount count) (λ s. ask (isCount count) 12 (readValue s (λ size s₁. ask (isFourSizes size) 2 (readZones count size First s₁ (finish count size)))))
 count-decided count j h s =
     cases (isCount count)
     (λ e. rw e
-    (value-decided 73 _ (λ size i l t.
+    (value-decided 97 _ (λ size i l t.
     ap (ask (isFourSizes size) 2) (zones-decided count 1 size First (finish count size) (finish-decided count size) i (omega (arith, count-most count e)) t))
-    j (omega arith) s))
+    j (rw e at h) s))
     (λ e. rw e)
 
-pub first-bytes : (k : ℕ) (s : List ℕ) → 79 ≤ k → planOf (take k s) ≡ planOf s
+pub first-bytes : (k : ℕ) (s : List ℕ) → 101 ≤ k → planOf (take k s) ≡ planOf s
 unfolding planOf
-first-bytes k s h = value-decided 76 _ count-decided k h s
+first-bytes k s h = then-more 101 afterCount _ (omega arith) most count-decided k h s
+  where
+    most : (s₁ : List ℕ) (v : Value) → valueOf s₁ ≡ accepted v → v .size + afterCount (v .value) ≤ 101
+    most s₁ v q =
+        cases (isCount (v .value))
+        (λ e. rw e (omega (arith, count-byte s₁ q (count-most (v .value) e))))
+        (λ e. rw e (omega (arith, at-most-three s₁ q)))

@@ -9,6 +9,7 @@ use lib.Dec.{eqb, ltb, leb}
 use lib.ListN.{length, drop, getD}
 use lib.Seq.{getD-take, getD-drop, length-take-le}
 use borrow.Author.Tests.{eqb-true, ltb-true, ltb-false, leb-true}
+use Rattle.base.specs.Choice.{isUpTo}
 use Rattle.base.specs.Answer.{Answer, accepted}
 use Rattle.base.proofs.Chain.{ask-yes, yes-all}
 use Rattle.base.proofs.Test.{cases}
@@ -16,11 +17,12 @@ use Rattle.map.specs.declared.Setup.{Setup}
 use Rattle.map.specs.Mode.{cells, width}
 use Rattle.map.specs.Question.{isFourSizes, isSize, isCell}
 use Rattle.map.proofs.Accept.{size-most}
+use Rattle.mask.specs.Mask.{isMask}
 use Rattle.plan.specs.declared.Zone.{Zone}
 use Rattle.plan.specs.declared.Plan.{Plan}
 use Rattle.plan.specs.declared.Before.{Before}
 use Rattle.plan.specs.declared.Before.the-variants.{First, After}
-use Rattle.plan.specs.Zone.{isUpTo, isCount, isZoneMode, setupOf, isSlots, isOrder, askZone, unused}
+use Rattle.plan.specs.Zone.{isCount, isZoneMode, setupOf, isSlots, isOrder, askZone, unused}
 use Rattle.plan.specs.Write.{isUnused, areUnused, usedZones, askZones, askPlan}
 use Rattle.plan.specs.Model.{planRefusal, Small}
 use Rattle.plan.proofs.Places.{both-true, unused-is}
@@ -32,6 +34,7 @@ pub record Passed (size : ℕ) (before : Before) (z : Zone) : Type 0 where
   pub size-is : isSize (setupOf size z) ≡ true
   pub cell-is : isCell (setupOf size z) ≡ true
   pub slots-are : isSlots (z .slots) ≡ true
+  pub mask-is : isMask (z .mode) (z .mask) ≡ true
   pub order-is : isOrder before size z ≡ true
 
 module _ {A : Type 0} (size : ℕ) (before : Before) (z : Zone) (rest : Answer A) where
@@ -41,11 +44,12 @@ module _ {A : Type 0} (size : ℕ) (before : Before) (z : Zone) (rest : Answer A
       let e₂ = ask-yes (isSize (setupOf size z)) 2 _ (e₁ .1) in
       let e₃ = ask-yes (isCell (setupOf size z)) 3 _ (e₂ .1) in
       let e₄ = ask-yes (isSlots (z .slots)) 13 _ (e₃ .1) in
-      let e₅ = ask-yes (isOrder before size z) 14 rest (e₄ .1) in
-      (record { mode-is = e₁ .0; size-is = e₂ .0; cell-is = e₃ .0; slots-are = e₄ .0; order-is = e₅ .0 }, e₅ .1)
+      let e₅ = ask-yes (isMask (z .mode) (z .mask)) 17 _ (e₄ .1) in
+      let e₆ = ask-yes (isOrder before size z) 14 rest (e₅ .1) in
+      (record { mode-is = e₁ .0; size-is = e₂ .0; cell-is = e₃ .0; slots-are = e₄ .0; mask-is = e₅ .0; order-is = e₆ .0 }, e₆ .1)
 
   pub zone-passes : Passed size before z → askZone size before z rest ≡ rest
-  zone-passes p = rw (p .mode-is, p .size-is, p .cell-is, p .slots-are, p .order-is)
+  zone-passes p = rw (p .mode-is, p .size-is, p .cell-is, p .slots-are, p .mask-is, p .order-is)
 
 -- zones that every question lets pass, one after the other
 pub data Judged (size : ℕ) : Before → List Zone → Type 0 where
@@ -93,6 +97,13 @@ up-to : (most n : ℕ) → isUpTo most n ≡ true → n ≤ most
 unfolding isUpTo
 up-to most n e = leb-true n most (both-true (ltb 0 n) (leb n most) e .1)
 
+mask-small : (mode mask : ℕ) → isMask mode mask ≡ true → mask ≤ 63
+unfolding isMask
+mask-small mode mask e =
+    cases (eqb mode 0)
+    (λ t. up-to 63 mask (rw t at e))
+    (λ f. omega (arith, eqb-true mask 0 (rw f at e)))
+
 pub small : {size : ℕ} {before : Before} {z : Zone} → Passed size before z → Small z
 unfolding isCell
 small {size} {before} {z} p =
@@ -100,6 +111,7 @@ small {size} {before} {z} p =
       mode-most = mode-small (z .mode) (p .mode-is);
       cell-most = omega (arith, ltb-true (z .cell) (cells (setupOf size z)) (p .cell-is), cells-small (setupOf size z) (size-most (setupOf size z) (p .size-is)));
       slots-most = up-to 512 (z .slots) (p .slots-are);
+      mask-most = mask-small (z .mode) (z .mask) (p .mask-is);
     }
 
 zones-small : {size : ℕ} {before : Before} (zones : List Zone) (k : ℕ) → Judged size before zones → k < length zones → Small (getD zones k unused)
@@ -146,7 +158,7 @@ used-small p k f e h =
     (zones-small (usedZones p) k (f .judged) (rw (length-take-le (p .count) (p .zones) (omega arith)) h))
 
 small-unused : Small unused
-small-unused = record { mode-most = omega arith; cell-most = omega arith; slots-most = omega arith }
+small-unused = record { mode-most = omega arith; cell-most = omega arith; slots-most = omega arith; mask-most = omega arith }
 
 pub unused-small : (zones : List Zone) (k : ℕ) → areUnused zones ≡ true → Small (getD zones k unused)
 unfolding areUnused

@@ -4,7 +4,7 @@ use native.Mathlib.Omega.{arith}
 use Rattle.base.proofs.Chain.{same-accepted}
 use Rattle.plan.specs.Read.{planOf}
 use Rattle.plan.specs.Law.{PlanLaw}
-use Rattle.plan.proofs.Round.{plan-of, same-bytes, same-plan, read-43}
+use Rattle.plan.proofs.Round.{plan-of, same-bytes, same-plan, read-51}
 use Rattle.plan.proofs.Decide.{first-bytes}
 
 pub plan-law : PlanLaw
@@ -14,6 +14,7 @@ plan-law =
       same-plan = same-plan;
       one-string = λ s t plan b c e q. sym (plan-of s e .bytes .same b) ∙ plan-of t q .bytes .same c;
       one-plan = λ p q d₁ d₂ after₁ after₂ n₁ n₂ l m e g h. same-accepted (sym (same-plan p d₁ after₁ n₁ l e) ∙ ap planOf h ∙ same-plan q d₂ after₂ n₂ m g);
-      at-most-43 = read-43;
+      at-most-51 = read-51;
+      first-102-decide = λ s. first-bytes 102 s (omega arith);
       first-128-decide = λ s. first-bytes 128 s (omega arith);
     }

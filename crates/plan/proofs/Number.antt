@@ -11,6 +11,7 @@ use Rattle.base.proofs.Chain.{numbered, yes-all, no-first, Numbered, no-questio
 use Rattle.map.specs.Question.{isMode, isFourSizes, isSize, isCell}
 use Rattle.map.specs.Model.{setupRefusal}
 use Rattle.map.proofs.Accept.{setup-numbered}
+use Rattle.mask.specs.Mask.{isMask}
 use Rattle.plan.specs.declared.Zone.{Zone}
 use Rattle.plan.specs.declared.Plan.{Plan}
 use Rattle.plan.specs.declared.Before.{Before}
@@ -27,35 +28,40 @@ listed m h = rw (ne-eqb m 1 h)
 
 -- the questions put to a zone in its plan
 module _ (size : ℕ) (before : Before) (z : Zone) where
+  pub zone-uplink : z .mode ≡ 1 → 1 ≡ zoneRefusal size before z
+  unfolding zoneRefusal isZoneMode
+  zone-uplink e = rw e
+
+  -- in any other mode the map's questions, then these
+  abbrev pub own : {A : Type 0} → Answer A → Answer A
+  own rest = ask (isSlots (z .slots)) 13 (ask (isMask (z .mode) (z .mask)) 17 (ask (isOrder before size z) 14 rest))
+
+  module _ (u : z .mode ≡ 1 → ⊥) {r : ℕ} (e : r ≡ setupRefusal (setupOf size z)) where
+    by-setup : {A : Type 0} (rest : Answer A) → askZone size before z rest ≡ numbered r (own rest)
+    unfolding isMode
+    by-setup rest = rw (listed (z .mode) u, e) (setup-numbered (setupOf size z) (own rest))
+
+    pub zone-setup : (r ≡ 0 → ⊥) → r ≡ zoneRefusal size before z
+    unfolding zoneRefusal
+    zone-setup h = sym (ap refusalOf (by-setup (accepted tt) ∙ no-first r _ h))
+
+    pub zone-rest : r ≡ 0 → refusalOf (own {A = Unit {0}} (accepted tt)) ≡ zoneRefusal size before z
+    unfolding zoneRefusal
+    zone-rest h = sym (ap refusalOf (by-setup (accepted tt) ∙ yes-all r _ h))
+
+  -- all of them as one chain
   zone-chain : {A : Type 0} {chain rest : Answer A} {alone : Answer (Unit {0})} → Numbered chain rest alone → Numbered (askZone size before z chain) rest (askZone size before z alone)
   zone-chain tail =
       question (isZoneMode (z .mode)) 0
       (question (isSize (setupOf size z)) 1
       (question (isCell (setupOf size z)) 2
       (question (isSlots (z .slots)) 12
-      (question (isOrder before size z) 13 tail))))
+      (question (isMask (z .mode) (z .mask)) 16
+      (question (isOrder before size z) 13 tail)))))
 
   pub zone-numbered : {A : Type 0} (rest : Answer A) → askZone size before z rest ≡ numbered (zoneRefusal size before z) rest
   unfolding zoneRefusal
   zone-numbered rest = zone-chain no-question .is
-
-  pub zone-uplink : z .mode ≡ 1 → 1 ≡ zoneRefusal size before z
-  unfolding zoneRefusal isZoneMode
-  zone-uplink e = rw e
-
-  -- in any other mode the map's questions, then the plan's
-  module _ (u : z .mode ≡ 1 → ⊥) {r : ℕ} (e : r ≡ setupRefusal (setupOf size z)) where
-    by-setup : {A : Type 0} (rest : Answer A) → askZone size before z rest ≡ numbered r (ask (isSlots (z .slots)) 13 (ask (isOrder before size z) 14 rest))
-    unfolding isMode
-    by-setup rest = rw (listed (z .mode) u, e) (setup-numbered (setupOf size z) (ask (isSlots (z .slots)) 13 (ask (isOrder before size z) 14 rest)))
-
-    pub zone-setup : (r ≡ 0 → ⊥) → r ≡ zoneRefusal size before z
-    unfolding zoneRefusal
-    zone-setup h = sym (ap refusalOf (by-setup (accepted tt) ∙ no-first r _ h))
-
-    pub zone-rest : r ≡ 0 → refusalOf (ask {A = Unit {0}} (isSlots (z .slots)) 13 (ask (isOrder before size z) 14 (accepted tt))) ≡ zoneRefusal size before z
-    unfolding zoneRefusal
-    zone-rest h = sym (ap refusalOf (by-setup (accepted tt) ∙ yes-all r _ h))
 
 -- the zones one after the other
 zones-chain : {A : Type 0} (size : ℕ) (before : Before) (zones : List Zone) (rest : Answer A) → Numbered (askZones size before zones rest) rest (askZones size before zones (accepted tt))

@@ -62,9 +62,10 @@ both-true false b e = absurd (let z : _≡_ {A = ℕ} 0 1 = cc in omega arith)
 pub unused-is : (z : Zone) → isUnused z ≡ true → unused ≡ z
 unfolding isUnused
 unused-is z e =
-    let h = both-true (eqb (z .mode) 0) (pick (eqb (z .cell) 0) (eqb (z .slots) 0) false) e in
-    let k = both-true (eqb (z .cell) 0) (eqb (z .slots) 0) (h .1) in
-    rw (eqb-true (z .mode) 0 (h .0), eqb-true (z .cell) 0 (k .0), eqb-true (z .slots) 0 (k .1))
+    let h = both-true (eqb (z .mode) 0) (pick (eqb (z .cell) 0) (pick (eqb (z .slots) 0) (eqb (z .mask) 0) false) false) e in
+    let k = both-true (eqb (z .cell) 0) (pick (eqb (z .slots) 0) (eqb (z .mask) 0) false) (h .1) in
+    let l = both-true (eqb (z .slots) 0) (eqb (z .mask) 0) (k .1) in
+    rw (eqb-true (z .mode) 0 (h .0), eqb-true (z .cell) 0 (k .0), eqb-true (z .slots) 0 (l .0), eqb-true (z .mask) 0 (l .1))
 
 -- the places from the k-th on are unused where the k-th is, and those after it
 module _ (zones : List Zone) (k : ℕ) (e : length zones ≡ 8) where

@@ -23,8 +23,8 @@ use Rattle.plan.specs.Write.{usedZones, askPlan, zoneBytes, planBytes, O
 use Rattle.plan.specs.Law.{Eight}
 use Rattle.plan.specs.Model.{Small}
 use Rattle.plan.proofs.Places.{take-places, drop-places, places-of, places-length}
-use Rattle.plan.proofs.Judge.{Passed, zone-yes, zone-passes, Judged, none, then, small, Fit, plan-yes, plan-passes, count-most, size-small}
-use Rattle.plan.proofs.Bytes.{plan-43}
+use Rattle.plan.proofs.Judge.{zone-yes, zone-passes, Judged, none, then, small, Fit, plan-yes, plan-passes, count-most, size-small}
+use Rattle.plan.proofs.Bytes.{plan-51}
 
 -- From bytes to a value and back.
 record Value-of {A : Type 0} (s : List ℕ) (next : ℕ → List ℕ → Answer A) (a : A) : Type 0 where
@@ -56,20 +56,26 @@ zone-of s next e =
     let m = value-of s _ e in
     let c = value-of (m .after) _ (m .go-on) in
     let l = value-of (c .after) _ (c .go-on) in
+    let k = value-of (l .after) _ (l .go-on) in
     record {
-      zone = record { mode = m .value; cell = c .value; slots = l .value };
-      after = l .after;
-      bytes = simp append-assoc (again-then (encode (m .value)) (m .bytes) (again-then (encode (c .value)) (c .bytes) (l .bytes)));
-      go-on = l .go-on;
+      zone = record { mode = m .value; cell = c .value; slots = l .value; mask = k .value };
+      after = k .after;
+      bytes =
+          simp append-assoc
+          (again-then (encode (m .value)) (m .bytes)
+          (again-then (encode (c .value)) (c .bytes)
+          (again-then (encode (l .value)) (l .bytes) (k .bytes))));
+      go-on = k .go-on;
     }
 
 of-zone : {A : Type 0} {z : Zone} (s : List ℕ) (next : Zone → List ℕ → Answer A) → Small z → readZone (zoneBytes z ++ s) next ≡ next z s
 unfolding zoneBytes
 of-zone {z = z} s next h =
     simp append-assoc
-    (of-value (z .mode) (encode (z .cell) ++ (encode (z .slots) ++ s)) _ (omega arith)
-    ∙ of-value (z .cell) (encode (z .slots) ++ s) _ (omega arith)
-    ∙ of-value (z .slots) s _ (omega arith))
+    (of-value (z .mode) (encode (z .cell) ++ (encode (z .slots) ++ (encode (z .mask) ++ s))) _ (omega arith)
+    ∙ of-value (z .cell) (encode (z .slots) ++ (encode (z .mask) ++ s)) _ (omega arith)
+    ∙ of-value (z .slots) (encode (z .mask) ++ s) _ (omega arith)
+    ∙ of-value (z .mask) s _ (omega arith))
 
 -- From bytes to zones and back.
 record Zones-of {A : Type 0} (n size : ℕ) (before : Before) (s : List ℕ) (next : List Zone → List ℕ → Answer A) (a : A) : Type 0 where
@@ -193,9 +199,9 @@ laid p d after n e = by (askPlan p write) refl e
 pub same-plan : (p : Plan) (d after : List ℕ) (n : ℕ) → Eight p → writeOf p d ≡ record { answer = accepted n; dest = after } → planOf (take n after) ≡ accepted p
 same-plan p d after n l e = let t = laid p d after n e in rw (t .front) (of-plan p l (t .fit))
 
--- An accepted plan has at most 43 bytes, read or written.
-pub read-43 : (s : List ℕ) (p : Plan) → planOf s ≡ accepted p → length s ≤ 43
-read-43 s p e = let t = plan-of s e in omega (arith, t .bytes .length-is, plan-43 p (t .fit))
+-- An accepted plan has at most 51 bytes, read or written.
+pub read-51 : (s : List ℕ) (p : Plan) → planOf s ≡ accepted p → length s ≤ 51
+read-51 s p e = let t = plan-of s e in omega (arith, t .bytes .length-is, plan-51 p (t .fit))
 
-pub written-43 : (p : Plan) (d after : List ℕ) (n : ℕ) → writeOf p d ≡ record { answer = accepted n; dest = after } → n ≤ 43
-written-43 p d after n e = let t = laid p d after n e in omega (arith, plan-43 p (t .fit), t .number)
+pub written-51 : (p : Plan) (d after : List ℕ) (n : ℕ) → writeOf p d ≡ record { answer = accepted n; dest = after } → n ≤ 51
+written-51 p d after n e = let t = laid p d after n e in omega (arith, plan-51 p (t .fit), t .number)

@@ -26,7 +26,9 @@ pub record PlanLaw : Type 0 where
   pub one-plan : (p q : Plan) (d₁ d₂ after₁ after₂ : List ℕ) (n₁ n₂ : ℕ) → Eight p → Eight q
       → writeOf p d₁ ≡ record { answer = accepted n₁; dest = after₁ } → writeOf q d₂ ≡ record { answer = accepted n₂; dest = after₂ }
       → take n₁ after₁ ≡ take n₂ after₂ → p ≡ q
-  -- An accepted plan has at most 43 bytes.
-  pub at-most-43 : (s : List ℕ) (plan : Plan) → planOf s ≡ accepted plan → length s ≤ 43
-  -- The first 128 bytes decide the answer, whatever follows them.
+  -- An accepted plan has at most 51 bytes.
+  pub at-most-51 : (s : List ℕ) (plan : Plan) → planOf s ≡ accepted plan → length s ≤ 51
+  -- Reading looks at 102 bytes at most: they decide the answer, whatever follows them.
+  pub first-102-decide : (s : List ℕ) → planOf (take 102 s) ≡ planOf s
+  -- And so do the first 128 bytes.
   pub first-128-decide : (s : List ℕ) → planOf (take 128 s) ≡ planOf s

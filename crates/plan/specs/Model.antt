@@ -28,6 +28,7 @@ pub record Small (zone : Zone) : Type 0 where
   pub mode-most : zone .mode < 7
   pub cell-most : zone .cell < 2352
   pub slots-most : zone .slots ≤ 512
+  pub mask-most : zone .mask ≤ 63
 
 -- what comes after an answer of `zone_at`, of the bytes that it was read from
 abbrev pub zoneFound : (bytes : List ℕ) (answer : ZoneFound) (next : Zone → List ℕ → Answer Plan) → Answer Plan

@@ -1,4 +1,4 @@
--- Reading a plan. Document 01, "Zone plan": count of zones, size, then mode, cell and slots of each.
+-- Reading a plan. Document 01, "Zone plan": count of zones, size, then mode, cell and slots of each; document 02, wish 5: the mask, a fourth value in the plan file.
 -- Start with `planOf`, near the end: the whole of reading, with its questions in order. It reads values by `readValue` and the zones by `readZones`,
 -- which reads each by `readZone`; `finish` is the last question and the plan. `answered` is what the call `read` gives.
 use mathlib.Core.List.{List, [], _∷_}
@@ -23,15 +23,16 @@ handOn (refused number) bytes next = refused number
 abbrev pub readValue : {A : Type 0} → (bytes : List ℕ) (next : ℕ → List ℕ → Answer A) → Answer A
 readValue bytes next = handOn (valueOf bytes) bytes next
 
--- A zone: mode, cell and slots.
+-- A zone: mode, cell, slots and mask.
 abbrev pub readZone : {A : Type 0} → (bytes : List ℕ) (next : Zone → List ℕ → Answer A) → Answer A
 readZone bytes next =
     readValue bytes (λ mode s₁.
     readValue s₁ (λ cell s₂.
     readValue s₂ (λ slots s₃.
-    next (record { mode = mode; cell = cell; slots = slots }) s₃)))
+    readValue s₃ (λ mask s₄.
+    next (record { mode = mode; cell = cell; slots = slots; mask = mask }) s₄))))
 
--- So many zones, each judged after its three values.
+-- So many zones, each judged after its four values.
 unfoldable pub readZones : {A : Type 0} → (count size : ℕ) (before : Before) (bytes : List ℕ) (next : List Zone → List ℕ → Answer A) → Answer A
 readZones zero size before bytes next = next [] bytes
 readZones (suc count) size before bytes next =

@@ -1,4 +1,4 @@
--- Writing a plan. Document 01: writing puts 12, 2, for each zone in turn 1, 2, 3, 13, 14, then 16.
+-- Writing a plan. Document 01: writing puts 12, 2, for each zone in turn 1, 2, 3, 13, 14, then 16; document 02, wish 5: 17 after 13.
 use mathlib.Core.Bool.{Bool, true, false}
 use mathlib.Core.List.{List, [], _∷_, _++_}
 use Prim.Native.Nat.{ℕ}
@@ -18,7 +18,7 @@ use Rattle.plan.specs.Zone.{askZone, isCount, each}
 
 -- 12 (writing: and every place past it zero)
 unfoldable pub isUnused : (zone : Zone) → Bool
-isUnused zone = pick (eqb (zone .mode) 0) (pick (eqb (zone .cell) 0) (eqb (zone .slots) 0) false) false
+isUnused zone = pick (eqb (zone .mode) 0) (pick (eqb (zone .cell) 0) (pick (eqb (zone .slots) 0) (eqb (zone .mask) 0) false) false) false
 
 unfoldable pub areUnused : (zones : List Zone) → Bool
 areUnused [] = true
@@ -27,7 +27,7 @@ areUnused (zone ∷ zones) = pick (isUnused zone) (areUnused zones) false
 abbrev pub usedZones : (plan : Plan) → List Zone
 usedZones plan = take (plan .count) (plan .zones)
 
--- for each zone in turn 1, 2, 3, 13, 14
+-- for each zone in turn 1, 2, 3, 13, 17, 14
 unfoldable pub askZones : {A : Type 0} → (size : ℕ) (before : Before) (zones : List Zone) (rest : Answer A) → Answer A
 askZones size before [] rest = rest
 askZones size before (zone ∷ zones) rest = askZone size before zone (askZones size (After (zone .mode)) zones rest)
@@ -39,9 +39,9 @@ askPlan plan rest =
     (ask (isFourSizes (plan .size)) 2
     (askZones (plan .size) First (usedZones plan) rest)))
 
--- count of zones, size, then mode, cell and slots of each
+-- count of zones, size, then mode, cell, slots and mask of each
 unfoldable pub zoneBytes : (zone : Zone) → List ℕ
-zoneBytes zone = encode (zone .mode) ++ (encode (zone .cell) ++ encode (zone .slots))
+zoneBytes zone = encode (zone .mode) ++ (encode (zone .cell) ++ (encode (zone .slots) ++ encode (zone .mask)))
 
 unfoldable pub planBytes : (plan : Plan) → List ℕ
 planBytes plan = encode (plan .count) ++ (encode (plan .size) ++ each zoneBytes (usedZones plan))

@@ -3,10 +3,11 @@ use mathlib.Core.Bool.{Bool, true, false}
 use mathlib.Core.List.{List, [], _∷_, _++_}
 use Prim.Native.Nat.{ℕ, zero, suc}
 use lib.Dec.{eqb, ltb, leb}
-use Rattle.base.specs.Choice.{pick}
+use Rattle.base.specs.Choice.{pick, isUpTo}
 use Rattle.base.specs.Answer.{Answer, ask}
 use Rattle.map.specs.declared.Setup.{Setup}
 use Rattle.map.specs.Question.{isSize, isCell}
+use Rattle.mask.specs.Mask.{isMask}
 use Rattle.plan.specs.declared.Zone.{Zone}
 use Rattle.plan.specs.declared.Before.{Before}
 use Rattle.plan.specs.declared.Before.the-variants.{First, After}
@@ -18,10 +19,6 @@ isZoneMode mode = pick (eqb mode 1) false (ltb mode 7)
 -- 2 and 3 are the map's, of the zone's mode and cell and the plan's size.
 abbrev pub setupOf : (size : ℕ) (zone : Zone) → Setup
 setupOf size zone = record { mode = zone .mode; size = size; cell = zone .cell }
-
--- a number of 1, 2, .., most
-unfoldable pub isUpTo : (most number : ℕ) → Bool
-isUpTo most number = pick (ltb 0 number) (leb number most) false
 
 -- 12 Is the count 1..8?
 abbrev pub isCount : (count : ℕ) → Bool
@@ -48,18 +45,19 @@ abbrev pub isOrder : (before : Before) (size : ℕ) (zone : Zone) → Bool
 isOrder First size zone = isOpening size zone
 isOrder (After mode) size zone = isFollowing mode zone
 
--- the questions after a zone's three values
+-- The questions after a zone's four values. Document 02, wish 5: refused 17, mask out of its range, put after 13 in plans.
 abbrev pub askZone : {A : Type 0} → (size : ℕ) (before : Before) (zone : Zone) (rest : Answer A) → Answer A
 askZone size before zone rest =
     ask (isZoneMode (zone .mode)) 1
     (ask (isSize (setupOf size zone)) 2
     (ask (isCell (setupOf size zone)) 3
     (ask (isSlots (zone .slots)) 13
-    (ask (isOrder before size zone) 14 rest))))
+    (ask (isMask (zone .mode) (zone .mask)) 17
+    (ask (isOrder before size zone) 14 rest)))))
 
 -- an unused place of a plan
 abbrev pub unused : Zone
-unused = record { mode = 0; cell = 0; slots = 0 }
+unused = record { mode = 0; cell = 0; slots = 0; mask = 0 }
 
 -- The zones of a plan in so many places, unused places all zero.
 unfoldable pub inPlaces : (places : ℕ) (zones : List Zone) → List Zone

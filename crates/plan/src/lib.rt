@@ -6,17 +6,26 @@ ghost use Prim.Native.Nat.{_+_, _≤_};
 ghost use lib.ListN.{length, drop};
 ghost use Rattle.text.specs.Text.{Put};
 ghost use Rattle.base.specs.Answer.{refused as no};
-ghost use Rattle.plan.specs.Zone.{isAmc, isUpTo, isOrder};
+ghost use Rattle.plan.specs.Zone.{isAmc, isOrder};
 ghost use Rattle.plan.specs.Write.{isUnused, areUnused, usedZones, zoneBytes, planBytes, written, writeOf};
 ghost use Rattle.plan.specs.Read.{readZones, finish, planOf, answered};
 ghost use Rattle.plan.specs.Model.{zoneRefusal, zonesRefusal, planRefusal, Small, ZoneAt};
 
-// One zone: mode, cell and how many slots.
+// One zone: mode, cell, how many slots, and the mask, bit g for major group g (document 02, wish 5).
 pub struct Zone {
     pub mode: usize,
     pub cell: usize,
     pub slots: usize,
+    pub mask: usize,
 }
+
+// An unused place of a plan.
+pub const UNUSED: Zone = Zone {
+    mode: 0,
+    cell: 0,
+    slots: 0,
+    mask: 0,
+};
 
 // A plan: its zones stand in the first places, unused places are all zero.
 pub struct Plan {
@@ -47,16 +56,6 @@ pub enum Before {
 pub enum ZoneFound {
     Found { zone: Zone, next: usize },
     Refused(u8),
-}
-
-// Is a number one of 1, 2, .., most?
-fn is_up_to(most: usize, number: usize) -> bool
-    ensures { λ r. ⌜ r ≡ isUpTo most number ⌝ }
-{
-    if number == 0 {
-        return false;
-    }
-    number <= most
 }
 
 // Is it one of AMC's modes?
@@ -103,8 +102,11 @@ fn zone_refusal(size: usize, prior: Before, zone: Zone) -> u8
     if setup != 0 {
         return setup;
     }
-    if !is_up_to(512, zone.slots) {
+    if !base::is_up_to(512, zone.slots) {
         return 13;
+    }
+    if !mask::is_mask(zone.mode, zone.mask) {
+        return 17;
     }
     if is_order(size, prior, zone) {
         return 0;
@@ -120,11 +122,7 @@ fn refused(number: u8) -> ReadPlan
         plan: Plan {
             count: 0,
             size: 0,
-            zones: [Zone {
-                mode: 0,
-                cell: 0,
-                slots: 0,
-            }; 8],
+            zones: [UNUSED; 8],
         },
     }
 }
@@ -143,14 +141,21 @@ fn zone_at(bytes: &[u8], at: usize) -> ZoneFound
                     let at = at + size;
                     match value::read(bytes, at) {
                         Found::Refused(number) => ZoneFound::Refused(number),
-                        Found::Value { value: slots, size } => ZoneFound::Found {
-                            zone: Zone {
-                                mode: mode,
-                                cell: cell,
-                                slots: slots,
-                            },
-                            next: at + size,
-                        },
+                        Found::Value { value: slots, size } => {
+                            let at = at + size;
+                            match value::read(bytes, at) {
+                                Found::Refused(number) => ZoneFound::Refused(number),
+                                Found::Value { value: mask, size } => ZoneFound::Found {
+                                    zone: Zone {
+                                        mode: mode,
+                                        cell: cell,
+                                        slots: slots,
+                                        mask: mask,
+                                    },
+                                    next: at + size,
+                                },
+                            }
+                        }
                     }
                 }
             }
@@ -163,11 +168,7 @@ fn zones_at(bytes: &[u8], at: usize, count: usize, size: usize) -> ReadPlan
     requires { ⌜ count ≤ 8 ⌝ }
     ensures { λ r. ⌜ r ≡ answered (readZones count size Before.First (drop at (now (bytes .entry))) (finish count size)) ⌝ }
 {
-    let mut zones = [Zone {
-        mode: 0,
-        cell: 0,
-        slots: 0,
-    }; 8];
+    let mut zones = [UNUSED; 8];
     let mut prior = Before::First;
     let mut next = at;
     let mut k = 0;
@@ -234,7 +235,7 @@ pub fn read(bytes: &[u8]) -> ReadPlan
 fn is_unused(zone: Zone) -> bool
     ensures { λ r. ⌜ r ≡ isUnused zone ⌝ }
 {
-    (zone.mode | zone.cell | zone.slots) == 0
+    (zone.mode | zone.cell | zone.slots | zone.mask) == 0
 }
 
 // Is every place from the count on unused?
@@ -279,7 +280,7 @@ fn zones_refusal(plan: Plan) -> u8
 fn plan_refusal(plan: Plan) -> u8
     ensures { λ r. ⌜ r ≡ planRefusal plan ⌝ }
 {
-    if !is_up_to(8, plan.count) {
+    if !base::is_up_to(8, plan.count) {
         return 12;
     }
     if !are_unused(plan) {
@@ -291,19 +292,20 @@ fn plan_refusal(plan: Plan) -> u8
     zones_refusal(plan)
 }
 
-// Puts a zone at a place, 5 bytes at most; answers the place after it.
+// Puts a zone at a place, 6 bytes at most; answers the place after it.
 fn put_zone(dest: &mut [u8], at: usize, zone: Zone) -> usize
-    requires { ⌜ Small zone × (at + 5 ≤ length (now dest)) ⌝ }
-    ensures { λ r. ⌜ Put (now (dest .entry)) at (zoneBytes zone) r (now (dest .exit)) × (r ≤ at + 5) ⌝ }
+    requires { ⌜ Small zone × (at + 6 ≤ length (now dest)) ⌝ }
+    ensures { λ r. ⌜ Put (now (dest .entry)) at (zoneBytes zone) r (now (dest .exit)) × (r ≤ at + 6) ⌝ }
 {
     let cell = value::write(dest, at, zone.mode);
     let slots = value::write(dest, cell, zone.cell);
-    value::write(dest, slots, zone.slots)
+    let mask = value::write(dest, slots, zone.slots);
+    value::write(dest, mask, zone.mask)
 }
 
-// Puts an accepted plan, 43 bytes at most; answers how many.
+// Puts an accepted plan, 51 bytes at most; answers how many.
 fn put_plan(dest: &mut [u8], plan: Plan) -> usize
-    requires { ⌜ (planRefusal plan ≡ 0) × (43 ≤ length (now dest)) ⌝ }
+    requires { ⌜ (planRefusal plan ≡ 0) × (51 ≤ length (now dest)) ⌝ }
     ensures { λ r. ⌜ Put (now (dest .entry)) 0 (planBytes plan) r (now (dest .exit)) ⌝ }
 {
     let used = plan.count;
@@ -326,7 +328,7 @@ pub fn write(plan: Plan, dest: &mut [u8]) -> Written
     if number != 0 {
         return Written::Refused(number);
     }
-    let mut bytes = [0u8; 43];
+    let mut bytes = [0u8; 51];
     let n = put_plan(&mut bytes, plan);
     if dest.len() < n {
         return Written::Refused(16);

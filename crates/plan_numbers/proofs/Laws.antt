@@ -3,7 +3,7 @@ use mathlib.Core.Path.{_≡_, refl, sym, ap, _∙_}
 use mathlib.Core.List.{List, [], _∷_, _++_}
 use Prim.Native.Nat.{ℕ, _+_, _*_, _<_, _≤_}
 use native.Mathlib.Omega.{arith}
-use native.Mathlib.Numerals.{add-one, add-two}
+use native.Mathlib.Numerals.{add-one, add-two, add-three}
 use lib.ListN.{length, take, getD, set, length-set}
 use lib.Seq.{take-suc, take-all, take-suc-set, sets-eq}
 use Rattle.base.specs.Answer.{Answer, accepted, refused}
@@ -21,43 +21,43 @@ use Rattle.plan.proofs.Places.{drop-places}
 use Rattle.plan.proofs.Judge.{unused-small, all-small, count-most, size-small}
 use Rattle.plan.proofs.Each.{each-none, each-more}
 use Rattle.plan.proofs.Round.{plan-of}
-use Rattle.plan_numbers.specs.Numbers.{threeOf, numbersOf, placeIn, placesOf}
+use Rattle.plan_numbers.specs.Numbers.{fourOf, numbersOf, placeIn, placesOf}
 use Rattle.plan_numbers.specs.Model.{AllSmall}
 
-three : (l : List ℕ) (i a b c : ℕ) → i + 3 ≤ length l → take (i + 3) (set (set (set l i a) (i + 1) b) (i + 2) c) ≡ take i l ++ (a ∷ b ∷ c ∷ [])
+four : (l : List ℕ) (i a b c d : ℕ) → i + 4 ≤ length l → take (i + 4) (set (set (set (set l i a) (i + 1) b) (i + 2) c) (i + 3) d) ≡ take i l ++ (a ∷ b ∷ c ∷ d ∷ [])
 unfolding put
-three l i a b c h = rw (add-one, add-two) (ap (take (i + 3)) (sets-eq (a ∷ b ∷ c ∷ []) l i h) ∙ take-put l i (a ∷ b ∷ c ∷ []) (omega arith))
+four l i a b c d h = rw (add-one, add-two, add-three) (ap (take (i + 4)) (sets-eq (a ∷ b ∷ c ∷ d ∷ []) l i h) ∙ take-put l i (a ∷ b ∷ c ∷ d ∷ []) (omega arith))
 
 -- While numbers are laid out: those of the first k zones are.
 pub record Row (zones : List Zone) (numbers : List ℕ) (k : ℕ) : Type 0 where
   pub places : length zones ≡ 8
-  pub room : length numbers ≡ 24
+  pub room : length numbers ≡ 32
   pub small : AllSmall zones
-  pub done : take (3 * k) numbers ≡ numbersOf (take k zones)
+  pub done : take (4 * k) numbers ≡ numbersOf (take k zones)
 
-pub row-begin : (zones : List Zone) (numbers : List ℕ) → length zones ≡ 8 → length numbers ≡ 24 → AllSmall zones → Row zones numbers 0
-row-begin zones numbers p r a = record { places = p; room = r; small = a; done = sym (each-none threeOf zones) }
+pub row-begin : (zones : List Zone) (numbers : List ℕ) → length zones ≡ 8 → length numbers ≡ 32 → AllSmall zones → Row zones numbers 0
+row-begin zones numbers p r a = record { places = p; room = r; small = a; done = sym (each-none fourOf zones) }
 
 module _ {zones : List Zone} {numbers : List ℕ} {k : ℕ} (f : Row zones numbers k) where
   pub now-small : Small (getD zones k unused)
   now-small = f .small k
 
-  pub row-again : k < 8 → (z : Zone) → z ≡ getD zones k unused → Row zones (set (set (set numbers (3 * k) (z .mode)) (3 * k + 1) (z .cell)) (3 * k + 2) (z .slots)) (k + 1)
+  pub row-again : k < 8 → (z : Zone) → z ≡ getD zones k unused → Row zones (set (set (set (set numbers (4 * k) (z .mode)) (4 * k + 1) (z .cell)) (4 * k + 2) (z .slots)) (4 * k + 3) (z .mask)) (k + 1)
   row-again h z e =
-      let next : 3 * (k + 1) ≡ 3 * k + 3 = omega arith in
+      let next : 4 * (k + 1) ≡ 4 * k + 4 = omega arith in
       record {
         places = f .places;
         room = simp length-set (f .room);
         small = f .small;
         done =
             rw next
-            (three numbers (3 * k) (z .mode) (z .cell) (z .slots) (omega (arith, f .room))
-            ∙ ap (λ l. l ++ threeOf z) (f .done)
-            ∙ rw e (sym (each-more threeOf zones k (omega (arith, f .places)))));
+            (four numbers (4 * k) (z .mode) (z .cell) (z .slots) (z .mask) (omega (arith, f .room))
+            ∙ ap (λ l. l ++ fourOf z) (f .done)
+            ∙ rw e (sym (each-more fourOf zones k (omega (arith, f .places)))));
       }
 
   pub row-end : 8 ≤ k → numbers ≡ numbersOf zones
-  row-end h = sym (take-all (3 * k) numbers (omega (arith, f .room))) ∙ f .done ∙ ap numbersOf (take-all k zones (omega (arith, f .places)))
+  row-end h = sym (take-all (4 * k) numbers (omega (arith, f .room))) ∙ f .done ∙ ap numbersOf (take-all k zones (omega (arith, f .places)))
 
 -- While places are taken: the first k are.
 pub record Placing (numbers : List ℕ) (zones : List Zone) (k : ℕ) : Type 0 where
@@ -68,11 +68,11 @@ pub placing : (numbers : List ℕ) (zones : List Zone) → length zones ≡ 8 �
 placing numbers zones r = record { room = r; done = refl }
 
 module _ {numbers : List ℕ} {zones : List Zone} {k : ℕ} (p : Placing numbers zones k) where
-  pub placing-again : {m c n : ℕ} → k < 8 → m ≡ getD numbers (3 * k) 0 → c ≡ getD numbers (3 * k + 1) 0 → n ≡ getD numbers (3 * k + 2) 0
-      → Placing numbers (set zones k (record { mode = m; cell = c; slots = n })) (k + 1)
+  pub placing-again : {m c n b : ℕ} → k < 8 → m ≡ getD numbers (4 * k) 0 → c ≡ getD numbers (4 * k + 1) 0 → n ≡ getD numbers (4 * k + 2) 0 → b ≡ getD numbers (4 * k + 3) 0
+      → Placing numbers (set zones k (record { mode = m; cell = c; slots = n; mask = b })) (k + 1)
   unfolding placesOf
-  placing-again {m} {c} {n} h e₁ e₂ e₃ =
-      let e : _≡_ {A = Zone} (record { mode = m; cell = c; slots = n }) (placeIn numbers k) = cc in
+  placing-again {m} {c} {n} {b} h e₁ e₂ e₃ e₄ =
+      let e : _≡_ {A = Zone} (record { mode = m; cell = c; slots = n; mask = b }) (placeIn numbers k) = cc in
       record {
         room = simp length-set (p .room);
         done =

@@ -1,4 +1,4 @@
--- A plan's eight places as a row of 24 numbers, and such a row as a plan.
+-- A plan's eight places as a row of 32 numbers, and such a row as a plan.
 use mathlib.Core.List.{List, [], _∷_}
 use Prim.Native.Nat.{ℕ, _+_, _*_}
 use lib.ListN.{getD}
@@ -7,16 +7,22 @@ use Rattle.plan.specs.declared.Zone.{Zone}
 use Rattle.plan.specs.declared.Plan.{Plan}
 use Rattle.plan.specs.Zone.{each}
 
--- mode, cell and slots of each place
-abbrev pub threeOf : (zone : Zone) → List ℕ
-threeOf zone = zone .mode ∷ zone .cell ∷ zone .slots ∷ []
+-- mode, cell, slots and mask of each place
+abbrev pub fourOf : (zone : Zone) → List ℕ
+fourOf zone = zone .mode ∷ zone .cell ∷ zone .slots ∷ zone .mask ∷ []
 
 abbrev pub numbersOf : (zones : List Zone) → List ℕ
-numbersOf zones = each threeOf zones
+numbersOf zones = each fourOf zones
 
--- the eight places that 24 numbers are
+-- the eight places that 32 numbers are
 abbrev pub placeIn : (numbers : List ℕ) (place : ℕ) → Zone
-placeIn numbers place = record { mode = getD numbers (3 * place) 0; cell = getD numbers (3 * place + 1) 0; slots = getD numbers (3 * place + 2) 0 }
+placeIn numbers place =
+    record {
+      mode = getD numbers (4 * place) 0;
+      cell = getD numbers (4 * place + 1) 0;
+      slots = getD numbers (4 * place + 2) 0;
+      mask = getD numbers (4 * place + 3) 0;
+    }
 
 unfoldable pub placesOf : (numbers : List ℕ) → List Zone
 placesOf numbers = tabulate 8 (placeIn numbers)

@@ -1,4 +1,4 @@
--- The text that the program `zones` prints. Document 01, "Zone plan": one line a zone, "mode cell slots" in base ten, or "refused N". Every line ends with a line feed.
+-- The text that the program `zones` prints. Document 01, "Zone plan": one line a zone, "mode cell slots" in base ten, or "refused N"; document 02, wish 5: the mask last in a line. Every line ends with a line feed.
 use mathlib.Core.List.{List, [], _∷_, _++_}
 use Prim.Native.Nat.{ℕ}
 use lib.Dec.{eqb}
@@ -21,7 +21,7 @@ abbrev pub field : (number mark : ℕ) → List ℕ
 field number mark = decimal number ++ (mark ∷ [])
 
 unfoldable pub lineOf : (zone : Zone) → List ℕ
-lineOf zone = field (zone .mode) space ++ (field (zone .cell) space ++ field (zone .slots) lineFeed)
+lineOf zone = field (zone .mode) space ++ (field (zone .cell) space ++ (field (zone .slots) space ++ field (zone .mask) lineFeed))
 
 abbrev pub linesOf : (zones : List Zone) → List ℕ
 linesOf zones = each lineOf zones

@@ -1,8 +1,7 @@
-// A plan as text: one line a zone, "mode cell slots" in base ten, or the line "refused N".
+// A plan as text: one line a zone, "mode cell slots mask" in base ten, or the line "refused N".
 use plan::Plan;
 use plan::ReadPlan;
 use plan::Zone;
-ghost use mathlib.Core.Path.{_≡_};
 ghost use Prim.Native.Nat.{_+_, _≤_};
 ghost use lib.ListN.{length};
 ghost use Rattle.text.specs.Text.{Put};
@@ -18,19 +17,20 @@ fn put_field(dest: &mut [u8], at: usize, x: usize, mark: u8) -> usize
     text::put_byte(dest, next, mark)
 }
 
-// Puts a zone's line; 63 bytes at most.
+// Puts a zone's line; 84 bytes at most.
 fn put_line(dest: &mut [u8], at: usize, zone: Zone) -> usize
-    requires { ⌜ at + 63 ≤ length (now dest) ⌝ }
-    ensures { λ r. ⌜ (Put (now (dest .entry)) at (lineOf zone) r (now (dest .exit))) × (r ≤ at + 63) ⌝ }
+    requires { ⌜ at + 84 ≤ length (now dest) ⌝ }
+    ensures { λ r. ⌜ (Put (now (dest .entry)) at (lineOf zone) r (now (dest .exit))) × (r ≤ at + 84) ⌝ }
 {
     let cell = put_field(dest, at, zone.mode, b' ');
     let slots = put_field(dest, cell, zone.cell, b' ');
-    put_field(dest, slots, zone.slots, b'\n')
+    let mask = put_field(dest, slots, zone.slots, b' ');
+    put_field(dest, mask, zone.mask, b'\n')
 }
 
 // Puts a line for each zone of the plan.
 fn put_zones(dest: &mut [u8], plan: Plan) -> usize
-    requires { ⌜ 504 ≤ length (now dest) ⌝ }
+    requires { ⌜ 672 ≤ length (now dest) ⌝ }
     ensures { λ r. ⌜ Put (now (dest .entry)) 0 (linesOf (usedZones plan)) r (now (dest .exit)) ⌝ }
 {
     let count = plan.count;
@@ -48,16 +48,16 @@ fn put_zones(dest: &mut [u8], plan: Plan) -> usize
 }
 
 fn put_refusal(dest: &mut [u8], number: u8) -> usize
-    requires { ⌜ 504 ≤ length (now dest) ⌝ }
+    requires { ⌜ 672 ≤ length (now dest) ⌝ }
     ensures { λ r. ⌜ Put (now (dest .entry)) 0 (refusalLine number) r (now (dest .exit)) ⌝ }
 {
     let at = text::put_bytes(dest, 0, b"refused ");
     put_field(dest, at, number as usize, b'\n')
 }
 
-// Puts the text of what reading a plan answers, where eight lines of 63 bytes have room; answers its length.
+// Puts the text of what reading a plan answers, where eight lines of 84 bytes have room; answers its length.
 pub fn lines(answer: ReadPlan, dest: &mut [u8]) -> usize
-    requires { ⌜ 504 ≤ length (now dest) ⌝ }
+    requires { ⌜ 672 ≤ length (now dest) ⌝ }
     ensures { λ r. ⌜ Put (now (dest .entry)) 0 (textOf answer) r (now (dest .exit)) ⌝ }
 {
     if answer.refusal != 0 {

@@ -1,15 +1,16 @@
 // Answers requests to read and to write plans, one a line of standard input, numbers in base ten:
 //
-//     r n byte ..                          reads the n bytes: the refusal, the count, the size, then
-//                                          mode, cell and slots of each of the eight places
-//     w n count size mode cell slots ..    writes a plan of eight places to a destination of n bytes:
-//                                          the refusal, the bytes written, and a buffer of 48 bytes
-//                                          whose start is the destination; every byte was 238 before
+//     r n byte ..                              reads the n bytes: the refusal, the count, the size, then
+//                                              mode, cell, slots and mask of each of the eight places
+//     w n count size mode cell slots mask ..   writes a plan of eight places to a destination of n bytes:
+//                                              the refusal, the bytes written, and a buffer of 48 bytes
+//                                              whose start is the destination; every byte was 238 before
 //
 // Each line is written back with its answer behind a colon. The input and what must come out are
 // made by tests/vectors.py.
 use plan::Plan;
 use plan::ReadPlan;
+use plan::UNUSED;
 use plan::Written;
 use plan::Zone;
 use vector_lines::fields;
@@ -85,17 +86,14 @@ fn answer_write(f: [usize; 64]) {
 
 // The eight places behind the first three numbers of a line.
 fn zones_of(f: [usize; 64]) -> [Zone; 8] {
-    let mut zones = [Zone {
-        mode: 0,
-        cell: 0,
-        slots: 0,
-    }; 8];
+    let mut zones = [UNUSED; 8];
     let mut k = 0;
     while k < 8 {
         zones[k] = Zone {
-            mode: f[3 * k + 3],
-            cell: f[3 * k + 4],
-            slots: f[3 * k + 5],
+            mode: f[4 * k + 3],
+            cell: f[4 * k + 4],
+            slots: f[4 * k + 5],
+            mask: f[4 * k + 6],
         };
         k += 1;
     }
@@ -132,6 +130,7 @@ fn print_zone(zone: Zone) {
     print_number(b' ', zone.mode);
     print_number(b' ', zone.cell);
     print_number(b' ', zone.slots);
+    print_number(b' ', zone.mask);
 }
 
 fn print_written(answer: Written) {

@@ -22,15 +22,15 @@ one-more a b =
     (λ t. rw (eqb-true a 0 t, or-zero-l b))
     (λ f. rw (f, ne-eqb (bitOr a b) 0 (λ z. eqb-false a 0 f (or-none a b z))))
 
-all-three : (a b d : ℕ) → eqb (bitOr (bitOr a b) d) 0 ≡ pick (eqb a 0) (pick (eqb b 0) (eqb d 0) false) false
-all-three a b d = rw (one-more (bitOr a b) d, one-more a b) (nested (eqb a 0) (eqb b 0))
+all-four : (a b c d : ℕ) → eqb (bitOr (bitOr (bitOr a b) c) d) 0 ≡ pick (eqb a 0) (pick (eqb b 0) (pick (eqb c 0) (eqb d 0) false) false) false
+all-four a b c d = rw (one-more (bitOr (bitOr a b) c) d, one-more (bitOr a b) c, one-more a b) (nested (eqb a 0) (eqb b 0))
   where
-    nested : (x y : Bool) → pick (pick x y false) (eqb d 0) false ≡ pick x (pick y (eqb d 0) false) false
-    nested x y = cases x (λ e. rw e) (λ e. rw e)
+    nested : (x y : Bool) → pick (pick (pick x y false) (eqb c 0) false) (eqb d 0) false ≡ pick x (pick y (pick (eqb c 0) (eqb d 0) false) false) false
+    nested x y = cases x (λ e. cases y (λ f. rw (e, f)) (λ f. rw (e, f))) (λ e. rw e)
 
-unused-by : (zone : Zone) → eqb (bitOr (bitOr (zone .mode) (zone .cell)) (zone .slots)) 0 ≡ isUnused zone
+unused-by : (zone : Zone) → eqb (bitOr (bitOr (bitOr (zone .mode) (zone .cell)) (zone .slots)) (zone .mask)) 0 ≡ isUnused zone
 unfolding isUnused
-unused-by zone = all-three (zone .mode) (zone .cell) (zone .slots)
+unused-by zone = all-four (zone .mode) (zone .cell) (zone .slots) (zone .mask)
 
 pub is-unused-spec : {M : Type 1} → statement M
-is-unused-spec = tie.close (tie.spec (λ c. unused-by (c .before .before .args .zone)))
+is-unused-spec = tie.close (tie.spec (λ c. unused-by (c .before .before .before .args .zone)))

@@ -1,4 +1,4 @@
--- `plan::put_plan` meets its contract: while zones are put, those that are done stand behind the count and the size, in 5 bytes each at most.
+-- `plan::put_plan` meets its contract: while zones are put, those that are done stand behind the count and the size, in 6 bytes each at most.
 use mathlib.Core.Path.{_∙_}
 use Prim.Native.Nat.{_+_, _-_, _*_, _≤_}
 use native.Mathlib.Omega.{arith}
@@ -13,7 +13,7 @@ use Rattle.plan.proofs.put_plan.Statement.{statement}
 use Rattle.plan.proofs.put_plan.Tie as tie
 
 abbrev Inv-loop : tie.InvT-loop
-Inv-loop dest₀ used zones size at₀ k₀ dest at k = Putting zoneBytes dest₀ used zones at₀ dest at k × (used ≤ 8) × (at₀ ≤ 3) × (at ≤ at₀ + 5 * k)
+Inv-loop dest₀ used zones size at₀ k₀ dest at k = Putting zoneBytes dest₀ used zones at₀ dest at k × (used ≤ 8) × (at₀ ≤ 3) × (at ≤ at₀ + 6 * k)
 
 abbrev μ-loop : tie.MeasureT-loop
 μ-loop dest₀ used zones size at₀ k₀ dest at k = used - k

@@ -7,7 +7,8 @@ use lib.ListN.{length-drop}
 use lib.Seq.{drop-drop}
 use borrow.Author.Needs.{needs}
 use borrow.Author.Tests.{not-true, not-false, lt-ltb, le-ltb, le-leb, lt-leb}
-use Rattle.plan.specs.Zone.{isUpTo, isCount}
+use Rattle.base.specs.Choice.{isUpTo}
+use Rattle.plan.specs.Zone.{isCount}
 use Rattle.plan.specs.Read.{planOf}
 use Rattle.plan.proofs.Step.{value-within}
 use Rattle.plan.proofs.read.Statement.{statement}

@@ -1,11 +1,10 @@
 -- `plan::write` meets its contract.
-use mathlib.Core.Path.{_≡_, sym, _∙_}
-use Prim.Native.Nat.{_≤_}
+use mathlib.Core.Path.{sym, _∙_}
 use native.Mathlib.Omega.{arith}
 use lib.Seq.{length-take-le}
 use borrow.Author.Needs.{needs}
 use Rattle.plan.proofs.Judge.{fit-of}
-use Rattle.plan.proofs.Bytes.{plan-43, write-no, write-short, write-done}
+use Rattle.plan.proofs.Bytes.{plan-51, write-no, write-short, write-done}
 use Rattle.plan.proofs.write.Statement.{statement}
 use Rattle.plan.proofs.write.Tie as tie
 
@@ -21,7 +20,7 @@ returns-2 c = write-short _ _ (c .before .before .before .before .before .plan-r
 array-share-prefix-bytes : tie.Need-array-share-prefix-bytes
 array-share-prefix-bytes c =
     let fit = fit-of _ (sym (c .before .before .before .before .before .before .plan-refusal .ensures) ∙ c .before .before .before .before .before .if1 .left) in
-    omega (arith, plan-43 _ fit, c .before .before .before .put-plan .ensures .next-is)
+    omega (arith, plan-51 _ fit, c .before .before .before .put-plan .ensures .next-is)
 
 slice-aggregate-put-bytes : tie.Need-slice-aggregate-put-bytes
 slice-aggregate-put-bytes c = sym (length-take-le _ _ (array-share-prefix-bytes (c .before)))

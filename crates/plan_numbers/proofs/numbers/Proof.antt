@@ -26,8 +26,11 @@ cast-numbers-2 c = omega (arith, now-small (c .before .before .before .before .l
 cast-numbers-3 : tie.Need-cast-numbers-3 Inv-loop μ-loop
 cast-numbers-3 c = omega (arith, now-small (c .before .before .before .before .before .loop .inv) .slots-most)
 
+cast-numbers-4 : tie.Need-cast-numbers-4 Inv-loop μ-loop
+cast-numbers-4 c = omega (arith, now-small (c .before .before .before .before .before .before .loop .inv) .mask-most)
+
 loop-again : tie.Need-loop-again Inv-loop μ-loop
-loop-again c = row-again (c .before .before .before .before .before .loop .inv) (c .before .before .before .before .loop-test .taken) _ refl
+loop-again c = row-again (c .before .before .before .before .before .before .loop .inv) (c .before .before .before .before .before .loop-test .taken) _ refl
 
 returns : tie.Need-returns Inv-loop μ-loop
 returns c = row-end (c .before .loop .inv) (c .loop-test .left)
@@ -39,4 +42,5 @@ numbers-spec =
     Inv-loop μ-loop loop-holds (λ c. search needs) (λ c. search needs) cast-numbers (λ c. search needs)
     (λ c. search needs) (λ c. search needs) cast-numbers-2 (λ c. search needs) (λ c. search needs)
     (λ c. search needs) (λ c. search needs) cast-numbers-3 (λ c. search needs) (λ c. search needs)
+    (λ c. search needs) (λ c. search needs) cast-numbers-4 (λ c. search needs) (λ c. search needs)
     (λ c. search needs) (λ c. search needs) (λ c. search needs) (λ c. search needs) loop-again returns)

@@ -9,7 +9,7 @@ use Rattle.plan_text.proofs.put_zones.Statement.{statement}
 use Rattle.plan_text.proofs.put_zones.Tie as tie
 
 abbrev Inv-loop : tie.InvT-loop
-Inv-loop dest₀ count zones at₀ k₀ dest at k = Putting lineOf dest₀ count zones 0 dest at k × (at ≤ 63 * k)
+Inv-loop dest₀ count zones at₀ k₀ dest at k = Putting lineOf dest₀ count zones 0 dest at k × (at ≤ 84 * k)
 
 abbrev μ-loop : tie.MeasureT-loop
 μ-loop dest₀ count zones at₀ k₀ dest at k = 8 - k

@@ -1,14 +1,14 @@
--- `capi::bp_plan_write` meets its contract.
+-- `capi::bp_zone_plan_write` meets its contract.
 use native.Mathlib.Omega.{arith}
 use borrow.Author.Needs.{needs}
 use Rattle.capi.specs.Plan.{writeOut}
 use Rattle.capi.proofs.Plan.{few-bytes, write-out}
-use Rattle.capi.proofs.bp_plan_write.Statement.{statement}
-use Rattle.capi.proofs.bp_plan_write.Tie as tie
+use Rattle.capi.proofs.bp_zone_plan_write.Statement.{statement}
+use Rattle.capi.proofs.bp_zone_plan_write.Tie as tie
 
-pub bp-plan-write-spec : {M : Type 1} → statement M
+pub bp-zone-plan-write-spec : {M : Type 1} → statement M
 unfolding writeOut
-bp-plan-write-spec =
+bp-zone-plan-write-spec =
     tie.close
     (tie.spec
     (λ c κs. search needs)

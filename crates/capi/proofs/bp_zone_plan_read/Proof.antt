@@ -1,13 +1,13 @@
--- `capi::bp_plan_read` meets its contract: what was read is small enough for 32 bits.
+-- `capi::bp_zone_plan_read` meets its contract: what was read is small enough for 32 bits.
 use native.Mathlib.Omega.{arith}
 use borrow.Author.Needs.{needs}
 use Rattle.plan_numbers.proofs.Laws.{read-small}
 use Rattle.capi.proofs.Plan.{read-no, read-yes}
-use Rattle.capi.proofs.bp_plan_read.Statement.{statement}
-use Rattle.capi.proofs.bp_plan_read.Tie as tie
+use Rattle.capi.proofs.bp_zone_plan_read.Statement.{statement}
+use Rattle.capi.proofs.bp_zone_plan_read.Tie as tie
 
-pub bp-plan-read-spec : {M : Type 1} → statement M
-bp-plan-read-spec =
+pub bp-zone-plan-read-spec : {M : Type 1} → statement M
+bp-zone-plan-read-spec =
     tie.close
     (tie.spec
     (λ c κs. search needs)
