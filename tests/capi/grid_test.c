@@ -496,7 +496,7 @@ static uint32_t past(uint32_t limit, unsigned turn)
 /* A good mask lights the last subchannel; not each lights the first one, nor all. */
 static uint32_t good_mask(const struct setup *s, unsigned turn)
 {
-    static const uint32_t masks[] = {FULL_MASK, 32, 42, 61};
+    static const uint32_t masks[] = {FULL_MASK, 32, 42, 61, 33};
     return s->mode == PUSC_DL ? masks[turn % COUNT(masks)] : 0;
 }
 

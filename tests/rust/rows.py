@@ -51,18 +51,18 @@ def wrong_sets(good, wrong):
         yield [wrong[i] if chosen >> i & 1 else good[i] for i in range(len(good))]
 
 
-def setups(dice, mode, size):
+def setups(dice, mode, size, turn):
     """The first four fields, right and wrong. A right mask lights the last subchannel."""
     cells = ref.cells(mode, size)
-    mask = dice.choice([63, 32, 42, 61]) if mode == ref.PUSC_DL else 0
+    mask = [32, 63, 42, 61][turn % 4] if mode == ref.PUSC_DL else 0
     others = [0, 64, mask + 64, mask + 2**16] if mode == ref.PUSC_DL else [1, 63, 64, 2**16]
     return [mode, size, cells - 1, mask], [ref.UNLISTED, 128, cells, dice.choice(others + [2**32 - 1])]
 
 
 def ground_rows(dice, mode, size):
     points, grid = 96 * ref.subchannels(mode, size), ref.grid_floats(mode, size)
-    for _ in range(6):
-        good, wrong = setups(dice, mode, size)
+    for turn in range(6):
+        good, wrong = setups(dice, mode, size, turn)
         for fields in wrong_sets(good + [511, grid], wrong + [512, wrong_length(dice, grid, points)]):
             yield fields + [ref.ground_refusal(*fields)]
 
@@ -70,8 +70,8 @@ def ground_rows(dice, mode, size):
 def lay_rows(dice, mode, size):
     """Wrong subchannels: unlit, and past the last. Wrong lengths of the points: about 96, and the whole slot's."""
     subchannels, grid = ref.subchannels(mode, size), ref.grid_floats(mode, size)
-    for length in dice.sample([0, 94, 95, 97, 98, 96 * subchannels], 3):
-        good, wrong = setups(dice, mode, size)
+    for turn, length in enumerate(dice.sample([0, 94, 95, 97, 98, 96 * subchannels], 3)):
+        good, wrong = setups(dice, mode, size, turn)
         lit = ref.lit_subchannels(mode, size, good[3])
         unlit = dice.choice([s for s in range(subchannels) if s not in lit] or [subchannels])
         right = good + [511, subchannels - 1, 96, grid]
@@ -80,20 +80,21 @@ def lay_rows(dice, mode, size):
 
 
 def empty_rows(dice, mode, size):
-    """Wrong lengths of the points: also one subchannel less, and all where not all are lit."""
+    """Wrong lengths of the points: also one subchannel more or less, and all where not all are lit."""
     every, grid = 96 * ref.subchannels(mode, size), ref.grid_floats(mode, size)
-    for _ in range(3):
-        good, wrong = setups(dice, mode, size)
+    for turn in range(4):
+        good, wrong = setups(dice, mode, size, turn)
         points = ref.lit_points_len(mode, size, good[3])
-        other = wrong_length(dice, points, points - 96 if points == every else every)
+        other = [every if points < every else 0, wrong_length(dice, points, grid), points + 96, points - 96][turn]
         for fields in wrong_sets(good + [511, points, grid], wrong + [512, other, wrong_length(dice, grid, points)]):
             yield fields + [ref.buffers_refusal(*fields)]
 
 
 def unseen_rows(dice, mode, size):
     symbols, grid = 512 * ref.SLOT_LENGTH[mode], ref.grid_floats(mode, size)
-    for carrier in [edge for edge in table.carrier_edges(size) if edge not in ref.carriers(size)]:
-        good, wrong = setups(dice, mode, size)
+    edges = [edge for edge in table.carrier_edges(size) if edge not in ref.carriers(size)]
+    for turn, carrier in enumerate(edges):
+        good, wrong = setups(dice, mode, size, turn)
         right = good + [symbols - 1, dice.choice(ref.carriers(size)), grid]
         length = wrong_length(dice, grid, 96 * ref.subchannels(mode, size))
         for fields in wrong_sets(right, wrong + [symbols, carrier, length]):
