@@ -198,7 +198,9 @@ def main():
     print("plans: seed %d" % seed)
     library, dice = lent.load(), random.Random(seed)
     noise = lent.Noise(dice)
-    corpus, answers = [plan_bytes(*good_plan(dice)) for _ in range(50)], Counter()
+    longest = plan_bytes(1024, [(ref.AMC, 2351, 512, 0)] * ref.PLACES)
+    corpus = [longest] + [plan_bytes(*good_plan(dice)) for _ in range(50)]
+    answers = Counter(try_case(library, dice, noise, data) for data in corpus)
     end = time.monotonic() + SECONDS
     while sum(answers.values()) < cases and time.monotonic() < end:
         data = some_bytes(dice, corpus)

@@ -422,7 +422,7 @@ def lit_subchannels(mode, size, mask):
     return tuple(s for s in every if mode != PUSC_DL or group_of(s)[0] in lit_groups(mask))
 
 
-@lru_cache(maxsize=4096)
+@lru_cache(maxsize=64)
 def lit_carriers(mode, size, cell, mask):
     """The used carriers of the lit groups' clusters, pilots too; where there are no groups all."""
     used = range(used_numbers(mode, size))

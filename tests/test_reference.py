@@ -411,8 +411,9 @@ def lit_by_hand(mode, size, mask):
 def carrier_is_lit(mode, size, cell, mask, carrier):
     """From the carrier to its group: its used number, physical cluster and logical one."""
     low, high = ref.band(mode, size)
-    if mode != PUSC_DL or carrier == 0 or not low <= carrier <= high:
-        return carrier != 0 and low <= carrier <= high
+    is_used = carrier != 0 and low <= carrier <= high
+    if mode != PUSC_DL or not is_used:
+        return is_used
     used = carrier + 840 - (carrier > 0)
     logical = ref.R[(used // 14 + 13 * cell) % 120]
     return any(mask >> group & 1 and logical in GROUP_CLUSTERS[group] for group in range(6))
@@ -423,10 +424,8 @@ def test_every_mask():
     for mask in range(1, 64):
         lit = lit_by_hand(PUSC_DL, 2048, mask)
         assert list(ref.lit_subchannels(PUSC_DL, 2048, mask)) == lit == sorted(lit)
-        assert [ref.rank(PUSC_DL, 2048, mask, s) for s in lit] == list(range(len(lit)))
         assert [ref.rank(PUSC_DL, 2048, mask, s) for s in lit] == [sum(t in lit for t in range(s)) for s in lit]
-        groups = [bit == "1" for bit in reversed("{:06b}".format(mask))]
-        assert len(lit) == sum([12, 8, 12, 8, 12, 8][g] for g in range(6) if groups[g])
+        assert len(lit) == sum(size for bit, size in zip(reversed("{:06b}".format(mask)), [12, 8] * 3) if bit == "1")
         assert ref.lit_points_len(PUSC_DL, 2048, mask) == 96 * len(lit)
         for cell in (0, 1, 17, 31):
             carriers = [c for c in range(-1024, 1024) if carrier_is_lit(PUSC_DL, 2048, cell, mask, c)]
