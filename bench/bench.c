@@ -18,37 +18,46 @@ struct side {
     uint32_t (*place)(uint32_t, uint32_t, uint32_t, uint32_t, uint32_t, uint32_t, uint32_t *, int32_t *);
     uint32_t (*locate)(uint32_t, uint32_t, uint32_t, uint32_t, int32_t, uint32_t *, uint32_t *, uint32_t *,
                        uint32_t *);
-    uint32_t (*slot)(uint32_t, uint32_t, uint32_t, uint32_t, const float *, const float *, size_t, float *, size_t);
-    uint32_t (*ground)(uint32_t, uint32_t, uint32_t, uint32_t, const float *, float *, size_t);
-    uint32_t (*lay)(uint32_t, uint32_t, uint32_t, uint32_t, uint32_t, const float *, size_t, float *, size_t);
-    uint32_t (*empty)(uint32_t, uint32_t, uint32_t, uint32_t, const float *, size_t, float *, size_t);
-    uint32_t (*look)(uint32_t, uint32_t, uint32_t, uint32_t, const float *, size_t, int32_t, uint32_t *, float *,
-                     uint32_t *, uint32_t *, uint32_t *);
+    uint32_t (*slot)(uint32_t, uint32_t, uint32_t, uint32_t, uint32_t, const float *, const float *, size_t, float *,
+                     size_t);
+    uint32_t (*ground)(uint32_t, uint32_t, uint32_t, uint32_t, uint32_t, const float *, float *, size_t);
+    uint32_t (*lay)(uint32_t, uint32_t, uint32_t, uint32_t, uint32_t, uint32_t, const float *, size_t, float *, size_t);
+    uint32_t (*empty)(uint32_t, uint32_t, uint32_t, uint32_t, uint32_t, const float *, size_t, float *, size_t);
+    uint32_t (*look)(uint32_t, uint32_t, uint32_t, uint32_t, uint32_t, const float *, size_t, int32_t, uint32_t *,
+                     float *, uint32_t *, uint32_t *, uint32_t *);
     uint32_t (*ofusc_collisions)(uint32_t, uint32_t, uint32_t, uint32_t, uint32_t, uint8_t *, uint32_t *);
     uint32_t (*amc_collisions)(uint32_t, uint32_t, uint8_t *, uint32_t *);
     uint32_t (*plan_read)(const uint8_t *, size_t, uint32_t *, uint32_t *, uint32_t *);
     uint32_t (*plan_write)(uint32_t, uint32_t, const uint32_t *, uint8_t *, size_t, uint32_t *);
 };
 
-// A whole slot as a caller of the engine fills it: its ground, then a lay for every 96 floats of its points.
-static uint32_t engine_slot(uint32_t mode, uint32_t size, uint32_t cell, uint32_t slot, const float *pilot,
-                            const float *points, size_t points_len, float *grid, size_t grid_len) {
-    uint32_t refusal = bp_ground(mode, size, cell, slot, pilot, grid, grid_len);
-    for (uint32_t s = 0; s < points_len / LAID && !refusal; s++)
-        refusal = bp_lay(mode, size, cell, slot, s, points + LAID * s, LAID, grid, grid_len);
+// A whole slot as a caller of the engine fills it: its ground, then a lay for every 96 floats of its points, which an
+// unlit subchannel leaves to the next.
+static uint32_t engine_slot(uint32_t mode, uint32_t size, uint32_t cell, uint32_t mask, uint32_t slot,
+                            const float *pilot, const float *points, size_t points_len, float *grid,
+                            size_t grid_len) {
+    const float *end = points + points_len;
+    uint32_t refusal = bp_ground(mode, size, cell, mask, slot, pilot, grid, grid_len);
+    for (uint32_t s = 0; s < subchannels(mode, size) && points < end && !refusal; s++) {
+        refusal = bp_lay(mode, size, cell, mask, slot, s, points, LAID, grid, grid_len);
+        if (refusal == BP_REFUSED_SUBCHANNEL)
+            refusal = 0;
+        else
+            points += LAID;
+    }
     return refusal;
 }
 
 static const struct side engine = {
-    bp_place, bp_locate,           engine_slot,       bp_ground,    bp_lay,       bp_empty,
-    bp_look,  bp_ofusc_collisions, bp_amc_collisions, bp_plan_read, bp_plan_write};
+    bp_place, bp_locate,           engine_slot,       bp_ground,         bp_lay,            bp_empty,
+    bp_look,  bp_ofusc_collisions, bp_amc_collisions, bp_zone_plan_read, bp_zone_plan_write};
 static const struct side plain = {
     plain_place, plain_locate,           plain_fill,           plain_ground,    plain_lay,       plain_empty,
     plain_look,  plain_ofusc_collisions, plain_amc_collisions, plain_plan_read, plain_plan_write};
 
 // All that a call may write.
 struct outcome {
-    uint32_t symbol, kind, slot, subchannel, index, count, size, written, zones[24];
+    uint32_t symbol, kind, slot, subchannel, index, count, size, written, zones[32];
     int32_t carrier;
     uint8_t hits[48], bytes[PLAN_ROOM];
     float point[2], points[MOST_POINTS], grid[MOST_GRID];
@@ -65,13 +74,14 @@ static float pilot[2] = {-1.0f, -2.0f}, source_points[MOST_POINTS], source_grid[
 
 typedef uint32_t run_fn(const struct side *side, struct outcome *o, uint32_t from, uint32_t to);
 
-// The points are as many as the mode and size have, in the strays too. So question 8, which plain_fill puts once and
-// the engine with each lay, is answered yes; the others but 5, which every lay of the slot passes, are the ground's.
+// The points are as many as the mask lights, in the strays too. So question 8, which plain_fill puts once and the
+// engine with each lay, is answered yes; the others but 5, which every lay of a lit subchannel passes, are the ground's.
 static uint32_t run_slot(const struct side *side, struct outcome *o, uint32_t from, uint32_t to) {
     uint32_t sum = 0;
     for (const struct request *q = requests + from; q < requests + to; q++) {
-        size_t points_len = LAID * (size_t)subchannels(q->mode, q->size);
-        sum += side->slot(q->mode, q->size, q->cell, q->slot, pilot, source_points, points_len, o->grid, q->grid_len);
+        size_t points_len = LAID * (size_t)lit_subchannels(q->mode, q->size, q->mask);
+        sum += side->slot(q->mode, q->size, q->cell, q->mask, q->slot, pilot, source_points, points_len, o->grid,
+                          q->grid_len);
     }
     return sum;
 }
@@ -79,22 +89,23 @@ static uint32_t run_slot(const struct side *side, struct outcome *o, uint32_t fr
 static uint32_t run_ground(const struct side *side, struct outcome *o, uint32_t from, uint32_t to) {
     uint32_t sum = 0;
     for (const struct request *q = requests + from; q < requests + to; q++)
-        sum += side->ground(q->mode, q->size, q->cell, q->slot, pilot, o->grid, q->grid_len);
+        sum += side->ground(q->mode, q->size, q->cell, q->mask, q->slot, pilot, o->grid, q->grid_len);
     return sum;
 }
 
 static uint32_t run_lay(const struct side *side, struct outcome *o, uint32_t from, uint32_t to) {
     uint32_t sum = 0;
     for (const struct request *q = requests + from; q < requests + to; q++)
-        sum += side->lay(q->mode, q->size, q->cell, q->slot, q->subchannel, source_points, q->lay_len, o->grid,
-                         q->grid_len);
+        sum += side->lay(q->mode, q->size, q->cell, q->mask, q->slot, q->subchannel, source_points, q->lay_len,
+                         o->grid, q->grid_len);
     return sum;
 }
 
 static uint32_t run_empty(const struct side *side, struct outcome *o, uint32_t from, uint32_t to) {
     uint32_t sum = 0;
     for (const struct request *q = requests + from; q < requests + to; q++)
-        sum += side->empty(q->mode, q->size, q->cell, q->slot, source_grid, q->grid_len, o->points, q->points_len);
+        sum += side->empty(q->mode, q->size, q->cell, q->mask, q->slot, source_grid, q->grid_len, o->points,
+                           q->points_len);
     return sum;
 }
 
@@ -116,8 +127,8 @@ static uint32_t run_locate(const struct side *side, struct outcome *o, uint32_t 
 static uint32_t run_look(const struct side *side, struct outcome *o, uint32_t from, uint32_t to) {
     uint32_t sum = 0;
     for (const struct request *q = requests + from; q < requests + to; q++)
-        sum += side->look(q->mode, q->size, q->cell, q->symbol, source_grid, q->grid_len, q->carrier, &o->kind,
-                          o->point, &o->slot, &o->subchannel, &o->index);
+        sum += side->look(q->mode, q->size, q->cell, q->mask, q->symbol, source_grid, q->grid_len, q->carrier,
+                          &o->kind, o->point, &o->slot, &o->subchannel, &o->index);
     return sum;
 }
 
@@ -226,58 +237,73 @@ static void do_row(struct row r) {
 
 // --- the table -------------------------------------------------------------------------------------------------------
 
-// Each mode at its sizes.
+enum extent { ENDS, ALL_SIZES, SOME_LIT }; // of a call's rows: each has what the one before it has
+
+// Each mode at its sizes, all lit; and PUSC downlink with half of its groups.
 static const struct setup {
     const char *name;
-    uint32_t mode, size;
-    bool between; // not its mode's smallest size nor its largest
+    uint32_t mode, size, mask;
+    enum extent from; // sizes between a mode's smallest and its largest are from ALL_SIZES on
 } setups[] = {
-    {"PUSC downlink, 2048", PUSC_DL, 2048, false}, {"PUSC uplink, 2048", PUSC_UL, 2048, false},
-    {"optional FUSC, 256", OFUSC, 256, false},     {"optional FUSC, 512", OFUSC, 512, true},
-    {"optional FUSC, 1024", OFUSC, 1024, true},    {"optional FUSC, 2048", OFUSC, 2048, false},
-    {"AMC 6x1, 256", AMC, 256, false},             {"AMC 6x1, 512", AMC, 512, true},
-    {"AMC 6x1, 1024", AMC, 1024, true},            {"AMC 6x1, 2048", AMC, 2048, false},
-    {"AMC 2x3, 256", AMC_2X3, 256, false},         {"AMC 2x3, 512", AMC_2X3, 512, true},
-    {"AMC 2x3, 1024", AMC_2X3, 1024, true},        {"AMC 2x3, 2048", AMC_2X3, 2048, false},
-    {"AMC 3x2, 256", AMC_3X2, 256, false},         {"AMC 3x2, 512", AMC_3X2, 512, true},
-    {"AMC 3x2, 1024", AMC_3X2, 1024, true},        {"AMC 3x2, 2048", AMC_3X2, 2048, false},
-    {"AMC 1x6, 256", AMC_1X6, 256, false},         {"AMC 1x6, 512", AMC_1X6, 512, true},
-    {"AMC 1x6, 1024", AMC_1X6, 1024, true},        {"AMC 1x6, 2048", AMC_1X6, 2048, false},
+    {"PUSC downlink, 2048", PUSC_DL, 2048, FULL_MASK, ENDS},
+    {"groups 0, 2, 4 lit", PUSC_DL, 2048, 0x15, SOME_LIT},
+    {"groups 0, 1, 3 lit", PUSC_DL, 2048, 0x0B, SOME_LIT},
+    {"PUSC uplink, 2048", PUSC_UL, 2048, 0, ENDS},
+    {"optional FUSC, 256", OFUSC, 256, 0, ENDS},
+    {"optional FUSC, 512", OFUSC, 512, 0, ALL_SIZES},
+    {"optional FUSC, 1024", OFUSC, 1024, 0, ALL_SIZES},
+    {"optional FUSC, 2048", OFUSC, 2048, 0, ENDS},
+    {"AMC 6x1, 256", AMC, 256, 0, ENDS},
+    {"AMC 6x1, 512", AMC, 512, 0, ALL_SIZES},
+    {"AMC 6x1, 1024", AMC, 1024, 0, ALL_SIZES},
+    {"AMC 6x1, 2048", AMC, 2048, 0, ENDS},
+    {"AMC 2x3, 256", AMC_2X3, 256, 0, ENDS},
+    {"AMC 2x3, 512", AMC_2X3, 512, 0, ALL_SIZES},
+    {"AMC 2x3, 1024", AMC_2X3, 1024, 0, ALL_SIZES},
+    {"AMC 2x3, 2048", AMC_2X3, 2048, 0, ENDS},
+    {"AMC 3x2, 256", AMC_3X2, 256, 0, ENDS},
+    {"AMC 3x2, 512", AMC_3X2, 512, 0, ALL_SIZES},
+    {"AMC 3x2, 1024", AMC_3X2, 1024, 0, ALL_SIZES},
+    {"AMC 3x2, 2048", AMC_3X2, 2048, 0, ENDS},
+    {"AMC 1x6, 256", AMC_1X6, 256, 0, ENDS},
+    {"AMC 1x6, 512", AMC_1X6, 512, 0, ALL_SIZES},
+    {"AMC 1x6, 1024", AMC_1X6, 1024, 0, ALL_SIZES},
+    {"AMC 1x6, 2048", AMC_1X6, 2048, 0, ENDS},
 };
 enum { SETUPS = sizeof setups / sizeof setups[0] };
 
-enum sizes { ENDS, ALL_SIZES }; // whether the setups between are left out
-enum unit { CALL, POINT };      // what the times are for: a point is one of the slot's data points
+enum unit { CALL, POINT }; // what the times are for: a point is one of the slot's data points, lit or not
 
-static void map_rows(const char *call, run_fn *run, enum sizes sizes, enum unit unit) {
+static void map_rows(const char *call, run_fn *run, enum extent extent, enum unit unit) {
     for (const struct setup *s = setups; s < setups + SETUPS; s++) {
-        if (s->between && sizes == ENDS) continue;
+        if (s->from > extent) continue;
         uint32_t points = INDICES * subchannels(s->mode, s->size);
-        draw_requests(s->mode, s->size);
+        draw_requests(s->mode, s->size, s->mask);
         do_row((struct row){call, s->name, run, REQUESTS, unit == POINT ? points : 1});
     }
 }
 
 static void collision_rows(void) {
-    draw_requests(OFUSC, 256);
+    draw_requests(OFUSC, 256, 0);
     do_row((struct row){"optional FUSC collisions", "256", run_ofusc_collisions, REQUESTS, 1});
-    draw_requests(OFUSC, 2048);
+    draw_requests(OFUSC, 2048, 0);
     do_row((struct row){"optional FUSC collisions", "2048", run_ofusc_collisions, REQUESTS, 1});
-    draw_requests(AMC, 2048);
+    draw_requests(AMC, 2048, 0);
     do_row((struct row){"AMC collisions", "any size and shape", run_amc_collisions, REQUESTS, 1});
 }
 
 static void plan_rows(const char *call, run_fn *run) {
     draw_plans(SHORTEST_PLAN);
-    do_row((struct row){call, "1 zone, 6 bytes", run, PLANS, 1});
+    do_row((struct row){call, "1 zone, 7 bytes", run, PLANS, 1});
     draw_plans(LONGEST_PLAN);
-    do_row((struct row){call, "8 zones, 43 bytes", run, PLANS, 1});
+    do_row((struct row){call, "8 zones, 51 bytes", run, PLANS, 1});
 }
 
 static void heading(void) {
     printf("ns a data point of the slot for slot, ground and empty, ns a call for the others; the loop around a call\n"
            "is in its time. slot: the engine's ground and a lay for each subchannel, questions and all, against plain\n"
-           "C that fills the slot in one call. lay: one subchannel, 48 points.\n"
+           "C that fills the slot in one call. lay: one subchannel, 48 points. Groups lit: of PUSC downlink, a data\n"
+           "point of the slot still being any of its 2880, so that these rows can be held to the one with all lit.\n"
            "Warm buffers: %d requests (%d plans), drawn at random from what the call accepts, again and again.\n"
            "Best of %d rounds of %d to %d ms of processor time, both sides in turn.\n"
            "Each row first compared both sides on its requests and on %d more, many of which are refused.\n"
@@ -298,9 +324,9 @@ int main(int argc, char **argv) {
     for (int i = 0; i < MOST_GRID; i++) source_grid[i] = (float)i + 0.25f;
     if (timing) heading();
     map_rows("slot", run_slot, ALL_SIZES, POINT);
-    map_rows("ground", run_ground, ALL_SIZES, POINT);
+    map_rows("ground", run_ground, SOME_LIT, POINT);
     map_rows("lay", run_lay, ALL_SIZES, CALL);
-    map_rows("empty", run_empty, ALL_SIZES, POINT);
+    map_rows("empty", run_empty, SOME_LIT, POINT);
     map_rows("place", run_place, ENDS, CALL);
     map_rows("locate", run_locate, ENDS, CALL);
     map_rows("look", run_look, ENDS, CALL);

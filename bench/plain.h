@@ -3,8 +3,8 @@
 //
 // Each place is worked out by itself from mode, size, cell, slot, subchannel and index, also in lay and empty. place
 // goes by the inverse table of R, locate and look by those of Q, P and both B; plain_tables works them out once.
-// plain_fill is no call of the engine: it writes at once what the ground and a lay of each subchannel write, and puts
-// questions 1 2 3 4 8 9, 8 about the points of the whole slot.
+// plain_fill is no call of the engine: it writes at once what the ground and a lay of each lit subchannel write, and
+// puts questions 1 2 3 17 4 8 9, 8 about the points of the whole slot.
 #ifndef PLAIN_H
 #define PLAIN_H
 
@@ -18,22 +18,22 @@ uint32_t plain_place(uint32_t mode, uint32_t size, uint32_t cell, uint32_t slot,
                      uint32_t *symbol, int32_t *carrier);
 uint32_t plain_locate(uint32_t mode, uint32_t size, uint32_t cell, uint32_t symbol, int32_t carrier, uint32_t *kind,
                       uint32_t *slot, uint32_t *subchannel, uint32_t *index);
-uint32_t plain_ground(uint32_t mode, uint32_t size, uint32_t cell, uint32_t slot, const float pilot[2], float *grid,
-                      size_t grid_len);
-uint32_t plain_lay(uint32_t mode, uint32_t size, uint32_t cell, uint32_t slot, uint32_t subchannel, const float *points,
-                   size_t points_len, float *grid, size_t grid_len);
-uint32_t plain_fill(uint32_t mode, uint32_t size, uint32_t cell, uint32_t slot, const float pilot[2],
+uint32_t plain_ground(uint32_t mode, uint32_t size, uint32_t cell, uint32_t mask, uint32_t slot, const float pilot[2],
+                      float *grid, size_t grid_len);
+uint32_t plain_lay(uint32_t mode, uint32_t size, uint32_t cell, uint32_t mask, uint32_t slot, uint32_t subchannel,
+                   const float *points, size_t points_len, float *grid, size_t grid_len);
+uint32_t plain_fill(uint32_t mode, uint32_t size, uint32_t cell, uint32_t mask, uint32_t slot, const float pilot[2],
                     const float *points, size_t points_len, float *grid, size_t grid_len);
-uint32_t plain_empty(uint32_t mode, uint32_t size, uint32_t cell, uint32_t slot, const float *grid, size_t grid_len,
-                     float *points, size_t points_len);
-uint32_t plain_look(uint32_t mode, uint32_t size, uint32_t cell, uint32_t symbol, const float *grid, size_t grid_len,
-                    int32_t carrier, uint32_t *kind, float point[2], uint32_t *slot, uint32_t *subchannel,
-                    uint32_t *index);
+uint32_t plain_empty(uint32_t mode, uint32_t size, uint32_t cell, uint32_t mask, uint32_t slot, const float *grid,
+                     size_t grid_len, float *points, size_t points_len);
+uint32_t plain_look(uint32_t mode, uint32_t size, uint32_t cell, uint32_t mask, uint32_t symbol, const float *grid,
+                    size_t grid_len, int32_t carrier, uint32_t *kind, float point[2], uint32_t *slot,
+                    uint32_t *subchannel, uint32_t *index);
 uint32_t plain_ofusc_collisions(uint32_t size, uint32_t cell_a, uint32_t subchannel_a, uint32_t cell_b,
                                 uint32_t subchannel_b, uint8_t hits[48], uint32_t *count);
 uint32_t plain_amc_collisions(uint32_t cell_a, uint32_t cell_b, uint8_t hits[48], uint32_t *count);
-uint32_t plain_plan_read(const uint8_t *bytes, size_t len, uint32_t *count, uint32_t *size, uint32_t zones[24]);
-uint32_t plain_plan_write(uint32_t count, uint32_t size, const uint32_t zones[24], uint8_t *dest, size_t dest_len,
+uint32_t plain_plan_read(const uint8_t *bytes, size_t len, uint32_t *count, uint32_t *size, uint32_t zones[32]);
+uint32_t plain_plan_write(uint32_t count, uint32_t size, const uint32_t zones[32], uint8_t *dest, size_t dest_len,
                           uint32_t *written);
 
 #endif

@@ -23,7 +23,8 @@ static const uint8_t p_table[48] = {1,  22, 46, 52, 42, 41, 26, 50, 5,  33, 62, 
                                     4,  11, 23, 61, 21, 24, 13, 60, 6,  55, 31, 25, 35, 36, 51, 20,
                                     2,  44, 15, 34, 14, 12, 45, 30, 3,  66, 54, 16, 56, 53, 64, 10};
 // The six major groups of PUSC downlink.
-static const uint8_t first_subchannel[6] = {0, 12, 20, 32, 40, 52}, first_cluster[6] = {0, 24, 40, 64, 80, 104};
+static const uint8_t first_subchannel[GROUPS] = {0, 12, 20, 32, 40, 52};
+static const uint8_t first_cluster[GROUPS] = {0, 24, 40, 64, 80, 104};
 
 static uint8_t r_inverse[120], q_inverse[70], b12_inverse[12], b8_inverse[8];
 static uint8_t p_inverse[49]; // by the number in base 7
@@ -66,6 +67,30 @@ static inline uint32_t column_of(uint32_t mode, uint32_t size, uint32_t used) {
     return left_guards(mode, size) + used + (used >= used_numbers(mode, size) / 2);
 }
 
+// The major group of a subchannel, and of a logical cluster.
+static inline uint32_t group_of_subchannel(uint32_t s) {
+    uint32_t g = 0;
+    while (g < GROUPS - 1 && s >= first_subchannel[g + 1]) g++;
+    return g;
+}
+
+static inline uint32_t group_of_cluster(uint32_t logical) {
+    uint32_t g = 0;
+    while (g < GROUPS - 1 && logical >= first_cluster[g + 1]) g++;
+    return g;
+}
+
+static inline uint32_t logical_cluster(uint32_t cell, uint32_t used) { return r_table[(used / 14 + 13 * cell) % 120]; }
+
+// Whether a mask lights a subchannel, and a used number.
+static inline bool is_lit(uint32_t mode, uint32_t mask, uint32_t s) {
+    return mode != PUSC_DL || mask >> group_of_subchannel(s) & 1;
+}
+
+static inline bool is_lit_used(uint32_t mode, uint32_t cell, uint32_t mask, uint32_t used) {
+    return mode != PUSC_DL || mask >> group_of_cluster(logical_cluster(cell, used)) & 1;
+}
+
 static inline bool is_pilot(uint32_t mode, uint32_t symbol, uint32_t used) {
     uint32_t place = used % 14, corner = used % 4;
     if (mode == PUSC_DL) return symbol % 2 == 0 ? place == 4 || place == 8 : place == 0 || place == 12;
@@ -76,9 +101,7 @@ static inline bool is_pilot(uint32_t mode, uint32_t symbol, uint32_t used) {
 // --- placing ---------------------------------------------------------------------------------------------------------
 
 static inline uint32_t used_pusc_dl(uint32_t cell, uint32_t s, uint32_t m, uint32_t *row) {
-    uint32_t g = 0;
-    while (g < 5 && s >= first_subchannel[g + 1]) g++;
-    uint32_t count = g % 2 ? 8 : 12, k = m % 24;
+    uint32_t g = group_of_subchannel(s), count = g % 2 ? 8 : 12, k = m % 24;
     s -= first_subchannel[g];
     uint32_t n = (k + 13 * s) % 24;
     const uint8_t *b = count == 12 ? b12_table : b8_table;
@@ -178,12 +201,11 @@ uint32_t plain_place(uint32_t mode, uint32_t size, uint32_t cell, uint32_t slot,
 // Each of these gives the subchannel, and the index by pointer, of a used or data number that holds a point.
 
 static inline uint32_t address_pusc_dl(uint32_t cell, uint32_t row, uint32_t used, uint32_t *index) {
-    uint32_t place = used % 14, logical = r_table[(used / 14 + 13 * cell) % 120], g = 0;
+    uint32_t place = used % 14, logical = logical_cluster(cell, used), g = group_of_cluster(logical);
     if (row == 0)
         place -= (place > 4) + (place > 8);
     else
         place -= 1 + (place > 12);
-    while (g < 5 && logical >= first_cluster[g + 1]) g++;
     uint32_t count = g % 2 ? 8 : 12, data = 12 * (logical - first_cluster[g]) + place;
     uint32_t n = data / count, x = (data % count + 48 - cell) % count;
     uint32_t s = ((count == 12 ? b12_inverse[x] : b8_inverse[x]) + 24 - n) % count;
@@ -262,22 +284,28 @@ uint32_t plain_locate(uint32_t mode, uint32_t size, uint32_t cell, uint32_t symb
 
 static size_t grid_floats(uint32_t mode, uint32_t size) { return 2 * (size_t)size * symbols(mode); }
 
-static uint32_t slot_refusal(uint32_t mode, uint32_t size, uint32_t cell, uint32_t slot, size_t points_len,
-                             size_t grid_len) {
+// Questions 1, 2, 3, 17 and 4 of a call that has a slot.
+static uint32_t slot_refusal(uint32_t mode, uint32_t size, uint32_t cell, uint32_t mask, uint32_t slot) {
     uint32_t refusal = setup_refusal(mode, size, cell);
     if (refusal) return refusal;
-    if (slot >= SLOTS) return 4;
-    if (points_len != 2 * INDICES * (size_t)subchannels(mode, size)) return 8;
+    if (!is_mask(mode, mask)) return 17;
+    return slot < SLOTS ? 0 : 4;
+}
+
+// Questions 8 and 9, about the points of the whole slot.
+static uint32_t buffers_refusal(uint32_t mode, uint32_t size, uint32_t mask, size_t points_len, size_t grid_len) {
+    if (points_len != 2 * INDICES * (size_t)lit_subchannels(mode, size, mask)) return 8;
     return grid_len == grid_floats(mode, size) ? 0 : 9;
 }
 
 static void copy_point(float *to, const float *from) { memcpy(to, from, 2 * sizeof(float)); }
 
-static inline void put_ground(uint32_t mode, uint32_t size, uint32_t slot, const float pilot[2], float *grid) {
+static inline void put_ground(uint32_t mode, uint32_t size, uint32_t cell, uint32_t mask, uint32_t slot,
+                              const float pilot[2], float *grid) {
     memset(grid, 0, sizeof(float) * grid_floats(mode, size));
     for (uint32_t row = 0; row < symbols(mode); row++)
         for (uint32_t used = 0; used < used_numbers(mode, size); used++)
-            if (is_pilot(mode, slot * symbols(mode) + row, used))
+            if (is_pilot(mode, slot * symbols(mode) + row, used) && is_lit_used(mode, cell, mask, used))
                 copy_point(grid + 2 * (row * size + column_of(mode, size, used)), pilot);
 }
 
@@ -289,59 +317,68 @@ static inline void put_points(uint32_t mode, uint32_t size, uint32_t cell, uint3
     }
 }
 
-uint32_t plain_ground(uint32_t mode, uint32_t size, uint32_t cell, uint32_t slot, const float pilot[2], float *grid,
-                      size_t grid_len) {
-    uint32_t refusal = setup_refusal(mode, size, cell);
+uint32_t plain_ground(uint32_t mode, uint32_t size, uint32_t cell, uint32_t mask, uint32_t slot, const float pilot[2],
+                      float *grid, size_t grid_len) {
+    uint32_t refusal = slot_refusal(mode, size, cell, mask, slot);
     if (refusal) return refusal;
-    if (slot >= SLOTS) return 4;
     if (grid_len != grid_floats(mode, size)) return 9;
-    put_ground(mode, size, slot, pilot, grid);
+    put_ground(mode, size, cell, mask, slot, pilot, grid);
     return 0;
 }
 
-uint32_t plain_lay(uint32_t mode, uint32_t size, uint32_t cell, uint32_t slot, uint32_t subchannel, const float *points,
-                   size_t points_len, float *grid, size_t grid_len) {
-    uint32_t refusal = setup_refusal(mode, size, cell);
+uint32_t plain_lay(uint32_t mode, uint32_t size, uint32_t cell, uint32_t mask, uint32_t slot, uint32_t subchannel,
+                   const float *points, size_t points_len, float *grid, size_t grid_len) {
+    uint32_t refusal = slot_refusal(mode, size, cell, mask, slot);
     if (refusal) return refusal;
-    if (slot >= SLOTS) return 4;
-    if (subchannel >= subchannels(mode, size)) return 5;
+    if (subchannel >= subchannels(mode, size) || !is_lit(mode, mask, subchannel)) return 5;
     if (points_len != 2 * INDICES) return 8;
     if (grid_len != grid_floats(mode, size)) return 9;
     put_points(mode, size, cell, slot, subchannel, points, grid);
     return 0;
 }
 
-uint32_t plain_fill(uint32_t mode, uint32_t size, uint32_t cell, uint32_t slot, const float pilot[2],
+uint32_t plain_fill(uint32_t mode, uint32_t size, uint32_t cell, uint32_t mask, uint32_t slot, const float pilot[2],
                     const float *points, size_t points_len, float *grid, size_t grid_len) {
-    uint32_t refusal = slot_refusal(mode, size, cell, slot, points_len, grid_len);
+    uint32_t refusal = slot_refusal(mode, size, cell, mask, slot);
+    if (!refusal) refusal = buffers_refusal(mode, size, mask, points_len, grid_len);
     if (refusal) return refusal;
-    put_ground(mode, size, slot, pilot, grid);
-    for (uint32_t s = 0; s < subchannels(mode, size); s++)
-        put_points(mode, size, cell, slot, s, points + 2 * INDICES * s, grid);
+    put_ground(mode, size, cell, mask, slot, pilot, grid);
+    for (uint32_t s = 0; s < subchannels(mode, size); s++) {
+        if (!is_lit(mode, mask, s)) continue;
+        put_points(mode, size, cell, slot, s, points, grid);
+        points += 2 * INDICES;
+    }
     return 0;
 }
 
-uint32_t plain_empty(uint32_t mode, uint32_t size, uint32_t cell, uint32_t slot, const float *grid, size_t grid_len,
-                     float *points, size_t points_len) {
-    uint32_t row, refusal = slot_refusal(mode, size, cell, slot, points_len, grid_len);
+uint32_t plain_empty(uint32_t mode, uint32_t size, uint32_t cell, uint32_t mask, uint32_t slot, const float *grid,
+                     size_t grid_len, float *points, size_t points_len) {
+    uint32_t row, refusal = slot_refusal(mode, size, cell, mask, slot);
+    if (!refusal) refusal = buffers_refusal(mode, size, mask, points_len, grid_len);
     if (refusal) return refusal;
-    for (uint32_t s = 0; s < subchannels(mode, size); s++)
+    for (uint32_t s = 0; s < subchannels(mode, size); s++) {
+        if (!is_lit(mode, mask, s)) continue;
         for (uint32_t m = 0; m < INDICES; m++) {
             uint32_t column = place(mode, size, cell, slot, s, m, &row);
-            copy_point(points + 2 * (INDICES * s + m), grid + 2 * (row * size + column));
+            copy_point(points + 2 * m, grid + 2 * (row * size + column));
         }
+        points += 2 * INDICES;
+    }
     return 0;
 }
 
-uint32_t plain_look(uint32_t mode, uint32_t size, uint32_t cell, uint32_t symbol, const float *grid, size_t grid_len,
-                    int32_t carrier, uint32_t *kind, float point[2], uint32_t *slot, uint32_t *subchannel,
-                    uint32_t *index) {
-    uint32_t what, at_slot, at_subchannel, at_index;
-    uint32_t refusal = plain_locate(mode, size, cell, symbol, carrier, &what, &at_slot, &at_subchannel, &at_index);
+uint32_t plain_look(uint32_t mode, uint32_t size, uint32_t cell, uint32_t mask, uint32_t symbol, const float *grid,
+                    size_t grid_len, int32_t carrier, uint32_t *kind, float point[2], uint32_t *slot,
+                    uint32_t *subchannel, uint32_t *index) {
+    uint32_t what, at_slot, at_subchannel, at_index, refusal = setup_refusal(mode, size, cell);
+    if (refusal) return refusal;
+    if (!is_mask(mode, mask)) return 17;
+    refusal = plain_locate(mode, size, cell, symbol, carrier, &what, &at_slot, &at_subchannel, &at_index);
     if (refusal) return refusal;
     if (grid_len != grid_floats(mode, size)) return 9;
-    *kind = what == DC ? GUARD : what;
-    uint32_t column = (uint32_t)(dc_column(size) + carrier);
+    uint32_t column = (uint32_t)(dc_column(size) + carrier), used = column - left_guards(mode, size) - (carrier > 0);
+    if (what == DC || (what != GUARD && !is_lit_used(mode, cell, mask, used))) what = GUARD;
+    *kind = what;
     if (what == PILOT || what == DATA) copy_point(point, grid + 2 * (symbol % symbols(mode) * size + column));
     if (what == DATA) *slot = at_slot, *subchannel = at_subchannel, *index = at_index;
     return 0;

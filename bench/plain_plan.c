@@ -4,17 +4,19 @@
 
 #include <string.h>
 
-enum { PLACES = 8, MOST_BYTES = 43 };
+enum { PLACES = 8, VALUES = 4, MOST_BYTES = 51 }; // VALUES: of a zone
 
-// Questions 1, 2, 3, 13 and 14 of zone k of a plan; zones is as in bellpulsar.h.
+// Questions 1, 2, 3, 13, 17 and 14 of zone k of a plan; zones is as in bellpulsar.h.
 static uint32_t zone_refusal(uint32_t size, const uint32_t *zones, uint32_t k) {
-    uint32_t mode = zones[3 * k], cell = zones[3 * k + 1], slots = zones[3 * k + 2];
+    const uint32_t *zone = zones + VALUES * k;
+    uint32_t mode = zone[0], cell = zone[1], slots = zone[2], mask = zone[3];
     if (mode == PUSC_UL) return 1;
     uint32_t refusal = setup_refusal(mode, size, cell);
     if (refusal) return refusal;
     if (slots < 1 || slots > SLOTS) return 13;
+    if (!is_mask(mode, mask)) return 17;
     if (k == 0) return size == 2048 && mode != PUSC_DL ? 14 : 0;
-    return zones[3 * (k - 1)] >= AMC && mode < AMC ? 14 : 0;
+    return zones[VALUES * (k - 1)] >= AMC && mode < AMC ? 14 : 0;
 }
 
 struct bytes {
@@ -37,16 +39,16 @@ static uint32_t read_value(struct bytes *b, uint32_t *value) {
 }
 
 static uint32_t read_zone(struct bytes *b, uint32_t size, uint32_t *zones, uint32_t k) {
-    for (uint32_t i = 3 * k; i < 3 * k + 3; i++) {
+    for (uint32_t i = VALUES * k; i < VALUES * (k + 1); i++) {
         uint32_t refusal = read_value(b, &zones[i]);
         if (refusal) return refusal;
     }
     return zone_refusal(size, zones, k);
 }
 
-uint32_t plain_plan_read(const uint8_t *bytes, size_t len, uint32_t *count, uint32_t *size, uint32_t zones[24]) {
+uint32_t plain_plan_read(const uint8_t *bytes, size_t len, uint32_t *count, uint32_t *size, uint32_t zones[32]) {
     struct bytes b = {bytes, bytes + len};
-    uint32_t read_count, read_size, read[3 * PLACES], refusal;
+    uint32_t read_count, read_size, read[VALUES * PLACES], refusal;
     if ((refusal = read_value(&b, &read_count))) return refusal;
     if (read_count < 1 || read_count > PLACES) return 12;
     if ((refusal = read_value(&b, &read_size))) return refusal;
@@ -56,14 +58,14 @@ uint32_t plain_plan_read(const uint8_t *bytes, size_t len, uint32_t *count, uint
     if (b.at != b.end) return 15;
     *count = read_count;
     *size = read_size;
-    for (uint32_t i = 0; i < 3 * PLACES; i++) zones[i] = i < 3 * read_count ? read[i] : 0;
+    for (uint32_t i = 0; i < VALUES * PLACES; i++) zones[i] = i < VALUES * read_count ? read[i] : 0;
     return 0;
 }
 
 // The questions of writing but the last.
-static uint32_t plan_refusal(uint32_t count, uint32_t size, const uint32_t zones[24]) {
+static uint32_t plan_refusal(uint32_t count, uint32_t size, const uint32_t zones[32]) {
     if (count < 1 || count > PLACES) return 12;
-    for (uint32_t i = 3 * count; i < 3 * PLACES; i++)
+    for (uint32_t i = VALUES * count; i < VALUES * PLACES; i++)
         if (zones[i]) return 12;
     if (!is_bin_size(size)) return 2;
     for (uint32_t k = 0; k < count; k++) {
@@ -79,14 +81,14 @@ static uint8_t *write_value(uint8_t *at, uint32_t value) {
     return at;
 }
 
-uint32_t plain_plan_write(uint32_t count, uint32_t size, const uint32_t zones[24], uint8_t *dest, size_t dest_len,
+uint32_t plain_plan_write(uint32_t count, uint32_t size, const uint32_t zones[32], uint8_t *dest, size_t dest_len,
                           uint32_t *written) {
     uint8_t bytes[MOST_BYTES], *end = bytes;
     uint32_t refusal = plan_refusal(count, size, zones);
     if (refusal) return refusal;
     end = write_value(end, count);
     end = write_value(end, size);
-    for (uint32_t i = 0; i < 3 * count; i++) end = write_value(end, zones[i]);
+    for (uint32_t i = 0; i < VALUES * count; i++) end = write_value(end, zones[i]);
     size_t len = (size_t)(end - bytes);
     if (len > dest_len) return 16;
     memcpy(dest, bytes, len);

@@ -1,4 +1,4 @@
-// The ranges of documents 01 and 02 and their first three questions, for the map and for plans.
+// The ranges of documents 01 and 02, their first three questions and that of the mask, for the map and for plans.
 #ifndef PLAIN_RANGES_H
 #define PLAIN_RANGES_H
 
@@ -7,6 +7,7 @@
 
 enum { PUSC_DL, PUSC_UL, OFUSC, AMC, AMC_2X3, AMC_3X2, AMC_1X6, MODES };
 enum { SLOTS = 512, INDICES = 48, AMC_CELLS = 2352 };
+enum { GROUPS = 6, FULL_MASK = 63 }; // of PUSC downlink; the other modes have mask 0
 
 static inline bool is_bin_size(uint32_t size) { return size == 256 || size == 512 || size == 1024 || size == 2048; }
 
@@ -23,6 +24,20 @@ static inline uint32_t symbols(uint32_t mode) {
 // A subchannel of AMC is six bins in all, so that there are N for each symbol.
 static inline uint32_t subchannels(uint32_t mode, uint32_t size) {
     return mode == PUSC_DL ? 60 : mode == PUSC_UL ? 70 : size / 64 * symbols(mode);
+}
+
+// How many subchannels a mask lights: 12 in each even major group, 8 in each odd one.
+static inline uint32_t lit_subchannels(uint32_t mode, uint32_t size, uint32_t mask) {
+    uint32_t count = 0;
+    if (mode != PUSC_DL) return subchannels(mode, size);
+    for (uint32_t g = 0; g < GROUPS; g++)
+        if (mask >> g & 1) count += g % 2 ? 8 : 12;
+    return count;
+}
+
+// Question 17.
+static inline bool is_mask(uint32_t mode, uint32_t mask) {
+    return mode == PUSC_DL ? mask >= 1 && mask <= FULL_MASK : mask == 0;
 }
 
 // The first of questions 1, 2 and 3 that is answered no, or 0.

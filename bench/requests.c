@@ -22,12 +22,14 @@ static void disturb(uint32_t *field, uint32_t limit, uint32_t odds) {
     if (below(odds) == 0) *field = (below(2) ? limit : other) + below(3) - 1;
 }
 
-static struct request accepted_request(uint32_t mode, uint32_t size) {
+// Every subchannel is drawn: where not all are lit, a lay may be refused.
+static struct request accepted_request(uint32_t mode, uint32_t size, uint32_t mask) {
     uint32_t cell_count = cells(mode, size), subchannel_count = subchannels(mode, size);
     return (struct request){
         .mode = mode,
         .size = size,
         .cell = below(cell_count),
+        .mask = mask,
         .slot = below(SLOTS),
         .subchannel = below(subchannel_count),
         .index = below(INDICES),
@@ -36,19 +38,23 @@ static struct request accepted_request(uint32_t mode, uint32_t size) {
         .cell_b = below(cell_count),
         .subchannel_b = below(subchannel_count),
         .lay_len = 2 * INDICES,
-        .points_len = 2 * INDICES * subchannel_count,
+        .points_len = 2 * INDICES * lit_subchannels(mode, size, mask),
         .grid_len = 2 * size * symbols(mode),
     };
 }
 
+// PUSC downlink has any mask half of the time, with the points that it lights.
 static void disturb_request(struct request *q) {
     uint32_t cell_count = cells(q->mode, q->size), subchannel_count = subchannels(q->mode, q->size);
+    if (q->mode == PUSC_DL && below(2)) q->mask = below(FULL_MASK + 2);
+    q->points_len = 2 * INDICES * lit_subchannels(q->mode, q->size, q->mask);
     const struct {
         uint32_t *field, limit;
     } fields[] = {
         {&q->mode, MODES},
         {&q->size, q->size},
         {&q->cell, cell_count},
+        {&q->mask, FULL_MASK + 1},
         {&q->slot, SLOTS},
         {&q->subchannel, subchannel_count},
         {&q->index, INDICES},
@@ -64,28 +70,31 @@ static void disturb_request(struct request *q) {
     if (below(2)) q->carrier = ~q->carrier; // the range is its own mirror image, and so are the numbers past it
 }
 
-void draw_requests(uint32_t mode, uint32_t size) {
+void draw_requests(uint32_t mode, uint32_t size, uint32_t mask) {
     state = 64 * size + mode;
-    for (uint32_t i = 0; i < REQUESTS + STRAYS; i++) requests[i] = accepted_request(mode, size);
+    for (uint32_t i = 0; i < REQUESTS + STRAYS; i++) requests[i] = accepted_request(mode, size, mask);
     for (uint32_t i = REQUESTS; i < REQUESTS + STRAYS; i++) disturb_request(&requests[i]);
 }
 
+// A zone with any mask that its mode has.
 static void set_zone(struct plan *p, uint32_t k, uint32_t mode, uint32_t cell, uint32_t slots) {
-    p->zones[3 * k] = mode;
-    p->zones[3 * k + 1] = cell;
-    p->zones[3 * k + 2] = slots;
+    uint32_t *zone = p->zones + 4 * k;
+    zone[0] = mode;
+    zone[1] = cell;
+    zone[2] = slots;
+    zone[3] = mode == PUSC_DL ? 1 + below(FULL_MASK) : 0;
 }
 
 static uint32_t any_amc(void) { return AMC + below(MODES - AMC); }
 
-// One zone, each value but the size in one byte: 6 bytes.
+// One zone, each value but the size in one byte: 7 bytes.
 static void shortest_plan(struct plan *p) {
     p->count = 1;
     p->size = 256;
     set_zone(p, 0, OFUSC, below(cells(OFUSC, p->size)), 1 + below(127));
 }
 
-// Eight zones, optional FUSC before AMC of any shape, each cell and number of slots in two bytes: 43 bytes.
+// Eight zones, optional FUSC before AMC of any shape, each cell and number of slots in two bytes: 51 bytes.
 static void longest_plan(struct plan *p) {
     uint32_t amc_from = below(9);
     p->count = 8;
@@ -116,16 +125,17 @@ static void put_value(struct plan *p, uint32_t value) {
 static void encode(struct plan *p) {
     put_value(p, p->count);
     put_value(p, p->size);
-    for (uint32_t i = 0; i < 3 * p->count; i++) put_value(p, p->zones[i]);
+    for (uint32_t i = 0; i < 4 * p->count; i++) put_value(p, p->zones[i]);
     p->dest_len = p->len;
 }
 
 static void disturb_plan(struct plan *p) {
     for (uint32_t k = 0; k < 8; k++) {
-        uint32_t *zone = p->zones + 3 * k;
+        uint32_t *zone = p->zones + 4 * k;
         disturb(&zone[1], cells(zone[0], p->size), 60);
         disturb(&zone[0], MODES - 1, 60);
         disturb(&zone[2], SLOTS + 1, 60);
+        disturb(&zone[3], FULL_MASK + 1, 60);
     }
     disturb(&p->count, 8, 12);
     disturb(&p->size, p->size, 12);

@@ -6,18 +6,19 @@
 
 // Each array starts with requests that are accepted; these are timed. The strays after them are compared alone: some of
 // their fields are changed to limits of document 01 and numbers next to them, so that many are refused.
-enum { REQUESTS = 512, PLANS = 128, STRAYS = 512, PLAN_ROOM = 48 };
+enum { REQUESTS = 512, PLANS = 128, STRAYS = 512, PLAN_ROOM = 56 };
 
 // All fields that a call of the map may have; the second cell and subchannel are those of the collision calls, lay_len
 // is the points' length in lay.
 struct request {
-    uint32_t mode, size, cell, slot, subchannel, index, symbol, cell_b, subchannel_b, lay_len, points_len, grid_len;
+    uint32_t mode, size, cell, mask, slot, subchannel, index, symbol, cell_b, subchannel_b;
+    uint32_t lay_len, points_len, grid_len;
     int32_t carrier;
 };
 
 // A plan as its fields and as its bytes, and the room for writing it.
 struct plan {
-    uint32_t count, size, zones[24], dest_len, len;
+    uint32_t count, size, zones[32], dest_len, len;
     uint8_t bytes[PLAN_ROOM];
 };
 
@@ -26,7 +27,7 @@ enum plan_kind { SHORTEST_PLAN, LONGEST_PLAN };
 extern struct request requests[REQUESTS + STRAYS];
 extern struct plan plans[PLANS + STRAYS];
 
-void draw_requests(uint32_t mode, uint32_t size);
+void draw_requests(uint32_t mode, uint32_t size, uint32_t mask);
 void draw_plans(enum plan_kind kind);
 
 #endif

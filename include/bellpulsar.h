@@ -1,6 +1,6 @@
 /* Bellpulsar: the subcarrier map of IEEE 802.16e OFDMA, proved.
  *
- * Link with libbellpulsar.a or the shared libbellpulsar.so.3; nothing else is needed but the C library. The engine keeps no
+ * Link with libbellpulsar.a or the shared libbellpulsar.so.4; nothing else is needed but the C library. The engine keeps no
  * state, so calls may run side by side on different buffers.
  *
  * ANSWERS. Every call but bp_points_len and bp_grid_len returns 0, or the number of the first question of document 01 that is
@@ -67,14 +67,14 @@ extern "C" {
 #endif
 
 /* The version of this interface. It goes up where a call changes for its callers, and is in the shared library's soname,
- * libbellpulsar.so.3. Version 3 fills a slot in two moves, bp_ground and bp_lay, and no longer has bp_fill. Since
+ * libbellpulsar.so.4. Version 3 fills a slot in two moves, bp_ground and bp_lay, and no longer has bp_fill. Since
  * version 2 carriers are signed and count from DC; before that they were 0..size-1. A caller can hold itself to it:
  *
  *     #if BP_VERSION != 3
  *     #error "this program is written for version 3 of bellpulsar.h"
  *     #endif
  */
-#define BP_VERSION 3
+#define BP_VERSION 4
 
 /* Numbers by name: modes, kinds and refusals, which are uint32_t wherever a call takes or gives one. */
 enum bp_mode {
@@ -113,7 +113,8 @@ enum bp_refusal {
     BP_REFUSED_ZONE_SLOTS = 13, /* a zone's slots are not 1 to 512 */
     BP_REFUSED_ORDER = 14,      /* at size 2048 the first zone is not mode 0; another mode follows AMC (modes 3 to 6) */
     BP_REFUSED_LEFT_OVER = 15,  /* bytes are left over behind a plan */
-    BP_REFUSED_DEST_LEN = 16    /* the destination is too short for the plan */
+    BP_REFUSED_DEST_LEN = 16,   /* the destination is too short for the plan */
+    BP_REFUSED_MASK = 17        /* the mask is not 1 to 63 in mode 0, or not 0 in another mode */
 };
 
 /* Where point `index` of a subchannel lies in a slot.
@@ -133,6 +134,10 @@ uint32_t bp_locate(uint32_t mode, uint32_t size, uint32_t cell, uint32_t symbol,
 
 /* The floats of a slot's points, 96 for each subchannel; 0 for a mode and size that the map does not have. */
 size_t bp_points_len(uint32_t mode, uint32_t size);
+
+/* The floats of a slot's points where only some groups are lit, 96 for each lit subchannel: what bp_empty writes. 0 for a mode,
+ * size and mask that questions 1, 2 and 17 do not let pass. */
+size_t bp_lit_points_len(uint32_t mode, uint32_t size, uint32_t mask);
 
 /* The floats of a slot's grid, 2 for each carrier of each symbol of a slot; 0 for a mode and size that the map does not
  * have. */
@@ -154,7 +159,7 @@ size_t bp_grid_len(uint32_t mode, uint32_t size);
  * pilot: the point for every pilot; it is read on a refusal too. grid: grid_len floats, whatever they hold.
  * Written where it is accepted: the whole grid, the pilot point on pilots, +0.0 on every other carrier, data too.
  * Refusals, in this order: 1 mode, 2 size, 3 cell, 4 slot, 9 grid_len. */
-uint32_t bp_ground(uint32_t mode, uint32_t size, uint32_t cell, uint32_t slot, const float pilot[2],
+uint32_t bp_ground(uint32_t mode, uint32_t size, uint32_t cell, uint32_t mask, uint32_t slot, const float pilot[2],
                    float *grid, size_t grid_len);
 
 /* Lays one subchannel's points on a slot's grid.
@@ -163,7 +168,7 @@ uint32_t bp_ground(uint32_t mode, uint32_t size, uint32_t cell, uint32_t slot, c
  * Written where it is accepted: the 96 floats of the carriers where bp_place puts the subchannel's points. Every other
  * float of the grid keeps its contents.
  * Refusals, in this order: 1 mode, 2 size, 3 cell, 4 slot, 5 subchannel, 8 points_len, 9 grid_len. */
-uint32_t bp_lay(uint32_t mode, uint32_t size, uint32_t cell, uint32_t slot, uint32_t subchannel,
+uint32_t bp_lay(uint32_t mode, uint32_t size, uint32_t cell, uint32_t mask, uint32_t slot, uint32_t subchannel,
                 const float *points, size_t points_len, float *grid, size_t grid_len);
 
 /* Takes all points of a slot off its grid: the reverse of laying every subchannel.
@@ -171,7 +176,7 @@ uint32_t bp_lay(uint32_t mode, uint32_t size, uint32_t cell, uint32_t slot, uint
  * grid: grid_len floats; only data carriers are read, pilots, guards and DC may hold anything.
  * Written where it is accepted: all points_len floats of points.
  * Refusals, in this order: 1 mode, 2 size, 3 cell, 4 slot, 8 points_len, 9 grid_len. */
-uint32_t bp_empty(uint32_t mode, uint32_t size, uint32_t cell, uint32_t slot,
+uint32_t bp_empty(uint32_t mode, uint32_t size, uint32_t cell, uint32_t mask, uint32_t slot,
                   const float *grid, size_t grid_len, float *points, size_t points_len);
 
 /* The point on a carrier in a symbol of the zone, and whose it is.
@@ -181,8 +186,8 @@ uint32_t bp_empty(uint32_t mode, uint32_t size, uint32_t cell, uint32_t slot,
  * point[0] and point[1] where that is 2 or 3; *slot, *subchannel and *index where it is 3. What is not written keeps its
  * contents.
  * Refusals, in this order: 1 mode, 2 size, 3 cell, 4 symbol, 7 carrier, 9 grid_len. */
-uint32_t bp_look(uint32_t mode, uint32_t size, uint32_t cell, uint32_t symbol, const float *grid, size_t grid_len,
-                 int32_t carrier, uint32_t *kind, float point[2],
+uint32_t bp_look(uint32_t mode, uint32_t size, uint32_t cell, uint32_t mask, uint32_t symbol,
+                 const float *grid, size_t grid_len, int32_t carrier, uint32_t *kind, float point[2],
                  uint32_t *slot, uint32_t *subchannel, uint32_t *index);
 
 /* Optional FUSC: in which groups subchannel_a of cell_a and subchannel_b of cell_b are on one carrier.
@@ -215,16 +220,16 @@ uint32_t bp_amc_collisions(uint32_t cell_a, uint32_t cell_b, uint8_t hits[48], u
  * the places past the count all zero.
  * Refusals, in this order: 10 and 11 at each value as it is read; 12 directly after the count; 2 directly after the size;
  * after each zone's three values 1 mode, 2 size for that mode, 3 cell, 13 slots, 14 order; at the end 15. */
-uint32_t bp_plan_read(const uint8_t *bytes, size_t len, uint32_t *count, uint32_t *size, uint32_t zones[24]);
+uint32_t bp_zone_plan_read(const uint8_t *bytes, size_t len, uint32_t *count, uint32_t *size, uint32_t zones[32]);
 
-/* Writes a zone plan as its bytes: the reverse of bp_plan_read.
+/* Writes a zone plan as its bytes: the reverse of bp_zone_plan_read.
  *
- * count, size and zones are as bp_plan_read gives them; places past the count must be all zero.
+ * count, size and zones are as bp_zone_plan_read gives them; places past the count must be all zero.
  * Written where it is accepted: the plan's bytes, at most 43, at the start of dest, and *written, how many they are; the
  * bytes of dest behind them keep their contents.
  * Refusals, in this order: 12 count and the places past it; 2 size; for each zone in turn 1 mode, 2 size for that mode,
  * 3 cell, 13 slots, 14 order; at the end 16 dest_len. */
-uint32_t bp_plan_write(uint32_t count, uint32_t size, const uint32_t zones[24],
+uint32_t bp_zone_plan_write(uint32_t count, uint32_t size, const uint32_t zones[32],
                        uint8_t *dest, size_t dest_len, uint32_t *written);
 
 #ifdef __cplusplus

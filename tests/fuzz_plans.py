@@ -1,4 +1,4 @@
-"""Fuzzes bp_plan_read: random bytes and changed plans, each held to the reference; what is accepted is written again.
+"""Fuzzes bp_zone_plan_read: random bytes and changed plans, each held to the reference; what is accepted is written again.
 
     python3 tests/fuzz_plans.py [SEED [CASES]]
 
@@ -21,10 +21,10 @@ CASES = 200000
 SECONDS = 60
 CORPUS = 500
 LONGEST = 300
-ANSWERS = [0, 1, 2, 3, 10, 11, 12, 13, 14, 15]
+ANSWERS = [0, 1, 2, 3, 10, 11, 12, 13, 14, 15, 17]
 
-READ = Arena(4, 4, 96, LONGEST)  # count, size, zones, bytes
-WRITE = Arena(96, 4, LONGEST)  # zones, written, destination
+READ = Arena(4, 4, 128, LONGEST)  # count, size, zones, bytes
+WRITE = Arena(128, 4, LONGEST)  # zones, written, destination
 
 
 # --- bytes ------------------------------------------------------------------------------------
@@ -110,7 +110,7 @@ def shorter_value(dice, data):
 def other_value(dice, data):
     """One value replaced by another in its shortest form, at or past the limit of some field."""
     runs = values(data)
-    limits = [16, 32, 64, 127, 128, 256, 512, 513, 1024, 2048, 2351, 2352, 16383, 16384, 2**21 - 1]
+    limits = [16, 32, 63, 64, 127, 128, 256, 512, 513, 1024, 2048, 2351, 2352, 16383, 16384, 2**21 - 1]
     runs[dice.randrange(len(runs))] = ref.write_value(dice.choice([*range(10), *limits, dice.randrange(2**21)]))
     return joined(runs)
 
@@ -123,9 +123,9 @@ def swap_values(dice, data):
 
 
 def shuffle_zones(dice, data):
-    """The zones, each of three values, in another order."""
+    """The zones, each of four values, in another order."""
     runs = values(data)
-    head, zones = runs[:2], [runs[i : i + 3] for i in range(2, len(runs), 3)]
+    head, zones = runs[:2], [runs[i : i + 4] for i in range(2, len(runs), 4)]
     dice.shuffle(zones)
     return joined(head + [run for zone in zones for run in zone])
 
@@ -160,7 +160,7 @@ def read(library, contents, data, answer):
     number, count, size, zones = answer
     arguments = [READ.address(3), len(data)] + list(map(READ.address, range(3)))
     written = [] if number else [(0, words([count])), (1, words([size])), (2, words(joined(zones)))]
-    return READ.difference(contents, library.bp_plan_read, arguments, [(3, bytes(data))], number, written)
+    return READ.difference(contents, library.bp_zone_plan_read, arguments, [(3, bytes(data))], number, written)
 
 
 def write(library, contents, data, answer, room):
@@ -170,7 +170,7 @@ def write(library, contents, data, answer, room):
     fits = room >= len(data)
     written = [(1, words([len(data)])), (2, bytes(data))] if fits else []
     arguments, given = [count, size, places, dest, room, out], [(0, words(joined(zones)))]
-    return WRITE.difference(contents, library.bp_plan_write, arguments, given, 0 if fits else 16, written)
+    return WRITE.difference(contents, library.bp_zone_plan_write, arguments, given, 0 if fits else 16, written)
 
 
 def try_case(library, dice, noise, data):
@@ -198,7 +198,9 @@ def main():
     print("plans: seed %d" % seed)
     library, dice = lent.load(), random.Random(seed)
     noise = lent.Noise(dice)
-    corpus, answers = [plan_bytes(*good_plan(dice)) for _ in range(50)], Counter()
+    longest = plan_bytes(1024, [(ref.AMC, 2351, 512, 0)] * ref.PLACES)
+    corpus = [longest] + [plan_bytes(*good_plan(dice)) for _ in range(50)]
+    answers = Counter(try_case(library, dice, noise, data) for data in corpus)
     end = time.monotonic() + SECONDS
     while sum(answers.values()) < cases and time.monotonic() < end:
         data = some_bytes(dice, corpus)

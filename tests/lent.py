@@ -21,15 +21,16 @@ SIGNATURES = {
     "bp_place": "ffffffpp",
     "bp_locate": "ffffcpppp",
     "bp_points_len": "ff",
+    "bp_lit_points_len": "fff",
     "bp_grid_len": "ff",
-    "bp_ground": "ffffppn",
-    "bp_lay": "fffffpnpn",
-    "bp_empty": "ffffpnpn",
-    "bp_look": "ffffpncppppp",
+    "bp_ground": "fffffppn",
+    "bp_lay": "ffffffpnpn",
+    "bp_empty": "fffffpnpn",
+    "bp_look": "fffffpncppppp",
     "bp_ofusc_collisions": "fffffpp",
     "bp_amc_collisions": "ffpp",
-    "bp_plan_read": "pnppp",
-    "bp_plan_write": "ffppnp",
+    "bp_zone_plan_read": "pnppp",
+    "bp_zone_plan_write": "ffppnp",
 }
 
 

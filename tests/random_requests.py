@@ -3,9 +3,10 @@
     python3 tests/random_requests.py [SEED]
 
 Ten thousand requests a call. Every answer, every byte that is written and every byte that is not is compared (lent.py).
-A thousand times a slot is filled in two moves: its ground, then lays of all its subchannels in any order with repeats.
-Fails where one differs, and also where a refusal, a kind of carrier, a mode and size that a call has (with carriers on
-both sides of DC, within the range and past it), or a mode after another that a plan may have, never occurred.
+A thousand times a slot is filled in two moves: its ground, then lays of all its subchannels, unlit ones too, in any order
+with repeats. Fails where one differs, and also where a refusal, a kind of carrier, lit or not, a mode, size and mask that a
+call has (with carriers on both sides of DC, within the range and past it), a mask refused in each mode, or a mode after
+another that a plan may have, never occurred.
 """
 
 import random
@@ -20,10 +21,11 @@ import reference as ref
 from lent import Arena, signed_word, words
 
 SEED = 802
-REQUESTS = 10000
-ROUND = 40  # requests of each call over one mode, size, cell and slot
+ROUND = 40  # requests of each call over one mode, size, cell, mask and slot
 SLOT_ROUND = 4  # slots filled in two moves, over the same
 SETUPS = [(mode, size) for mode in ref.MODES for size in ref.sizes(mode)]
+LIT = [(*setup, mask) for setup in SETUPS for mask in ref.masks(setup[0])]  # mode, size and mask
+TURNS = [lit for lit in LIT for _ in range(1 if lit[0] == ref.PUSC_DL else 9)]
 ORDERS = [(a, b) for a in ref.PLAN_MODES for b in ref.PLAN_MODES if a not in ref.SHAPES or b in ref.SHAPES]
 KINDS = {ref.GUARD: 0, ref.DC: 1, ref.PILOT: 2, ref.DATA: 3}
 LARGEST = 2**32 - 1
@@ -53,6 +55,12 @@ def other_size(dice, good, _):
     return dice.choice(sizes + [dice.getrandbits(32)])
 
 
+def other_mask(dice, good, _):
+    """A mask that the mode does not have, or at times one that it has: the limits, one cut to a good one, or any."""
+    near = [0, 0, 1, 62, 63, 64, 64, 65, 127, 128, LARGEST, LARGEST - 1, 2**32 - 64, dice.randrange(64)]
+    return dice.choice(near + [good + 2**6, good + 2**8, good + 2**16, good + 2**31, dice.getrandbits(32)])
+
+
 def spoiled(dice, good, limits, others={}):
     """The fields as they are, or (half of the time) with some of them changed, most often one."""
     fields = list(good)
@@ -65,6 +73,11 @@ def spoiled(dice, good, limits, others={}):
 def setup_limits(mode, size):
     """The first number past each of mode, size and cell; the size's is not used."""
     return [len(ref.MODES), 0, ref.cells(mode, size)]
+
+
+def lit_limits(mode, size):
+    """The same with the mask behind it, whose limit is not used."""
+    return setup_limits(mode, size) + [0]
 
 
 def some_carrier(dice, mode, size):
@@ -106,6 +119,17 @@ def pointer(dice, address, length):
 # A request is a call's arguments, what the arena is given before, the refusal, what is written to the arena, and the
 # cases that are met. `refusals` and `cases` of a call are those that must have occurred in the end.
 
+# Cases of a call that has a mask: mode, size and mask accepted, and a mode and size whose mask was refused.
+MASKS = LIT + [(*setup, "refused") for setup in SETUPS]
+
+
+def masks_met(fields, number):
+    """What MASKS has of a request's first fields, mode, size, cell and mask."""
+    if number == 0:
+        return [(*fields[:2], fields[3])]
+    return [(*fields[:2], "refused")] if number == 17 else []
+
+
 # Cases of a call that has a carrier: mode, size, the refusal and the carrier's side of DC.
 CARRIERS = [(*setup, *case) for setup in SETUPS for case in ((0, -1), (0, 0), (0, 1), (7, -1), (7, 1))]
 
@@ -114,7 +138,7 @@ class Place:
     name, arena = "bp_place", Arena(4, 4)
     refusals, cases = [1, 2, 3, 4, 5, 6], [(*setup, side) for setup in SETUPS for side in (-1, 1)]
 
-    def request(self, dice, noise, mode, size, cell, slot):
+    def request(self, dice, noise, mode, size, cell, mask, slot):
         limits = setup_limits(mode, size) + [ref.SLOTS, ref.subchannels(mode, size), ref.POINTS]
         good = [mode, size] + [within(dice, limit) for limit in limits[2:]]
         fields = spoiled(dice, good, limits, {1: other_size})
@@ -124,20 +148,21 @@ class Place:
         return fields + list(map(self.arena.address, (0, 1))), [], number, written, met
 
 
-def symbol_fields(dice, mode, size, cell, slot):
-    """The fields of locate and look, the carrier last."""
+def place_in(dice, mode, size, slot):
+    """A symbol of the slot and a carrier of it, and the limits of both."""
     length = ref.SLOT_LENGTH[mode]
-    limits = setup_limits(mode, size) + [ref.SLOTS * length, size]
-    good = [mode, size, cell, slot * length + dice.randrange(length), some_carrier(dice, mode, size)]
-    return spoiled(dice, good, limits, {1: other_size, 4: other_carrier})
+    place = [slot * length + dice.randrange(length), some_carrier(dice, mode, size)]
+    return place, [ref.SLOTS * length, size]
 
 
 class Locate:
     name, arena = "bp_locate", Arena(4, 4, 4, 4)
     refusals, cases = [1, 2, 3, 4, 7], CARRIERS + [ref.GUARD, ref.DC, ref.PILOT, ref.DATA]
 
-    def request(self, dice, noise, mode, size, cell, slot):
-        fields = symbol_fields(dice, mode, size, cell, slot)
+    def request(self, dice, noise, mode, size, cell, mask, slot):
+        place, limits = place_in(dice, mode, size, slot)
+        others = {1: other_size, 4: other_carrier}
+        fields = spoiled(dice, [mode, size, cell] + place, setup_limits(mode, size) + limits, others)
         number, what = ref.locate(*fields)
         written = [] if number else [(i, words([x])) for i, x in enumerate((KINDS[what[0]],) + what[1:])]
         met = [(*fields[:2], number, side(fields[4]))] + ([] if number else [what[0]])
@@ -150,9 +175,20 @@ class PointsLen:
     name, arena, length = "bp_points_len", Arena(), staticmethod(ref.points_len)
     refusals, cases = sorted({ref.points_len(*setup) for setup in SETUPS}), []
 
-    def request(self, dice, noise, mode, size, cell, slot):
+    def request(self, dice, noise, mode, size, cell, mask, slot):
         fields = spoiled(dice, [mode, size], setup_limits(mode, size), {1: other_size})
         return fields, [], self.length(*fields), [], []
+
+
+class LitPointsLen:
+    """As PointsLen, by the mask too."""
+
+    name, arena = "bp_lit_points_len", Arena()
+    refusals, cases = sorted({ref.lit_points_len(*lit) for lit in LIT}), LIT
+
+    def request(self, dice, noise, mode, size, cell, mask, slot):
+        fields = spoiled(dice, [mode, size, mask], [len(ref.MODES), 0, 0], {1: other_size, 2: other_mask})
+        return fields, [], ref.lit_points_len(*fields), [], [tuple(fields)]
 
 
 class GridLen(PointsLen):
@@ -161,72 +197,80 @@ class GridLen(PointsLen):
 
 
 @lru_cache(maxsize=64)
-def ground_sources(mode, size, cell, slot):
+def ground_sources(mode, size, cell, mask, slot):
     """For each float of the ground, which of (0, the pilot's two) it is: the reference lays it with these numbers."""
-    return itemgetter(*ref.ground(mode, size, cell, slot, [1, 2], [9] * ref.grid_floats(mode, size))[1])
+    return itemgetter(*ref.ground(mode, size, cell, mask, slot, [1, 2], [9] * ref.grid_floats(mode, size))[1])
 
 
 @lru_cache(maxsize=64)
-def fill_sources(mode, size, cell, slot):
+def fill_sources(mode, size, cell, mask, slot):
     """For each float of the filled grid, which of (0, the pilot's two, the points') it is: the reference fills a grid
     with these numbers."""
-    points = list(range(3, 3 + LAID * ref.subchannels(mode, size)))
-    return itemgetter(*ref.fill(mode, size, cell, slot, [1, 2], points, [0] * ref.grid_floats(mode, size))[1])
+    points = list(range(3, 3 + ref.lit_points_len(mode, size, mask)))
+    return itemgetter(*ref.fill(mode, size, cell, mask, slot, [1, 2], points, [0] * ref.grid_floats(mode, size))[1])
 
 
 @lru_cache(maxsize=64)
-def empty_sources(mode, size, cell, slot):
+def empty_sources(mode, size, cell, mask, slot):
     """For each float of the points, which one of the grid it is."""
-    points = [0] * (96 * ref.subchannels(mode, size))
-    return itemgetter(*ref.empty(mode, size, cell, slot, list(range(ref.grid_floats(mode, size))), points)[1])
+    points = [0] * ref.lit_points_len(mode, size, mask)
+    return itemgetter(*ref.empty(mode, size, cell, mask, slot, list(range(ref.grid_floats(mode, size))), points)[1])
 
 
-def slot_fields(dice, mode, size, cell, slot):
-    return spoiled(dice, [mode, size, cell, slot], setup_limits(mode, size) + [ref.SLOTS], {1: other_size})
+def slot_fields(dice, mode, size, cell, mask, slot):
+    others = {1: other_size, 3: other_mask}
+    return spoiled(dice, [mode, size, cell, mask, slot], lit_limits(mode, size) + [ref.SLOTS], others)
 
 
 class Ground:
     name, arena = "bp_ground", Arena(8, 4 * GRID_ROOM)
-    refusals, cases = [1, 2, 3, 4, 9], SETUPS
+    refusals, cases = [1, 2, 3, 17, 4, 9], MASKS
 
-    def request(self, dice, noise, mode, size, cell, slot):
-        fields = slot_fields(dice, mode, size, cell, slot)
+    def request(self, dice, noise, mode, size, cell, mask, slot):
+        fields = slot_fields(dice, mode, size, cell, mask, slot)
         grid_len = some_length(dice, ref.grid_floats(mode, size), LAID * ref.subchannels(mode, size), GRID_ROOM, True)
         number = ref.ground_refusal(*fields, grid_len)
         pilot, grid = map(self.arena.address, range(2))
         arguments = fields + [pilot, pointer(dice, grid, grid_len), grid_len]
         if number:
-            return arguments, [], number, [], []
+            return arguments, [], number, [], masks_met(fields, number)
         floats = array("I", noise.run(dice, 8))
         after = ground_sources(*fields)(array("I", [0]) + floats)
-        return arguments, [(0, floats.tobytes())], 0, [(1, array("I", after).tobytes())], [tuple(fields[:2])]
+        written = [(1, array("I", after).tobytes())]
+        return arguments, [(0, floats.tobytes())], 0, written, masks_met(fields, 0)
 
 
 class Lay:
     """The points lie before the grid or behind it, so that either's length can be one past 32 bits."""
 
     name, arena = "bp_lay", Arena(4 * MOST_POINTS, 4 * GRID_ROOM, 4 * MOST_POINTS)
-    refusals, cases = [1, 2, 3, 4, 5, 8, 9], SETUPS
+    refusals, cases = [1, 2, 3, 17, 4, 5, 8, 9], MASKS + ["unlit"]
 
     def lengths(self, dice, mode, size, points_last):
         points, grid = LAID * ref.subchannels(mode, size), ref.grid_floats(mode, size)
         points_len = some_length(dice, LAID, points, MOST_POINTS, points_last)
         return points_len, some_length(dice, grid, points, GRID_ROOM, not points_last)
 
-    def request(self, dice, noise, mode, size, cell, slot):
-        limits = setup_limits(mode, size) + [ref.SLOTS, ref.subchannels(mode, size)]
-        fields = spoiled(dice, [mode, size, cell, slot, within(dice, limits[4])], limits, {1: other_size})
+    def fields(self, dice, mode, size, cell, mask, slot):
+        """The subchannel is any, or a lit one."""
+        limits = lit_limits(mode, size) + [ref.SLOTS, ref.subchannels(mode, size)]
+        subchannel = dice.choice([within(dice, limits[5]), dice.choice(ref.lit_subchannels(mode, size, mask))])
+        return spoiled(dice, [mode, size, cell, mask, slot, subchannel], limits, {1: other_size, 3: other_mask})
+
+    def request(self, dice, noise, mode, size, cell, mask, slot):
+        fields = self.fields(dice, mode, size, cell, mask, slot)
         piece = dice.choice([0, 2])
         points_len, grid_len = self.lengths(dice, mode, size, piece == 2)
         number = ref.lay_refusal(*fields, points_len, grid_len)
         points, grid = self.arena.address(piece), self.arena.address(1)
         arguments = fields + [pointer(dice, points, points_len), points_len, pointer(dice, grid, grid_len), grid_len]
         if number:
-            return arguments, [], number, [], []
+            unlit = number == 5 and fields[5] < ref.subchannels(*fields[:2])
+            return arguments, [], number, [], masks_met(fields, number) + ["unlit"] * unlit
         laid, before = array("I", noise.run(dice, 4 * LAID)), array("I", noise.run(dice, 4 * grid_len))
         after = array("I", ref.lay(*fields, laid, before)[1])
         given = [(piece, laid.tobytes()), (1, before.tobytes())]
-        return arguments, given, 0, [(1, after.tobytes())], [tuple(fields[:2])]
+        return arguments, given, 0, [(1, after.tobytes())], masks_met(fields, 0)
 
 
 def ground_and_lays(library, fields, pilot, lays, grid, grid_len):
@@ -237,72 +281,80 @@ def ground_and_lays(library, fields, pilot, lays, grid, grid_len):
 
 
 class Slot:
-    """A slot's points are laid in any order with repeats: any floats, and its own when a subchannel comes last. So the
-    grid is the one that the reference fills."""
+    """A slot's points are laid in any order with repeats: any floats, and its own when a lit subchannel comes last. An
+    unlit one is refused, with any floats. So the grid is the one that the reference fills."""
 
     OTHERS = 1000  # floats that any points are taken from
     name, arena = "ground_and_lays", Arena(8, 4 * MOST_POINTS, 4 * OTHERS, 4 * MOST_GRID)
-    refusals, cases, a_round = [], SETUPS, SLOT_ROUND
+    refusals, cases, a_round = [5], LIT, SLOT_ROUND
 
-    def lays(self, dice, subchannels):
+    def lays(self, dice, subchannels, lit):
         order = [*range(subchannels), *dice.choices(range(subchannels), k=dice.randrange(subchannels))]
         dice.shuffle(order)
         last = {subchannel: n for n, subchannel in enumerate(order)}
+        own = {subchannel: self.arena.address(1) + 4 * LAID * n for n, subchannel in enumerate(lit)}
         for n, subchannel in enumerate(order):
-            own = self.arena.address(1) + 4 * LAID * subchannel
             other = self.arena.address(2) + 4 * dice.randrange(self.OTHERS - LAID)
-            yield subchannel, (own if last[subchannel] == n else other)
+            yield subchannel, (own.get(subchannel, other) if last[subchannel] == n else other)
 
-    def request(self, dice, noise, mode, size, cell, slot):
-        fields, subchannels = (mode, size, cell, slot), ref.subchannels(mode, size)
+    def request(self, dice, noise, mode, size, cell, mask, slot):
+        fields, subchannels = (mode, size, cell, mask, slot), ref.subchannels(mode, size)
+        lit = ref.lit_subchannels(mode, size, mask)
         pilot, grid = self.arena.address(0), self.arena.address(3)
-        arguments = [fields, pilot, list(self.lays(dice, subchannels)), grid, ref.grid_floats(mode, size)]
-        floats = array("I", noise.run(dice, 8 + 4 * LAID * subchannels))
+        arguments = [fields, pilot, list(self.lays(dice, subchannels, lit)), grid, ref.grid_floats(mode, size)]
+        floats = array("I", noise.run(dice, 8 + 4 * LAID * len(lit)))
         after = fill_sources(*fields)(array("I", [0]) + floats)
-        given = [(0, floats[:2].tobytes()), (1, floats[2:].tobytes())]
-        return arguments, given, 0, [(3, array("I", after).tobytes())], [(mode, size)]
+        given, written = [(0, floats[:2].tobytes()), (1, floats[2:].tobytes())], [(3, array("I", after).tobytes())]
+        return arguments, given, 0 if len(lit) == subchannels else 5, written, [(mode, size, mask)]
 
 
 class Empty:
     name, arena = "bp_empty", Arena(4 * GRID_ROOM, 4 * POINTS_ROOM)
-    refusals, cases = [1, 2, 3, 4, 8, 9], SETUPS
+    refusals, cases = [1, 2, 3, 17, 4, 8, 9], MASKS
 
-    def request(self, dice, noise, mode, size, cell, slot):
-        fields = slot_fields(dice, mode, size, cell, slot)
-        points_floats, grid_floats = LAID * ref.subchannels(mode, size), ref.grid_floats(mode, size)
-        points_len = some_length(dice, points_floats, grid_floats, POINTS_ROOM, True)
+    def request(self, dice, noise, mode, size, cell, mask, slot):
+        fields = slot_fields(dice, mode, size, cell, mask, slot)
+        points_floats, grid_floats = ref.lit_points_len(mode, size, mask), ref.grid_floats(mode, size)
+        others = [grid_floats, ref.points_len(mode, size), points_floats + LAID, points_floats - LAID]
+        points_len = some_length(dice, points_floats, dice.choice(others), POINTS_ROOM, True)
         grid_len = some_length(dice, grid_floats, points_floats, GRID_ROOM, False)
         number = ref.buffers_refusal(*fields, points_len, grid_len)
         grid, points = map(self.arena.address, range(2))
         arguments = fields + [pointer(dice, grid, grid_len), grid_len, pointer(dice, points, points_len), points_len]
         if number:
-            return arguments, [], number, [], []
+            return arguments, [], number, [], masks_met(fields, number)
         floats = array("I", noise.run(dice, 4 * grid_len))
         after = empty_sources(*fields)(floats)
-        return arguments, [(0, floats.tobytes())], 0, [(1, array("I", after).tobytes())], [tuple(fields[:2])]
+        written = [(1, array("I", after).tobytes())]
+        return arguments, [(0, floats.tobytes())], 0, written, masks_met(fields, 0)
 
 
 class Look:
     name, arena = "bp_look", Arena(4, 8, 4, 4, 4, 4 * GRID_ROOM)
-    refusals, cases = [1, 2, 3, 4, 7, 9], CARRIERS + ["nothing", ref.PILOT, ref.DATA]
+    # What is seen, and what the map has there: nothing also where a pilot or data is unlit.
+    SEEN = [("nothing", kind) for kind in KINDS] + [(ref.PILOT, ref.PILOT), (ref.DATA, ref.DATA)]
+    refusals, cases = [1, 2, 3, 17, 4, 7, 9], CARRIERS + MASKS + SEEN
 
-    def request(self, dice, noise, mode, size, cell, slot):
-        fields = symbol_fields(dice, mode, size, cell, slot)
-        carrier = fields[4]
+    def request(self, dice, noise, mode, size, cell, mask, slot):
+        place, limits = place_in(dice, mode, size, slot)
+        others = {1: other_size, 3: other_mask, 5: other_carrier}
+        fields = spoiled(dice, [mode, size, cell, mask] + place, lit_limits(mode, size) + limits, others)
+        carrier = fields[5]
         grid_len = some_length(dice, ref.grid_floats(mode, size), 96 * ref.subchannels(mode, size), GRID_ROOM, True)
-        number = ref.look_refusal(*fields[:4], grid_len, carrier)
+        number = ref.look_refusal(*fields[:5], grid_len, carrier)
         outs, grid = list(map(self.arena.address, range(5))), pointer(dice, self.arena.address(5), grid_len)
-        arguments = fields[:4] + [grid, grid_len, carrier] + outs
-        met = [(*fields[:2], number, side(carrier))]
+        arguments = fields[:5] + [grid, grid_len, carrier] + outs
+        met = [(*fields[:2], number, side(carrier))] + masks_met(fields, number)
         if number:
             return arguments, [], number, [], met
         patterns = array("I", noise.run(dice, 4 * grid_len))
-        what = ref.look(*fields[:4], patterns, carrier)[1]
+        what = ref.look(*fields[:5], patterns, carrier)[1]
         written = [(0, words([KINDS.get(what[0], 0)]))]
         if what[0] != "nothing":
             written.append((1, words(what[1])))
             written += [(2 + i, words([x])) for i, x in enumerate(what[2:])]
-        return arguments, [(5, patterns.tobytes())], 0, written, met + [what[0]]
+        located = ref.locate(*fields[:3], *fields[4:])[1]
+        return arguments, [(5, patterns.tobytes())], 0, written, met + [(what[0], located[0])]
 
 
 class OfuscCollisions:
@@ -342,28 +394,32 @@ class AmcCollisions(OfuscCollisions):
 # --- plans ------------------------------------------------------------------------------------
 
 
+def good_zone(dice, mode, size):
+    return mode, within(dice, ref.cells(mode, size)), 1 + within(dice, ref.SLOTS), dice.choice(ref.masks(mode))
+
+
 def good_plan(dice):
     """A plan that is accepted: size and zones."""
     size, zones = dice.choice(ref.BIN_SIZES), []
     if size == 2048:
-        zones.append((ref.PUSC_DL, within(dice, ref.cells(ref.PUSC_DL, size)), 1 + within(dice, ref.SLOTS)))
+        zones.append(good_zone(dice, ref.PUSC_DL, size))
     for _ in range(dice.randrange(0 if zones else 1, 9 - len(zones))):
         amc = dice.choice(list(ref.SHAPES))
         modes = [ref.OFUSC, amc] + [ref.PUSC_DL] * (size == 2048)
         mode = amc if zones and zones[-1][0] in ref.SHAPES else dice.choice(modes)
-        zones.append((mode, within(dice, ref.cells(mode, size)), 1 + within(dice, ref.SLOTS)))
+        zones.append(good_zone(dice, mode, size))
     return size, zones
 
 
 def orders(zones):
     """Each zone's mode with that of the next one."""
-    modes = [mode for mode, _, _ in zones]
+    modes = [zone[0] for zone in zones]
     return list(zip(modes, modes[1:]))
 
 
 def other_number(dice, good, largest):
     """A number for one of a plan: the limits of its fields, or any."""
-    close = [31, 32, 127, 128, 512, 513, 2351, 2352, 16383, 16384, good + 1, good + 2**8]
+    close = [31, 32, 63, 64, 127, 128, 512, 513, 2351, 2352, 16383, 16384, good + 1, good + 2**8]
     return dice.choice([*range(10), *close, dice.randrange(largest + 1), largest])
 
 
@@ -372,9 +428,9 @@ def plan_numbers(dice, largest):
     size, zones = good_plan(dice)
     if dice.randrange(8) == 0:
         dice.shuffle(zones)
-    numbers = [len(zones), size] + [x for zone in zones for x in zone] + [0] * (24 - 3 * len(zones))
+    numbers = [len(zones), size] + [x for zone in zones for x in zone] + [0] * (32 - 4 * len(zones))
     if dice.randrange(3) == 0:
-        places = [0, 1] + 3 * list(range(2, 2 + 3 * len(zones))) + [25]
+        places = [0, 1] + 3 * list(range(2, 2 + 4 * len(zones))) + [33]
         for i in sorted(set(dice.choices(places, k=dice.choice([1, 1, 2])))):
             other = other_size if i == 1 else other_number
             numbers[i] = min(largest, other(dice, numbers[i], largest))
@@ -396,14 +452,14 @@ def plan_bytes(dice):
     if dice.randrange(20) == 0:
         return [dice.randrange(256) for _ in range(dice.randrange(9))]
     numbers = plan_numbers(dice, 2**21 - 1)
-    used = numbers[: 2 + 3 * min(numbers[0], ref.PLACES)] if dice.randrange(8) else numbers
+    used = numbers[: 2 + 4 * min(numbers[0], ref.PLACES)] if dice.randrange(8) else numbers
     data = [byte for number in used for byte in ref.write_value(number)]
     return data if dice.randrange(3) else changed_bytes(dice, data)
 
 
 class PlanRead:
-    name, arena = "bp_plan_read", Arena(4, 4, 96, 256)
-    refusals, cases = [1, 2, 3, 10, 11, 12, 13, 14, 15], ORDERS
+    name, arena = "bp_zone_plan_read", Arena(4, 4, 128, 256)
+    refusals, cases = [1, 2, 3, 10, 11, 12, 13, 14, 15, 17], ORDERS
 
     def request(self, dice, noise, *_):
         data = plan_bytes(dice)
@@ -421,14 +477,14 @@ class PlanRead:
 
 
 class PlanWrite:
-    name, arena = "bp_plan_write", Arena(96, 4, 256)
-    refusals, cases = [1, 2, 3, 12, 13, 14, 16], ORDERS
+    name, arena = "bp_zone_plan_write", Arena(128, 4, 256)
+    refusals, cases = [1, 2, 3, 12, 13, 14, 16, 17], ORDERS
 
     def request(self, dice, noise, *_):
         numbers = plan_numbers(dice, LARGEST)
-        zones = [tuple(numbers[i : i + 3]) for i in range(2, 26, 3)]
-        need = sum(len(ref.write_value(x)) for x in numbers[: 2 + 3 * min(numbers[0], 8)])
-        length = dice.choice([need, need, 43, 48, 128, need + 1, need - 1, dice.randrange(need), 0])
+        zones = [tuple(numbers[i : i + 4]) for i in range(2, 34, 4)]
+        need = sum(len(ref.write_value(x)) for x in numbers[: 2 + 4 * min(numbers[0], 8)])
+        length = dice.choice([need, need, 51, 56, 128, need + 1, need - 1, dice.randrange(need), 0])
         number, count, after = ref.write_plan(numbers[0], numbers[1], zones, [0] * length)
         if number == 16 and lent.HAS_LONG and dice.randrange(4) == 0:
             # Long enough, though its lowest 32 bits are not.
@@ -441,7 +497,7 @@ class PlanWrite:
         return arguments, [(0, words(numbers[2:]))], number, written, met
 
 
-MAP_CALLS = [Place, Locate, PointsLen, GridLen, Ground, Lay, Slot, Empty, Look]
+MAP_CALLS = [Place, Locate, PointsLen, LitPointsLen, GridLen, Ground, Lay, Slot, Empty, Look]
 CALLS = MAP_CALLS + [OfuscCollisions, AmcCollisions, PlanRead, PlanWrite]
 
 
@@ -491,15 +547,14 @@ def main():
     library.ground_and_lays = partial(ground_and_lays, library)
     noise = lent.Noise(dice)
     tallies = [Tally(call) for call in CALLS]
-    for turn in range(REQUESTS // ROUND):
-        mode, size = SETUPS[turn % len(SETUPS)]
-        setup = mode, size, within(dice, ref.cells(mode, size)), within(dice, ref.SLOTS)
+    for mode, size, mask in TURNS:
+        setup = mode, size, within(dice, ref.cells(mode, size)), mask, within(dice, ref.SLOTS)
         for tally in tallies:
             for _ in range(tally.a_round):
                 put(library, dice, noise, tally, setup)
     for tally in tallies:
         print(tally.text())
-        if sum(tally.numbers.values()) < REQUESTS // ROUND * tally.a_round or tally.missing():
+        if sum(tally.numbers.values()) < len(TURNS) * tally.a_round or tally.missing():
             sys.exit("%s: too few requests, or never met: %s" % (tally.call.name, tally.missing()))
     print("random requests: all agree with the reference")
 

@@ -1,4 +1,4 @@
-"""Document 01, as changed by document 02's wishes 1 to 4, in plain Python, written from the papers alone.
+"""Document 01, as changed by document 02's wishes 1 to 5, in plain Python, written from the papers alone.
 
 The stored vectors and the tests through C are made from this file. It is as simple as it can be
 and slow where that is simpler: locating builds the whole slot by placing and looks the carrier up.
@@ -76,92 +76,92 @@ def subchannels(mode, size):
     return 6 * n_of(size) // wide
 
 
+def masks(mode):
+    """Bit g of a mask is major group g of mode 0 (document 02, wish 5); the other modes, where all is lit, have 0."""
+    return range(1, 64) if mode == PUSC_DL else range(1)
+
+
+def full_mask(mode):
+    """The mask that lights all."""
+    return masks(mode)[-1]
+
+
 # --- the questions put to a request -----------------------------------------------------------
 
 
-def setup_refusal(mode, size, cell):
-    """Questions 1, 2, 3."""
-    if mode not in MODES:
-        return 1
-    if size not in sizes(mode):
-        return 2
-    return 0 if cell < cells(mode, size) else 3
+def refusal(questions):
+    """Turns a call's questions, each a number and its answer, in the order in which they are put, into its refusal: the
+    number of the first no, or 0. Later questions are not put."""
+
+    def first_no(*fields):
+        return next((number for number, yes in questions(*fields) if not yes), 0)
+
+    return first_no
 
 
-def slot_refusal(mode, size, cell, slot):
-    """Questions 1 to 4 of a call that has a slot."""
-    number = setup_refusal(mode, size, cell)
-    if number:
-        return number
-    return 0 if slot < SLOTS else 4
+def setup_questions(mode, size, cell):
+    yield 1, mode in MODES
+    yield 2, size in sizes(mode)
+    yield 3, cell < cells(mode, size)
 
 
-def subchannel_refusal(mode, size, cell, slot, subchannel):
-    """Questions 1 to 5."""
-    number = slot_refusal(mode, size, cell, slot)
-    if number:
-        return number
-    return 0 if subchannel < subchannels(mode, size) else 5
+def lit_questions(mode, size, cell, mask):
+    """Of a call that has a mask."""
+    yield from setup_questions(mode, size, cell)
+    yield 17, mask in masks(mode)
 
 
+@refusal
 def place_refusal(mode, size, cell, slot, subchannel, index):
-    """Questions 1 to 6."""
-    number = subchannel_refusal(mode, size, cell, slot, subchannel)
-    if number:
-        return number
-    return 0 if index < POINTS else 6
+    yield from setup_questions(mode, size, cell)
+    yield 4, slot < SLOTS
+    yield 5, subchannel < subchannels(mode, size)
+    yield 6, index < POINTS
 
 
-def symbol_refusal(mode, size, cell, symbol):
-    """Questions 1 to 4 of a call that has the zone's symbol."""
-    number = setup_refusal(mode, size, cell)
-    if number:
-        return number
-    return 0 if symbol < SLOTS * SLOT_LENGTH[mode] else 4
-
-
+@refusal
 def locate_refusal(mode, size, cell, symbol, carrier):
-    """Questions 1, 2, 3, 4, 7."""
-    number = symbol_refusal(mode, size, cell, symbol)
-    if number:
-        return number
-    return 0 if carrier in carriers(size) else 7
+    yield from setup_questions(mode, size, cell)
+    yield 4, symbol < SLOTS * SLOT_LENGTH[mode]
+    yield 7, carrier in carriers(size)
 
 
-def ground_refusal(mode, size, cell, slot, grid_len):
-    """Questions 1, 2, 3, 4, 9. Lengths count floats."""
-    number = slot_refusal(mode, size, cell, slot)
-    if number:
-        return number
-    return 0 if grid_len == grid_floats(mode, size) else 9
+@refusal
+def ground_refusal(mode, size, cell, mask, slot, grid_len):
+    """Lengths count floats."""
+    yield from lit_questions(mode, size, cell, mask)
+    yield 4, slot < SLOTS
+    yield 9, grid_len == grid_floats(mode, size)
 
 
-def lay_refusal(mode, size, cell, slot, subchannel, points_len, grid_len):
-    """Questions 1, 2, 3, 4, 5, 8, 9; here 8 is about 96 floats (document 02, wish 4)."""
-    number = subchannel_refusal(mode, size, cell, slot, subchannel)
-    if number:
-        return number
-    if points_len != 2 * POINTS:
-        return 8
-    return 0 if grid_len == grid_floats(mode, size) else 9
+@refusal
+def lay_refusal(mode, size, cell, mask, slot, subchannel, points_len, grid_len):
+    """Here 8 is about 96 floats (document 02, wish 4)."""
+    yield from lit_questions(mode, size, cell, mask)
+    yield 4, slot < SLOTS
+    yield 5, subchannel in lit_subchannels(mode, size, mask)
+    yield 8, points_len == 2 * POINTS
+    yield 9, grid_len == grid_floats(mode, size)
 
 
-def buffers_refusal(mode, size, cell, slot, points_len, grid_len):
-    """Questions 1, 2, 3, 4, 8, 9 of empty, and of fill as document 01 has it."""
-    number = slot_refusal(mode, size, cell, slot)
-    if number:
-        return number
-    if points_len != 96 * subchannels(mode, size):
-        return 8
-    return 0 if grid_len == grid_floats(mode, size) else 9
+@refusal
+def buffers_refusal(mode, size, cell, mask, slot, points_len, grid_len):
+    """Of empty, and of fill as document 01 has it."""
+    yield from lit_questions(mode, size, cell, mask)
+    yield 4, slot < SLOTS
+    yield 8, points_len == 96 * len(lit_subchannels(mode, size, mask))
+    yield 9, grid_len == grid_floats(mode, size)
 
 
-def look_refusal(mode, size, cell, symbol, grid_len, carrier):
-    """Questions 1, 2, 3, 4, 7, 9."""
-    number = locate_refusal(mode, size, cell, symbol, carrier)
-    if number:
-        return number
-    return 0 if grid_len == grid_floats(mode, size) else 9
+@refusal
+def look_refusal(mode, size, cell, mask, symbol, grid_len, carrier):
+    yield from lit_questions(mode, size, cell, mask)
+    yield 4, symbol < SLOTS * SLOT_LENGTH[mode]
+    yield 7, carrier in carriers(size)
+    yield 9, grid_len == grid_floats(mode, size)
+
+
+setup_refusal, lit_refusal = refusal(setup_questions), refusal(lit_questions)
 
 
 def grid_floats(mode, size):
@@ -171,6 +171,10 @@ def grid_floats(mode, size):
 def points_len(mode, size):
     """As the call answers it: 0 for a mode and size that the map does not have."""
     return 0 if setup_refusal(mode, size, 0) else 96 * subchannels(mode, size)
+
+
+def lit_points_len(mode, size, mask):
+    return 0 if lit_refusal(mode, size, 0, mask) else 96 * len(lit_subchannels(mode, size, mask))
 
 
 def grid_len(mode, size):
@@ -219,7 +223,8 @@ def is_pilot(mode, symbol, used):
 
 # --- placing ----------------------------------------------------------------------------------
 
-GROUP_FIRST_LOGICAL = [0, 24, 40, 64, 80, 104]
+# Where the major groups' logical clusters start; 120 is the end of the last.
+GROUP_FIRST_LOGICAL = [0, 24, 40, 64, 80, 104, 120]
 
 
 @lru_cache(maxsize=None)
@@ -403,6 +408,39 @@ def locate(mode, size, cell, symbol, carrier):
     return 0, found.get((symbol, carrier), (GUARD,))
 
 
+# --- what a mask lights (document 02, wish 5) -------------------------------------------------
+
+
+def lit_groups(mask):
+    return [group for group in range(6) if mask & 2**group]
+
+
+@lru_cache(maxsize=None)
+def lit_subchannels(mode, size, mask):
+    """The subchannels of the lit groups, rising; where there are no groups all."""
+    every = range(subchannels(mode, size))
+    return tuple(s for s in every if mode != PUSC_DL or group_of(s)[0] in lit_groups(mask))
+
+
+@lru_cache(maxsize=64)
+def lit_carriers(mode, size, cell, mask):
+    """The used carriers of the lit groups' clusters, pilots too; where there are no groups all."""
+    used = range(used_numbers(mode, size))
+    if mode == PUSC_DL:
+        used = [
+            14 * physical_of_logical(cell, logical) + place
+            for group in lit_groups(mask)
+            for logical in range(*GROUP_FIRST_LOGICAL[group : group + 2])
+            for place in range(14)
+        ]
+    return frozenset(carrier_of_used(mode, size, u) for u in used)
+
+
+def rank(mode, size, mask, subchannel):
+    """How many lit subchannels are below this lit one."""
+    return lit_subchannels(mode, size, mask).index(subchannel)
+
+
 # --- grids: flat lists of 32-bit patterns, two a point, in-phase first ------------------------
 
 
@@ -416,25 +454,27 @@ def grid_at(mode, size, symbol, carrier):
     return 2 * (symbol % SLOT_LENGTH[mode] * size + column(size, carrier))
 
 
-def points_at(subchannel, index):
-    return 2 * (POINTS * subchannel + index)
+def points_at(mode, size, mask, subchannel, index):
+    """Where a point's two floats start in the points of the lit subchannels."""
+    return 2 * (POINTS * rank(mode, size, mask, subchannel) + index)
 
 
-def ground(mode, size, cell, slot, pilot, grid):
-    """(refusal, the grid afterwards): the pilot point on pilots, zeros elsewhere, on data carriers too."""
-    number = ground_refusal(mode, size, cell, slot, len(grid))
+def ground(mode, size, cell, mask, slot, pilot, grid):
+    """(refusal, the grid afterwards): the pilot point on lit pilots, zeros elsewhere, on data carriers too."""
+    number = ground_refusal(mode, size, cell, mask, slot, len(grid))
     if number:
         return number, list(grid)
-    after = [0] * len(grid)
+    after, lit = [0] * len(grid), lit_carriers(mode, size, cell, mask)
     for symbol, carrier in slot_pilots(mode, size, slot):
-        at = grid_at(mode, size, symbol, carrier)
-        after[at : at + 2] = pilot
+        if carrier in lit:
+            at = grid_at(mode, size, symbol, carrier)
+            after[at : at + 2] = pilot
     return 0, after
 
 
-def lay(mode, size, cell, slot, subchannel, points, grid):
+def lay(mode, size, cell, mask, slot, subchannel, points, grid):
     """(refusal, the grid afterwards): one subchannel's 48 points where they are placed, no other float touched."""
-    number = lay_refusal(mode, size, cell, slot, subchannel, len(points), len(grid))
+    number = lay_refusal(mode, size, cell, mask, slot, subchannel, len(points), len(grid))
     if number:
         return number, list(grid)
     after = list(grid)
@@ -445,29 +485,30 @@ def lay(mode, size, cell, slot, subchannel, points, grid):
     return 0, after
 
 
-def fill(mode, size, cell, slot, pilot, points, grid):
-    """(refusal, the grid afterwards). No call any more, but what the ground and a lay of every subchannel must give."""
-    number = buffers_refusal(mode, size, cell, slot, len(points), len(grid))
+def fill(mode, size, cell, mask, slot, pilot, points, grid):
+    """(refusal, the grid afterwards). No call any more, but what the ground and a lay of every lit subchannel must give;
+    the points are the lit subchannels', rising."""
+    number = buffers_refusal(mode, size, cell, mask, slot, len(points), len(grid))
     if number:
         return number, list(grid)
-    after = [0] * len(grid)
+    after, lit = [0] * len(grid), lit_carriers(mode, size, cell, mask)
     for (symbol, carrier), what in slot_map(mode, size, cell, slot).items():
         at = grid_at(mode, size, symbol, carrier)
-        if what[0] == PILOT:
+        if what[0] == PILOT and carrier in lit:
             after[at : at + 2] = pilot
-        if what[0] == DATA:
-            source = points_at(what[2], what[3])
+        if what[0] == DATA and carrier in lit:
+            source = points_at(mode, size, mask, what[2], what[3])
             after[at : at + 2] = points[source : source + 2]
     return 0, after
 
 
-def empty(mode, size, cell, slot, grid, points):
-    """(refusal, the points afterwards)."""
-    number = buffers_refusal(mode, size, cell, slot, len(points), len(grid))
+def empty(mode, size, cell, mask, slot, grid, points):
+    """(refusal, the points afterwards): the lit subchannels' points, rising."""
+    number = buffers_refusal(mode, size, cell, mask, slot, len(points), len(grid))
     if number:
         return number, list(points)
     after = []
-    for subchannel in range(subchannels(mode, size)):
+    for subchannel in lit_subchannels(mode, size, mask):
         for index in range(POINTS):
             _, symbol, carrier = place(mode, size, cell, slot, subchannel, index)
             at = grid_at(mode, size, symbol, carrier)
@@ -475,15 +516,15 @@ def empty(mode, size, cell, slot, grid, points):
     return 0, after
 
 
-def look(mode, size, cell, symbol, grid, carrier):
+def look(mode, size, cell, mask, symbol, grid, carrier):
     """(refusal, what): ("nothing",), (PILOT, point) or (DATA, point, slot, subchannel, index)."""
-    number = look_refusal(mode, size, cell, symbol, len(grid), carrier)
+    number = look_refusal(mode, size, cell, mask, symbol, len(grid), carrier)
     if number:
         return number, None
     _, what = locate(mode, size, cell, symbol, carrier)
     at = grid_at(mode, size, symbol, carrier)
     point = list(grid[at : at + 2])
-    if what[0] in (GUARD, DC):
+    if what[0] in (GUARD, DC) or carrier not in lit_carriers(mode, size, cell, mask):
         return 0, ("nothing",)
     return 0, (what[0], point) + what[1:]
 
@@ -525,10 +566,10 @@ def amc_collisions(cell_a, cell_b):
     return 0, hits, sum(hits)
 
 
-# --- zone plans: a zone is (mode, cell, slots); a plan has eight places -----------------------
+# --- zone plans: a zone is (mode, cell, slots, mask); a plan has eight places -----------------
 
 PLACES = 8
-NO_ZONE = (0, 0, 0)
+NO_ZONE = (0, 0, 0, 0)
 PLAN_MODES = [PUSC_DL, OFUSC, *SHAPES]
 
 
@@ -562,8 +603,8 @@ def write_value(value):
 
 
 def judge_zone(size, before, zone):
-    """Questions 1, 2, 3, 13, 14 of one zone; before is the zone before it, or None."""
-    mode, cell, slots = zone
+    """Questions 1, 2, 3, 13, 17, 14 of one zone; before is the zone before it, or None."""
+    mode, cell, slots, mask = zone
     if mode not in PLAN_MODES:
         raise Refused(1)
     number = setup_refusal(mode, size, cell)
@@ -571,6 +612,8 @@ def judge_zone(size, before, zone):
         raise Refused(number)
     if not 1 <= slots <= 512:
         raise Refused(13)
+    if mask not in masks(mode):
+        raise Refused(17)
     if size == 2048 and before is None and mode != PUSC_DL:
         raise Refused(14)
     if before is not None and before[0] in SHAPES and mode not in SHAPES:
@@ -589,8 +632,9 @@ def read_whole_plan(data):
         mode, at = read_value(data, at)
         cell, at = read_value(data, at)
         slots, at = read_value(data, at)
-        judge_zone(size, zones[-1] if zones else None, (mode, cell, slots))
-        zones.append((mode, cell, slots))
+        mask, at = read_value(data, at)
+        judge_zone(size, zones[-1] if zones else None, (mode, cell, slots, mask))
+        zones.append((mode, cell, slots, mask))
     if at != len(data):
         raise Refused(15)
     return count, size, zones + [NO_ZONE] * (PLACES - count)
@@ -634,4 +678,4 @@ def zones_text(data):
     number, count, _, zones = read_plan(data[:128])
     if number:
         return "refused %d\n" % number
-    return "".join("%d %d %d\n" % zone for zone in zones[:count])
+    return "".join("%d %d %d %d\n" % zone for zone in zones[:count])

@@ -90,28 +90,63 @@ def test_known_ranges():
 
 
 def test_known_plans():
-    accepted = hex_bytes("01 80 10 00 00 0C")
-    assert ref.read_plan(accepted) == (0, 1, 2048, [(0, 0, 12)] + [ref.NO_ZONE] * 7)
-    assert ref.read_plan(hex_bytes("01 80 10 02 00 0C"))[0] == 14
-    assert ref.read_plan(hex_bytes("01 80 10 00 05 0C")) == (0, 1, 2048, [(0, 5, 12)] + [ref.NO_ZONE] * 7)
-    assert ref.zones_text(hex_bytes("02 80 08 02 11 03 03 B0 01 01")) == "2 17 3\n3 176 1\n"
-    assert ref.zones_text(hex_bytes("01 80 10 02 00 0C")) == "refused 14\n"
+    accepted = hex_bytes("01 80 10 00 00 0C 3F")
+    assert ref.read_plan(accepted) == (0, 1, 2048, [(0, 0, 12, 63)] + [ref.NO_ZONE] * 7)
+    assert ref.read_plan(hex_bytes("01 80 10 02 00 0C 00"))[0] == 14
+    assert ref.read_plan(hex_bytes("01 80 10 02 00 0C 3F"))[0] == 17
+    assert ref.read_plan(hex_bytes("01 80 10 00 05 0C 3F")) == (0, 1, 2048, [(0, 5, 12, 63)] + [ref.NO_ZONE] * 7)
+    assert ref.zones_text(hex_bytes("02 80 08 02 11 03 00 03 B0 01 01 00")) == "2 17 3 0\n3 176 1 0\n"
+    assert ref.zones_text(hex_bytes("01 80 10 00 05 0C 15")) == "0 5 12 21\n"
+    assert ref.zones_text(hex_bytes("01 80 10 02 00 0C 00")) == "refused 14\n"
 
 
 def test_refused_plans():
     cases = {
         "": 10, "80": 10, "80 80": 10, "81 00": 11, "80 00": 11, "80 80 00": 11, "80 80 80": 11,
         "80 80 80 01": 11, "00 80": 12, "09 80 08": 12, "01 00 80": 2, "01 80 01": 2,
-        "01 80 08 01 00": 10, "01 80 08 01 00 01": 1, "01 80 08 07 00 01": 1, "01 80 08 00 00 01": 2,
-        "01 80 02 02 10 01": 3, "01 80 08 03 B0 12 01": 3, "01 80 08 02 00 00": 13,
-        "01 80 08 02 00 81 04": 13, "02 80 10 02 00 01": 14, "01 80 10 00 20 01": 3,
-        "02 80 08 03 00 01 02 00 01": 14, "01 80 08 02 00 01 00": 15,
+        "01 80 08 01 00 01": 10, "01 80 08 01 00 01 00": 1, "01 80 08 07 00 01 00": 1, "01 80 08 00 00 01 3F": 2,
+        "01 80 02 02 10 01 00": 3, "01 80 08 03 B0 12 01 00": 3, "01 80 08 02 00 00 00": 13,
+        "01 80 08 02 00 81 04 00": 13, "02 80 10 02 00 01 00": 14, "01 80 10 00 20 01 3F": 3,
+        "02 80 08 03 00 01 00 02 00 01 00": 14, "01 80 08 02 00 01 00 00": 15,
+        "01 80 08 02 00 01 81": 10, "01 80 08 02 00 01 80 00": 11, "01 80 08 02 00 01 01": 17,
+        "01 80 10 00 00 01 00": 17, "01 80 10 00 00 01 40": 17, "01 80 10 00 00 01 FF FF 7F": 17,
     }
     for text, number in cases.items():
         assert ref.read_plan(hex_bytes(text))[0] == number, text
         assert ref.zones_text(hex_bytes(text)) == "refused %d\n" % number
-    largest = hex_bytes("08 80 10 00 00 80 04") + 7 * hex_bytes("03 AF 12 80 04")
-    assert len(largest) == 42 and ref.read_plan(largest)[0] == 0
+    largest = hex_bytes("08 80 08") + 8 * hex_bytes("03 AF 12 80 04 00")
+    assert len(largest) == 51 and ref.read_plan(largest)[0] == 0
+
+
+def test_questions_of_a_zone():
+    """After its four values 1, 2, 3, 13, 17, 14, for every set of wrong ones; in writing too. The rule on the order is
+    met by mode 2 as a first zone at 2048."""
+    for wrong in range(16):
+        mode, cell = 2 if wrong & 1 else 0, 2000 if wrong & 2 else 5
+        slots, mask = 513 if wrong & 4 else 512, 64 if wrong & 8 else ref.full_mask(mode)
+        met = [number for bit, number in ((2, 3), (4, 13), (8, 17), (1, 14)) if wrong & bit]
+        check_zone(2048, (mode, cell, slots, mask), met[0] if met else 0)
+        check_zone(2048, (1, cell, slots, mask), 1)
+        check_zone(1024, (0, cell, slots, mask), 2)
+
+
+def check_zone(size, zone, number):
+    assert ref.read_plan(plan_bytes(size, [zone]))[0] == number
+    assert ref.write_plan(1, size, [zone] + [ref.NO_ZONE] * 7, [0] * 51)[0] == number
+
+
+def test_masks_of_a_zone():
+    """1 to 63 in mode 0, zero in the others; past the count zero too."""
+    for mask in (*range(66), 127, 128, 2**16 + 63, 2**21 - 1):
+        for mode in ref.PLAN_MODES:
+            size, head = (2048, [(0, 0, 1, 63)]) if mode == 0 else (512, [])
+            right = 1 <= mask <= 63 if mode == 0 else mask == 0
+            zones = head + [(mode, 0, 1, mask)]
+            assert ref.read_plan(plan_bytes(size, zones))[0] == (0 if right else 17)
+            places = zones + [ref.NO_ZONE] * (8 - len(zones))
+            assert ref.write_plan(len(zones), size, places, [0] * 51)[0] == (0 if right else 17)
+            places[7] = (0, 0, 0, mask)
+            assert ref.write_plan(len(zones), size, places, [0] * 51)[0] == (12 if mask else 0 if right else 17)
 
 
 def test_order_of_modes():
@@ -119,17 +154,21 @@ def test_order_of_modes():
     for size in ref.BIN_SIZES:
         listed = (0, 2, 3, 4, 5, 6) if size == 2048 else (2, 3, 4, 5, 6)
         refused = {mode: 2 if mode == 0 else 1 for mode in range(9) if mode not in listed}
-        head = [(0, 3, 1)] if size == 2048 else []
+        head = [zone_of(0)] if size == 2048 else []
         for mode in range(9):
             first = refused.get(mode, 14 if size == 2048 and mode != 0 else 0)
-            assert ref.read_plan(plan_bytes(size, [(mode, 3, 1)]))[0] == first
+            assert ref.read_plan(plan_bytes(size, [zone_of(mode)]))[0] == first
             for after in range(9):
                 order = 14 if mode in (3, 4, 5, 6) and after not in (3, 4, 5, 6) else 0
                 number = refused.get(mode, refused.get(after, order))
-                zones = head + [(mode, 3, 1), (after, 3, 1)]
+                zones = head + [zone_of(mode), zone_of(after)]
                 assert ref.read_plan(plan_bytes(size, zones))[0] == number
                 places = zones + [ref.NO_ZONE] * (8 - len(zones))
                 assert ref.write_plan(len(zones), size, places, [0] * 48)[0] == number
+
+
+def zone_of(mode):
+    return mode, 3, 1, 63 if mode == 0 else 0
 
 
 def plan_bytes(size, zones):
@@ -138,17 +177,20 @@ def plan_bytes(size, zones):
 
 
 def test_plan_round_trips():
-    zones = [(2, 17, 3), (3, 176, 1)] + [ref.NO_ZONE] * 6
-    number, written, dest = ref.write_plan(2, 1024, zones, [7] * 12)
-    assert (number, written, dest[10:]) == (0, 10, [7, 7])
-    assert dest[:10] == hex_bytes("02 80 08 02 11 03 03 B0 01 01")
-    assert ref.read_plan(dest[:10]) == (0, 2, 1024, zones)
-    assert ref.write_plan(2, 1024, zones, [7] * 9) == (16, 0, [7] * 9)
+    zones = [(2, 17, 3, 0), (3, 176, 1, 0)] + [ref.NO_ZONE] * 6
+    number, written, dest = ref.write_plan(2, 1024, zones, [7] * 14)
+    assert (number, written, dest[12:]) == (0, 12, [7, 7])
+    assert dest[:12] == hex_bytes("02 80 08 02 11 03 00 03 B0 01 01 00")
+    assert ref.read_plan(dest[:12]) == (0, 2, 1024, zones)
+    assert ref.write_plan(2, 1024, zones, [7] * 11) == (16, 0, [7] * 11)
     assert ref.write_plan(1, 1024, zones, [])[0] == 12
     assert ref.write_plan(2, 128, zones, [])[0] == 2
-    shapes = [(2, 17, 3), (6, 2351, 512), (4, 0, 1), (5, 48, 2), (3, 176, 1)] + [ref.NO_ZONE] * 3
-    number, written, dest = ref.write_plan(5, 1024, shapes, [0] * 43)
+    shapes = [(2, 17, 3, 0), (6, 2351, 512, 0), (4, 0, 1, 0), (5, 48, 2, 0), (3, 176, 1, 0)] + [ref.NO_ZONE] * 3
+    number, written, dest = ref.write_plan(5, 1024, shapes, [0] * 51)
     assert number == 0 and ref.read_plan(dest[:written]) == (0, 5, 1024, shapes)
+    masks = [(0, 5, 2, 7), (2, 0, 1, 0), (0, 31, 512, 56), (6, 0, 1, 0)] + [ref.NO_ZONE] * 4
+    number, written, dest = ref.write_plan(4, 2048, masks, [0] * 51)
+    assert number == 0 and ref.read_plan(dest[:written]) == (0, 4, 2048, masks)
 
 
 def test_slots_are_whole():
@@ -168,35 +210,48 @@ def test_grids():
     dice = random.Random(2)
     for mode in ref.MODES:
         size = ref.sizes(mode)[0]
-        cell, slot = ref.cells(mode, size) - 1, 5
-        points = [dice.randrange(2**32) for _ in range(96 * ref.subchannels(mode, size))]
-        grid = [9] * ref.grid_floats(mode, size)
-        number, filled = ref.fill(mode, size, cell, slot, [1, 2], points, grid)
-        assert number == 0 and ref.empty(mode, size, cell, slot, filled, [0] * len(points)) == (0, points)
-        check_looks(mode, size, cell, slot, points, filled)
-        assert ref.fill(mode, size, cell, slot, [1, 2], points[1:], grid) == (8, grid)
-        assert ref.fill(mode, size, cell, slot, [1, 2], points, grid[1:]) == (9, grid[1:])
-        assert ref.empty(mode, size, cell, slot, grid[1:], points) == (9, points)
-        assert ref.look(mode, size, cell, 0, grid[1:], 0) == (9, None)
-        assert ref.look(mode, size, cell, 0, grid[1:], size // 2) == (7, None)
+        setup = mode, size, ref.cells(mode, size) - 1
+        for mask in some_masks(mode):
+            check_grid(dice, setup, mask, 5)
 
 
-def check_looks(mode, size, cell, slot, points, filled):
+def check_grid(dice, setup, mask, slot):
+    """Filled, emptied, looked at, and refused for its lengths."""
+    mode, size, cell = setup
+    points = [dice.randrange(2**32) for _ in range(ref.lit_points_len(mode, size, mask))]
+    grid = [9] * ref.grid_floats(mode, size)
+    number, filled = ref.fill(*setup, mask, slot, [1, 2], points, grid)
+    assert number == 0 and ref.empty(*setup, mask, slot, filled, [0] * len(points)) == (0, points)
+    check_looks(mode, size, cell, mask, slot, points, filled)
+    assert ref.fill(*setup, mask, slot, [1, 2], points[1:], grid) == (8, grid)
+    assert ref.fill(*setup, mask, slot, [1, 2], points, grid[1:]) == (9, grid[1:])
+    assert ref.empty(*setup, mask, slot, grid[1:], points) == (9, points)
+    assert ref.empty(*setup, mask, slot, grid[1:], points + [0] * 96) == (8, points + [0] * 96)
+    assert ref.look(*setup, mask, 0, grid[1:], 0) == (9, None)
+    assert ref.look(*setup, mask, 0, grid[1:], size // 2) == (7, None)
+
+
+def check_looks(mode, size, cell, mask, slot, points, filled):
+    """What stands on each carrier of the filled grid, and what look answers where every unlit float holds 8."""
+    lit = lit_by_hand(mode, size, mask)
     for offset in range(ref.SLOT_LENGTH[mode]):
         symbol = slot * ref.SLOT_LENGTH[mode] + offset
         for carrier in range(-size // 2, size // 2):
             _, what = ref.locate(mode, size, cell, symbol, carrier)
-            number, seen = ref.look(mode, size, cell, symbol, filled, carrier)
             at = 2 * (offset * size + size // 2 + carrier)
-            assert number == 0
-            if what[0] in (ref.GUARD, ref.DC):
-                assert seen == ("nothing",) and filled[at : at + 2] == [0, 0]
+            held = filled[at : at + 2]
+            if what[0] in (ref.GUARD, ref.DC) or not carrier_is_lit(mode, size, cell, mask, carrier):
+                assert held == [0, 0]
+                filled[at : at + 2] = [8, 8]
+                wanted = ("nothing",)
             elif what[0] == ref.PILOT:
-                assert seen == (ref.PILOT, [1, 2]) and filled[at : at + 2] == [1, 2]
+                assert held == [1, 2]
+                wanted = (ref.PILOT, [1, 2])
             else:
-                source = 2 * (48 * what[2] + what[3])
-                assert seen == (ref.DATA, points[source : source + 2]) + what[1:]
-                assert filled[at : at + 2] == points[source : source + 2]
+                source = 2 * (48 * lit.index(what[2]) + what[3])
+                assert held == points[source : source + 2]
+                wanted = (ref.DATA, points[source : source + 2]) + what[1:]
+            assert ref.look(mode, size, cell, mask, symbol, filled, carrier) == (0, wanted)
 
 
 def test_planners_figures():
@@ -233,12 +288,12 @@ def pilots_a_symbol(mode, size, offset):
 
 
 def test_ground():
-    """Pilots and zeros, on data carriers too; the cell has no part in it."""
+    """Pilots and zeros, on data carriers too; where all is lit the cell has no part in it."""
     for mode, size in SETUPS:
-        grid, last = [9] * ref.grid_floats(mode, size), ref.cells(mode, size) - 1
+        grid, last, mask = [9] * ref.grid_floats(mode, size), ref.cells(mode, size) - 1, ref.full_mask(mode)
         for slot in (0, 1, 2, 511):
-            number, after = ref.ground(mode, size, last, slot, [1, 2], grid)
-            assert number == 0 and ref.ground(mode, size, 0, slot, [1, 2], grid) == (0, after)
+            number, after = ref.ground(mode, size, last, mask, slot, [1, 2], grid)
+            assert number == 0 and ref.ground(mode, size, 0, mask, slot, [1, 2], grid) == (0, after)
             for offset in range(ref.SLOT_LENGTH[mode]):
                 row = after[2 * size * offset : 2 * size * (offset + 1)]
                 assert row.count(1) == row.count(2) == pilots_a_symbol(mode, size, offset)
@@ -252,7 +307,8 @@ def test_ground():
 def test_grounds_that_serve():
     """In modes 0, 1, 4 and 6 all slots have one ground, in modes 2, 3 and 5 those that agree mod 3, and no others."""
     for mode, size in SETUPS:
-        grounds = [ref.ground(mode, size, 0, slot, [1, 2], [9] * ref.grid_floats(mode, size)) for slot in range(6)]
+        mask, grid = ref.full_mask(mode), [9] * ref.grid_floats(mode, size)
+        grounds = [ref.ground(mode, size, 0, mask, slot, [1, 2], grid) for slot in range(6)]
         one = [grounds[0]] * 6
         assert grounds[3:] == grounds[:3] and (grounds == one) == (mode in (0, 1, 4, 6))
         assert grounds == one or grounds[0] != grounds[1] != grounds[2] != grounds[0]
@@ -261,7 +317,7 @@ def test_grounds_that_serve():
 def test_known_ground():
     """Carrier -840 of PUSC downlink is data in a slot's first symbol and a pilot in its second, whatever the cell."""
     for cell in range(32):
-        after = ref.ground(PUSC_DL, 2048, cell, 3, [1, 2], [9] * 8192)[1]
+        after = ref.ground(PUSC_DL, 2048, cell, 63, 3, [1, 2], [9] * 8192)[1]
         assert after[368:370] == [0, 0] and after[4096 + 368 : 4096 + 370] == [1, 2]
 
 
@@ -270,14 +326,14 @@ def test_known_lays():
     838 and 837, 377 is -647."""
     points = list(range(100, 196))
     first, second = [9] * 2048, [9] * 2048
-    first = ref.lay(OFUSC, 1024, 0, 0, 3, points, first)[1]
-    second = ref.lay(OFUSC, 1024, 0, 1, 3, points, second)[1]
+    first = ref.lay(OFUSC, 1024, 0, 0, 0, 3, points, first)[1]
+    second = ref.lay(OFUSC, 1024, 0, 0, 1, 3, points, second)[1]
     assert first[2 * 553 : 2 * 553 + 2] == second[2 * 552 : 2 * 552 + 2] == [110, 111]
-    assert ref.lay(OFUSC, 1024, 17, 0, 0, points, [9] * 2048)[1][2 * 87 : 2 * 87 + 2] == [100, 101]
-    down = ref.lay(PUSC_DL, 2048, 0, 0, 1, points, [9] * 8192)[1]
+    assert ref.lay(OFUSC, 1024, 17, 0, 0, 0, points, [9] * 2048)[1][2 * 87 : 2 * 87 + 2] == [100, 101]
+    down = ref.lay(PUSC_DL, 2048, 0, 1, 0, 1, points, [9] * 8192)[1]
     assert down[2 * 1862 : 2 * 1862 + 2] == [122, 123]
     assert down[2 * (2048 + 1861) : 2 * (2048 + 1861) + 2] == [170, 171]
-    assert ref.lay(PUSC_UL, 2048, 0, 0, 1, points, [9] * 12288)[1][2 * (2048 + 377)] == 100
+    assert ref.lay(PUSC_UL, 2048, 0, 0, 0, 1, points, [9] * 12288)[1][2 * (2048 + 377)] == 100
 
 
 def test_a_lay_changes_96_floats():
@@ -287,8 +343,10 @@ def test_a_lay_changes_96_floats():
         cell, slot = dice.randrange(ref.cells(mode, size)), dice.randrange(512)
         grid = list(range(1000, 1000 + ref.grid_floats(mode, size)))
         points = list(range(96))
-        for subchannel in {0, ref.subchannels(mode, size) - 1, dice.randrange(ref.subchannels(mode, size))}:
-            number, after = ref.lay(mode, size, cell, slot, subchannel, points, grid)
+        mask = dice.choice(some_masks(mode))
+        lit = lit_by_hand(mode, size, mask)
+        for subchannel in {lit[0], lit[-1], dice.choice(lit)}:
+            number, after = ref.lay(mode, size, cell, mask, slot, subchannel, points, grid)
             assert number == 0 and len(after) == len(grid)
             assert sorted(x for x, old in zip(after, grid) if x != old) == points
             for index in range(48):
@@ -298,31 +356,32 @@ def test_a_lay_changes_96_floats():
 
 
 def some_order(dice, subchannels):
-    """Each subchannel at least once, some more often, in any order."""
-    order = [*range(subchannels), *dice.choices(range(subchannels), k=subchannels // 2)]
+    """Each of these subchannels at least once, some more often, in any order."""
+    order = [*subchannels, *dice.choices(subchannels, k=len(subchannels) // 2)]
     dice.shuffle(order)
     return order
 
 
 def test_both_moves_fill():
-    """The ground, then lays in any order: of several lays of a subchannel the last one counts."""
+    """The ground, then lays of the lit subchannels in any order: of several lays of one the last counts."""
     dice = random.Random(6)
     for mode, size in SETUPS:
-        cell, slot = dice.randrange(ref.cells(mode, size)), dice.randrange(512)
-        subchannels = ref.subchannels(mode, size)
-        old, last = [9] * ref.grid_floats(mode, size), {}
-        number, grid = ref.ground(mode, size, cell, slot, [1, 2], old)
-        assert number == 0
-        for subchannel in some_order(dice, subchannels):
-            last[subchannel] = [dice.randrange(2**32) for _ in range(96)]
-            number, grid = ref.lay(mode, size, cell, slot, subchannel, last[subchannel], grid)
+        for mask in some_masks(mode):
+            fields = mode, size, dice.randrange(ref.cells(mode, size)), mask, dice.randrange(512)
+            subchannels = lit_by_hand(mode, size, mask)
+            old, last = [9] * ref.grid_floats(mode, size), {}
+            number, grid = ref.ground(*fields, [1, 2], old)
             assert number == 0
-        points = [x for subchannel in range(subchannels) for x in last[subchannel]]
-        assert ref.fill(mode, size, cell, slot, [1, 2], points, old) == (0, grid)
+            for subchannel in some_order(dice, subchannels):
+                last[subchannel] = [dice.randrange(2**32) for _ in range(96)]
+                number, grid = ref.lay(*fields, subchannel, last[subchannel], grid)
+                assert number == 0
+            points = [x for subchannel in subchannels for x in last[subchannel]]
+            assert ref.fill(*fields, [1, 2], points, old) == (0, grid)
 
 
 def check_order(call, questions, good, wrong):
-    """Every set of wrong fields meets the first question about one of them, and leaves the grid, the last field."""
+    """Every set of wrong fields meets the first question about one of them, and leaves the buffer, the last field."""
     for chosen in range(2 ** len(good)):
         fields = [wrong[i] if chosen >> i & 1 else good[i] for i in range(len(good))]
         met = [question for i, question in enumerate(questions) if chosen >> i & 1]
@@ -331,19 +390,150 @@ def check_order(call, questions, good, wrong):
         assert (after == fields[-1]) == (number != 0)
 
 
-def test_questions_of_both_moves():
-    def ground(mode, size, cell, slot, grid):
-        return ref.ground(mode, size, cell, slot, [1, 2], grid)
+# --- masks: document 02, wish 5 ---------------------------------------------------------------
+
+# The subchannels and the logical clusters of each major group of PUSC downlink.
+GROUP_SUBCHANNELS = [range(12), range(12, 20), range(20, 32), range(32, 40), range(40, 52), range(52, 60)]
+GROUP_CLUSTERS = [range(24), range(24, 40), range(40, 64), range(64, 80), range(80, 104), range(104, 120)]
+
+
+def some_masks(mode):
+    """All groups, one at either end, every second one, and holes in the middle; elsewhere the only mask."""
+    return [63, 1, 32, 0b010101, 0b101010, 0b110011, 0b001011] if mode == PUSC_DL else [0]
+
+
+def lit_by_hand(mode, size, mask):
+    if mode != PUSC_DL:
+        return list(range(ref.subchannels(mode, size)))
+    return [s for group in range(6) if mask >> group & 1 for s in GROUP_SUBCHANNELS[group]]
+
+
+def carrier_is_lit(mode, size, cell, mask, carrier):
+    """From the carrier to its group: its used number, physical cluster and logical one."""
+    low, high = ref.band(mode, size)
+    is_used = carrier != 0 and low <= carrier <= high
+    if mode != PUSC_DL or not is_used:
+        return is_used
+    used = carrier + 840 - (carrier > 0)
+    logical = ref.R[(used // 14 + 13 * cell) % 120]
+    return any(mask >> group & 1 and logical in GROUP_CLUSTERS[group] for group in range(6))
+
+
+def test_every_mask():
+    """What each of the 63 lights, in subchannels and in carriers, at several cells; the ranks; the lengths."""
+    for mask in range(1, 64):
+        lit = lit_by_hand(PUSC_DL, 2048, mask)
+        assert list(ref.lit_subchannels(PUSC_DL, 2048, mask)) == lit == sorted(lit)
+        assert [ref.rank(PUSC_DL, 2048, mask, s) for s in lit] == [sum(t in lit for t in range(s)) for s in lit]
+        assert len(lit) == sum(size for bit, size in zip(reversed("{:06b}".format(mask)), [12, 8] * 3) if bit == "1")
+        assert ref.lit_points_len(PUSC_DL, 2048, mask) == 96 * len(lit)
+        for cell in (0, 1, 17, 31):
+            carriers = [c for c in range(-1024, 1024) if carrier_is_lit(PUSC_DL, 2048, cell, mask, c)]
+            assert sorted(ref.lit_carriers(PUSC_DL, 2048, cell, mask)) == carriers
+            # 28 used numbers a subchannel: a group has two clusters for each of its own.
+            assert len(carriers) == 28 * len(lit)
+
+
+def test_data_is_lit_as_its_subchannel():
+    """Every data carrier of both symbols, by every mask; at every cell by each group alone, of which masks are made."""
+    for cell in range(32):
+        data = [(c, what[2]) for (_, c), what in ref.slot_map(PUSC_DL, 2048, cell, 0).items() if what[0] == ref.DATA]
+        assert len(data) == 60 * 48
+        for mask in range(1, 64) if cell in (0, 5, 31) else [2**group for group in range(6)]:
+            carriers, lit = ref.lit_carriers(PUSC_DL, 2048, cell, mask), lit_by_hand(PUSC_DL, 2048, mask)
+            assert all((carrier in carriers) == (subchannel in lit) for carrier, subchannel in data)
+
+
+def test_lit_pilots():
+    """Two of each lit cluster in each symbol, however the mask is made; with all groups lit, those of document 01. The
+    known pilot: at cell 0, carrier -840 is of physical cluster 0, which is logical 6, of group 0."""
+    for mask in range(1, 64):
+        for cell in (0, 12):
+            after = ref.ground(PUSC_DL, 2048, cell, mask, 7, [1, 2], [9] * 8192)[1]
+            clusters = sum(len(GROUP_CLUSTERS[group]) for group in range(6) if mask >> group & 1)
+            for row in (after[:4096], after[4096:]):
+                assert row.count(1) == row.count(2) == 2 * clusters and row.count(0) == 4096 - 4 * clusters
+        after = ref.ground(PUSC_DL, 2048, 0, mask, 0, [1, 2], [9] * 8192)[1]
+        assert after[4096 + 368 : 4096 + 370] == ([1, 2] if mask % 2 else [0, 0])
+
+
+def test_modes_without_groups():
+    """Mask 0 lights every subchannel and every used carrier; there is no other."""
+    for mode, size in SETUPS:
+        if mode == PUSC_DL:
+            continue
+        assert list(ref.masks(mode)) == [0] == [ref.full_mask(mode)]
+        assert ref.lit_subchannels(mode, size, 0) == tuple(range(ref.subchannels(mode, size)))
+        assert len(ref.lit_carriers(mode, size, 0, 0)) == ref.used_numbers(mode, size)
+        assert ref.lit_points_len(mode, size, 0) == ref.points_len(mode, size)
+    assert ref.full_mask(PUSC_DL) == 63 and ref.lit_points_len(PUSC_DL, 2048, 63) == ref.points_len(PUSC_DL, 2048)
+
+
+def test_question_17():
+    """1 to 63 in mode 0, zero in the others; put in each of the four calls, and by the length."""
+    for mode, size in SETUPS:
+        grid, points = [9] * ref.grid_floats(mode, size), [1] * 96
+        for mask in (*range(66), 127, 128, 255, 256, 2**16 + 1, 2**31, 2**32 - 64, 2**32 - 1):
+            right = 1 <= mask <= 63 if mode == PUSC_DL else mask == 0
+            fields = mode, size, 0, mask, 0
+            assert (ref.lit_points_len(mode, size, mask) > 0) == right
+            if right:
+                continue
+            assert ref.ground(*fields, [1, 2], grid) == (17, grid) and ref.lay(*fields, 0, points, grid) == (17, grid)
+            assert ref.empty(*fields, grid, points) == (17, points) and ref.look(*fields, grid, 0) == (17, None)
+            assert ref.look(mode, size, 0, mask, 2**32 - 1, [], size)[0] == 17
+            assert ref.look(mode, size, 2352, mask, 0, grid, 0)[0] == 3
+    assert ref.lit_points_len(7, 2048, 0) == ref.lit_points_len(0, 1024, 63) == ref.lit_points_len(2, 128, 0) == 0
+
+
+def test_unlit_subchannels():
+    """Laying one meets 5, before 8 and 9; emptied points are the others', wherever the hole is."""
+    grid = list(range(8192))
+    every = ref.empty(PUSC_DL, 2048, 9, 63, 4, grid, [0] * 5760)[1]
+    for mask in range(1, 64):
+        lit = lit_by_hand(PUSC_DL, 2048, mask)
+        for subchannel in [s for group in GROUP_SUBCHANNELS for s in (group[0], group[-1])]:
+            number, after = ref.lay(PUSC_DL, 2048, 9, mask, 4, subchannel, [0] * 96, grid)
+            assert (number, after == grid) == ((0, False) if subchannel in lit else (5, True))
+            if subchannel not in lit:
+                assert ref.lay(PUSC_DL, 2048, 9, mask, 4, subchannel, [], []) == (5, [])
+        wanted = [x for s in lit for x in every[96 * s : 96 * s + 96]]
+        assert ref.empty(PUSC_DL, 2048, 9, mask, 4, grid, [0] * len(wanted)) == (0, wanted)
+        if mask != 63:
+            assert ref.empty(PUSC_DL, 2048, 9, mask, 4, grid, [0] * 5760) == (8, [0] * 5760)
+
+
+def test_questions_of_calls_with_a_mask():
+    def ground(mode, size, cell, mask, slot, grid):
+        return ref.ground(mode, size, cell, mask, slot, [1, 2], grid)
+
+    # Empty and look write no grid; for them it is left where the points are, and where nothing is seen.
+    def empty(mode, size, cell, mask, slot, points, grid):
+        number, after = ref.empty(mode, size, cell, mask, slot, grid, points)
+        return number, grid if after == points else after
+
+    def look(mode, size, cell, mask, symbol, carrier, grid):
+        number, what = ref.look(mode, size, cell, mask, symbol, grid, carrier)
+        return number, grid if what is None else what
 
     for mode, size in SETUPS:
         cells, subchannels, floats = ref.cells(mode, size), ref.subchannels(mode, size), ref.grid_floats(mode, size)
-        good, wrong = [mode, size, cells - 1, 511], [7, 128, cells, 512]
-        for length in (0, floats - 2, floats - 1, floats + 1, floats + 2):
-            check_order(ground, [1, 2, 3, 4, 9], good + [[9] * floats], wrong + [[9] * length])
-        for length in (0, 94, 95, 97, 98, 96 * subchannels):
-            good_lay = good + [subchannels - 1, [1] * 96, [9] * floats]
-            wrong_lay = wrong + [subchannels, [1] * length, [9] * (floats - 1)]
-            check_order(ref.lay, [1, 2, 3, 4, 5, 8, 9], good_lay, wrong_lay)
+        symbols = 512 * ref.SLOT_LENGTH[mode]
+        for mask, wrong_mask in [(63, 0), (32, 64), (32, 2**32 - 1)] if mode == PUSC_DL else [(0, 63)]:
+            good, wrong = [mode, size, cells - 1, mask, 511], [7, 128, cells, wrong_mask, 512]
+            lit, unlit = 96 * len(lit_by_hand(mode, size, mask)), 0 if mask == 32 else subchannels
+            for off in (-2, -1, 1, 2):
+                check_order(ground, [1, 2, 3, 17, 4, 9], good + [[9] * floats], wrong + [[9] * (floats + off)])
+            for length in (0, 95, 97, 96 * subchannels):
+                good_lay = good + [subchannels - 1, [1] * 96, [9] * floats]
+                wrong_lay = wrong + [unlit, [1] * length, [9] * (floats - 1)]
+                check_order(ref.lay, [1, 2, 3, 17, 4, 5, 8, 9], good_lay, wrong_lay)
+            for off in (-96, 1, 96):
+                good_empty = good + [[1] * lit, [9] * floats]
+                wrong_empty = wrong + [[1] * (lit + off), [9] * (floats + 1)]
+                check_order(empty, [1, 2, 3, 17, 4, 8, 9], good_empty, wrong_empty)
+            good_look, wrong_look = good[:4] + [symbols - 1, 0, [9] * floats], wrong[:4] + [symbols, size // 2, [9]]
+            check_order(look, [1, 2, 3, 17, 4, 7, 9], good_look, wrong_look)
 
 
 # --- carriers count from DC -------------------------------------------------------------------
@@ -375,15 +565,15 @@ def test_question_7():
     """From minus half the size to half the size less 1; 4 is put before it, and 9 after."""
     for mode in ref.MODES:
         for size in ref.sizes(mode):
-            half, symbols = size // 2, 512 * ref.SLOT_LENGTH[mode]
+            half, symbols, mask = size // 2, 512 * ref.SLOT_LENGTH[mode], ref.full_mask(mode)
             grid = [0] * ref.grid_floats(mode, size)
             for carrier in (-half, -1, 0, 1, half - 1):
                 assert ref.locate(mode, size, 0, symbols - 1, carrier)[0] == 0
-                assert ref.look(mode, size, 0, symbols - 1, grid, carrier)[0] == 0
-                assert ref.look(mode, size, 0, symbols - 1, [], carrier)[0] == 9
+                assert ref.look(mode, size, 0, mask, symbols - 1, grid, carrier)[0] == 0
+                assert ref.look(mode, size, 0, mask, symbols - 1, [], carrier)[0] == 9
             for carrier in (-(2**31), -size, -half - 1, half, size - 1, size, 2**31 - 1):
                 assert ref.locate(mode, size, 0, symbols - 1, carrier) == (7, None)
-                assert ref.look(mode, size, 0, symbols - 1, [], carrier) == (7, None)
+                assert ref.look(mode, size, 0, mask, symbols - 1, [], carrier) == (7, None)
                 assert ref.locate(mode, size, 0, symbols, carrier) == (4, None)
 
 

@@ -3,8 +3,8 @@
 
     rt check zones && python3 tests/test_zones.py
 
-The inputs: no bytes, the two zones of document 01's example, AMC's slot shapes, every refusal that reading can meet,
-lengths about the 128 bytes that count, and input that arrives in pieces. Standard library only.
+The inputs: no bytes, the two zones of document 01's example, AMC's slot shapes, every mask, every refusal that reading can
+meet, lengths about the 128 bytes that count, and input that arrives in pieces. Standard library only.
 """
 
 import os
@@ -17,12 +17,16 @@ import reference as ref
 ROOT = os.path.dirname(os.path.dirname(os.path.abspath(__file__)))
 PROGRAM = os.path.join(ROOT, "target", "bin", "zones")
 
-EXAMPLE = bytes.fromhex("02800802110303B00101")
-EXAMPLE_TEXT = "2 17 3\n3 176 1\n"
+EXAMPLE = bytes.fromhex("0280080211030003B0010100")
+EXAMPLE_TEXT = "2 17 3 0\n3 176 1 0\n"
 
 # Each slot shape of AMC, behind optional FUSC.
-SHAPES = bytes.fromhex("05800802000106AF128004040001050002030003")
-SHAPES_TEXT = "2 0 1\n6 2351 512\n4 0 1\n5 0 2\n3 0 3\n"
+SHAPES = bytes.fromhex("0580080200010006AF12800400040001000500020003000300")
+SHAPES_TEXT = "2 0 1 0\n6 2351 512 0\n4 0 1 0\n5 0 2 0\n3 0 3 0\n"
+
+# PUSC downlink with all groups, with some and with the last one; between them a zone that has none.
+MASKS = bytes.fromhex("0480100000013F00051F1502000100001F800420")
+MASKS_TEXT = "0 0 1 63\n0 5 31 21\n2 0 1 0\n0 31 512 32\n"
 
 # (hex, the refusal); each number that reading can meet, by the words of document 01.
 REFUSALS = [
@@ -35,25 +39,34 @@ REFUSALS = [
     ("808080", 11),
     ("01808000", 11),
     ("00", 12),
-    ("0980080200010200010200010200010200010200010200010200010200010201", 12),
+    ("09800802000100020001000200010002000100020001000200010002000100020001000200010001", 12),
     ("0100", 2),
-    ("01810800000C", 2),
-    ("018008000001", 2),
-    ("018008010001", 1),
-    ("018008070001", 1),
-    ("01800802800201", 3),
+    ("01810800000C3F", 2),
+    ("0180080000013F", 2),
+    ("01800801000100", 1),
+    ("01800807000100", 1),
+    ("0180080280020100", 3),
     ("018008028001", 10),
-    ("018008020000", 13),
-    ("01800802008104", 13),
-    ("01801000200C", 3),
-    ("01801002000C", 14),
-    ("01801002050C", 14),
-    ("01801004000C", 14),
-    ("0280080300010200 01", 14),
-    ("028008050001020001", 14),
-    ("038008040001060001020001", 14),
-    ("038010000001060001000001", 14),
-    ("02800802110303B0010100", 15),
+    ("01800802000000", 13),
+    ("0180080200810400", 13),
+    ("01801000200C3F", 3),
+    ("01801002000C", 10),
+    ("01801002000C00", 14),
+    ("01801002050C00", 14),
+    ("01801004000C00", 14),
+    ("01801002000C3F", 17),
+    ("01801000000C00", 17),
+    ("01801000000C40", 17),
+    ("01801000000CBF01", 17),
+    ("01801000000CBF00", 11),
+    ("01800803000001", 13),
+    ("01800803000101", 17),
+    ("0280080300010002000100", 14),
+    ("0280080300010002000120", 17),
+    ("0280080500010002000100", 14),
+    ("038008040001000600010002000100", 14),
+    ("0380100000013F060001000000013F", 14),
+    ("0280080211030003B001010000", 15),
 ]
 
 
@@ -92,15 +105,19 @@ def of_length(length):
 
 def inputs():
     yield EXAMPLE
-    yield bytes.fromhex("01801000000C")
-    yield bytes.fromhex("01801000050C")
+    yield bytes.fromhex("01801000000C3F")
+    yield bytes.fromhex("01801000050C3F")
     yield SHAPES
-    yield bytes.fromhex("03801000050C06AF128004050001")
-    yield bytes([8, 0x80, 0x10, 0, 0, 1]) + bytes([2, 0xFF, 7, 0x80, 4]) * 7
+    yield MASKS
+    yield bytes.fromhex("03801000050C3F06AF1280040005000100")
+    yield bytes([8, 0x80, 0x10, 0, 0, 1, 63]) + bytes([2, 0xFF, 7, 0x80, 4, 0]) * 7
+    yield bytes([8, 0x80, 0x08]) + bytes([3, 0xAF, 0x12, 0x80, 4, 0]) * 8
     for text, _ in REFUSALS:
         yield bytes.fromhex(text)
     for end in range(len(EXAMPLE)):
         yield EXAMPLE[:end]
+    for mask in range(65):
+        yield bytes([1, 0x80, 0x10, 0, 0, 12, mask])
     for length in (127, 128, 129, 10000):
         for data in of_length(length):
             yield data[:length]
@@ -109,13 +126,14 @@ def inputs():
 def main():
     assert printed(EXAMPLE) == EXAMPLE_TEXT
     assert printed(SHAPES) == SHAPES_TEXT
+    assert printed(MASKS) == MASKS_TEXT
     for text, number in REFUSALS:
         assert printed(bytes.fromhex(text)) == "refused %d\n" % number, text
     for data in inputs():
         assert printed(data) == ref.zones_text(data), data.hex()
         if len(data) < 130:
             assert byte_by_byte(data) == ref.zones_text(data), data.hex()
-    assert printed_in_pieces([EXAMPLE[:4], EXAMPLE[4:9], EXAMPLE[9:]]) == EXAMPLE_TEXT
+    assert printed_in_pieces([EXAMPLE[:4], EXAMPLE[4:10], EXAMPLE[10:]]) == EXAMPLE_TEXT
     print("zones: the program prints what the reference does")
 
 

@@ -333,16 +333,16 @@ ROOM, BEFORE = 48, 238
 
 # Plans as (size, zones).
 PLANS = [
-    (1024, [(2, 17, 3), (3, 176, 1)]),
-    (2048, [(0, 0, 12)]),
-    (2048, [(0, 5, 12)]),
-    (256, [(2, 15, 512)]),
-    (512, [(3, 2351, 1), (3, 0, 512)]),
-    (2048, [(0, 17, 1), (2, 1023, 512), (0, 31, 2), (3, 48, 127), (3, 2351, 128)]),
-    (2048, [(0, 0, 1)] + [(2, 1023, 512)] * 7),
-    (1024, [(3, 2351, 512)] * 8),
-    (512, [(2, 17, 3), (4, 176, 1), (6, 0, 512), (5, 2351, 2), (3, 48, 1)]),
-    (2048, [(0, 5, 12), (6, 2351, 512), (4, 0, 1)]),
+    (1024, [(2, 17, 3, 0), (3, 176, 1, 0)]),
+    (2048, [(0, 0, 12, 63)]),
+    (2048, [(0, 5, 12, 63)]),
+    (256, [(2, 15, 512, 0)]),
+    (512, [(3, 2351, 1, 0), (3, 0, 512, 0)]),
+    (2048, [(0, 17, 1, 21), (2, 1023, 512, 0), (0, 31, 2, 32), (3, 48, 127, 0), (3, 2351, 128, 0)]),
+    (2048, [(0, 0, 1, 1)] + [(2, 1023, 512, 0)] * 7),
+    (1024, [(3, 2351, 512, 0)] * 8),
+    (512, [(2, 17, 3, 0), (4, 176, 1, 0), (6, 0, 512, 0), (5, 2351, 2, 0), (3, 48, 1, 0)]),
+    (2048, [(0, 5, 12, 42), (6, 2351, 512, 0), (4, 0, 1, 0)]),
 ]
 
 
@@ -351,7 +351,7 @@ def plans_answer(request):
         number, count, size, zones = ref.read_plan(request[2:])
         return " ".join(map(str, [number, count, size] + [x for zone in zones for x in zone]))
     length, count, size = request[1:4]
-    zones = [tuple(request[i : i + 3]) for i in range(4, 28, 3)]
+    zones = [tuple(request[i : i + 4]) for i in range(4, 36, 4)]
     number, written, dest = ref.write_plan(count, size, zones, [BEFORE] * length)
     return " ".join(map(str, [number, written] + dest + [BEFORE] * (ROOM - length)))
 
@@ -370,39 +370,60 @@ def plan_bytes(count, size, zones):
     return [byte for x in [count, size] + [x for zone in zones for x in zone] for byte in ref.write_value(x)]
 
 
+def lit_zone(mode, cell, slots):
+    """A zone where all is lit."""
+    return mode, cell, slots, ref.full_mask(mode)
+
+
 def one_zone(size, zone):
     """A zone where no rule on its order speaks: alone, or behind a first zone that is right."""
-    return [(0, 0, 1), zone] if size == 2048 else [zone]
+    return [lit_zone(0, 0, 1), zone] if size == 2048 else [zone]
 
 
 def limit_plans():
     """(count, size, zones) about the limits: accepted, with one fault, and with two, where the first question decides."""
-    good = [(2, 3, 4)]
+    good = [(2, 3, 4, 0)]
     for count in (0, 9, 127, 128):
         yield count, 1024, good * min(count, 9)
     yield 0, 1000, []
-    yield 9, 128, [(1, 9999, 0)]
+    yield 9, 128, [(1, 9999, 0, 1)]
     for size in (0, 64, 128, 255, 1023, 1025, 4096):
         yield 1, size, good
-        yield 1, size, [(1, 9999, 0)]
+        yield 1, size, [(1, 9999, 0, 1)]
     for size in ref.BIN_SIZES:
         for mode in (*ref.MODES, ref.UNLISTED, 127, 128):
             for cell in (0, 31, 32, 255, 256, 1023, 1024, 2351, 2352):
                 for slots in (0, 1, 512, 513):
-                    if mode not in ref.PLAN_MODES and cell not in (0, 2352):
+                    if (mode not in ref.PLAN_MODES or slots in (0, 513)) and cell not in (0, 2352):
                         continue
-                    if slots in (0, 513) and cell in (31, 255):
-                        continue
-                    zones = one_zone(size, (mode, cell, slots))
+                    zones = one_zone(size, lit_zone(mode, cell, slots))
                     yield len(zones), size, zones
         for slots in (0, 1, 512, 513):
-            yield 1, size, [(3, 5, slots)]
-            yield 2, size, one_zone(256, (0, 0, slots)) * 2
+            yield 1, size, [lit_zone(3, 5, slots)]
+            yield 2, size, [lit_zone(0, 0, slots)] * 2
     firsts = [(0, cell, 1) for cell in range(33)] + [(2, 0, 1), (2, 5, 1), (3, 0, 1), (3, 5, 1), (2, 0, 0), (1, 0, 0)]
     for first in firsts:
-        yield 1, 2048, [first]
-        yield 2, 2048, [first, (3, 1, 1)]
+        yield 1, 2048, [lit_zone(*first)]
+        yield 2, 2048, [lit_zone(*first), lit_zone(3, 1, 1)]
+    yield from masked_plans()
     yield from ordered_plans()
+
+
+def masked_plans():
+    """(count, size, zones): every mask of mode 0; masks of each mode, good and not, alone and with a fault that is met
+    before it (the mode, the size, the cell, the slots) or after it (the order, the plan's end)."""
+    for mask in range(1, 64):
+        yield 1, 2048, [(0, mask % 32, 1, mask)]
+    for mode in (*ref.MODES, ref.UNLISTED):
+        for mask in (0, 1, 63, 64, 16384 + 63, 2**21 - 1):
+            yield 2, 2048, one_zone(2048, (mode, 1, 1, mask))
+            yield 1, 256, [(mode, 1, 1, mask)]
+        for mask in (0, 63, 64):
+            yield 1, 2048, [(mode, 1, 1, mask)]
+            yield 3, 2048, one_zone(2048, (mode, 1, 1, mask))
+            yield 2, 2048, one_zone(2048, (mode, 2352, 0, mask))
+            yield 2, 2048, one_zone(2048, (mode, 1, 0, mask))
+            yield 3, 2048, one_zone(2048, lit_zone(6, 1, 1)) + [(mode, 1, 1, mask)]
 
 
 def ordered_plans():
@@ -411,12 +432,12 @@ def ordered_plans():
     modes = (*ref.MODES, ref.UNLISTED)
     for size in ref.BIN_SIZES:
         for mode in modes:
-            yield 1, size, [(mode, 1, 1)]
-            start = one_zone(size, (mode, 1, 1))
+            yield 1, size, [lit_zone(mode, 1, 1)]
+            start = one_zone(size, lit_zone(mode, 1, 1))
             for after in modes:
-                yield len(start) + 1, size, start + [(after, 1, 1)]
+                yield len(start) + 1, size, start + [lit_zone(after, 1, 1)]
                 if mode in ref.SHAPES and after not in ref.SHAPES:
-                    yield len(start) + 1, size, start + [(after, 1, 0)]
+                    yield len(start) + 1, size, start + [lit_zone(after, 1, 0)]
 
 
 def changed_bytes(data):
@@ -435,6 +456,7 @@ def plan_readings():
         yield [1, 0x80, 0x08] + data
         yield [1, 0x80, 0x08, 2] + data
         yield [1, 0x80, 0x08, 2, 3] + data
+        yield [1, 0x80, 0x08, 2, 3, 4] + data
     for size, zones in PLANS:
         data = plan_bytes(len(zones), size, zones)
         for end in range(len(data)):
@@ -446,11 +468,13 @@ def plan_readings():
     for count, size, zones in limit_plans():
         data = plan_bytes(count, size, zones)
         yield data
-        yield data + [0]
+        if size == 2048:
+            yield data + [0]
     yield [0, 0x80]
     yield [1, 0, 0x80]
     yield [1, 0x80, 0x08, 1, 0]
-    yield [2, 0x80, 0x10, 2, 0, 1]
+    yield [1, 0x80, 0x08, 1, 0, 1]
+    yield [2, 0x80, 0x10, 2, 0, 1, 0]
 
 
 def with_number(zones, place, field, value):
@@ -461,24 +485,26 @@ def with_number(zones, place, field, value):
 
 def plan_writings():
     for size, zones in PLANS:
-        for length in range(len(plan_bytes(len(zones), size, zones)) + 2):
-            yield length, len(zones), size, zones
+        need = len(plan_bytes(len(zones), size, zones))
+        for length in range(need + 2) if need < 20 else (0, 1, need // 2, need - 1, need, need + 1):
+            if length <= ROOM:
+                yield length, len(zones), size, zones
         for place in sorted({len(zones), 7}):
-            for field in range(3):
+            for field in range(4):
                 if len(zones) < ref.PLACES:
                     yield ROOM, len(zones), size, with_number(zones, place, field, 1)
                     yield ROOM, len(zones), size, with_number(zones, place, field, LARGEST)
         for count in (0, 9, 2**32, LARGEST):
             yield ROOM, count, size, zones
             yield 0, count, size, zones
-        for field in range(3):
-            for value in (2**21, 2**32, LARGEST):
+        for field in range(4):
+            for value in (2**21, 2**32, 2**32 + 63, LARGEST):
                 yield ROOM, len(zones), size, with_number(zones, len(zones) - 1, field, value)
     for count, size, zones in limit_plans():
         if len(zones) <= ref.PLACES:
             yield ROOM, count, size, zones
     for size in (1024 + 2**32, LARGEST):
-        yield ROOM, 1, size, [(2, 3, 4)]
+        yield ROOM, 1, size, [(2, 3, 4, 0)]
     yield ROOM, 1, 1024, []
 
 

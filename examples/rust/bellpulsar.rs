@@ -1,4 +1,4 @@
-//! Bellpulsar from Rust: version 3 of the C interface, `include/bellpulsar.h`, declared, and a safe wrapper over each of its
+//! Bellpulsar from Rust: version 4 of the C interface, `include/bellpulsar.h`, declared, and a safe wrapper over each of its
 //! calls.
 //!
 //! Put this file beside your program, write `mod bellpulsar;`, and link the static library:
@@ -28,20 +28,23 @@ mod c {
             kind: *mut u32, slot: *mut u32, subchannel: *mut u32, index: *mut u32,
         ) -> u32;
         pub fn bp_points_len(mode: u32, size: u32) -> usize;
+        pub fn bp_lit_points_len(mode: u32, size: u32, mask: u32) -> usize;
         pub fn bp_grid_len(mode: u32, size: u32) -> usize;
         pub fn bp_ground(
-            mode: u32, size: u32, cell: u32, slot: u32, pilot: *const f32, grid: *mut f32, grid_len: usize,
+            mode: u32, size: u32, cell: u32, mask: u32, slot: u32, pilot: *const f32,
+            grid: *mut f32, grid_len: usize,
         ) -> u32;
         pub fn bp_lay(
-            mode: u32, size: u32, cell: u32, slot: u32, subchannel: u32,
+            mode: u32, size: u32, cell: u32, mask: u32, slot: u32, subchannel: u32,
             points: *const f32, points_len: usize, grid: *mut f32, grid_len: usize,
         ) -> u32;
         pub fn bp_empty(
-            mode: u32, size: u32, cell: u32, slot: u32,
+            mode: u32, size: u32, cell: u32, mask: u32, slot: u32,
             grid: *const f32, grid_len: usize, points: *mut f32, points_len: usize,
         ) -> u32;
         pub fn bp_look(
-            mode: u32, size: u32, cell: u32, symbol: u32, grid: *const f32, grid_len: usize, carrier: i32,
+            mode: u32, size: u32, cell: u32, mask: u32, symbol: u32,
+            grid: *const f32, grid_len: usize, carrier: i32,
             kind: *mut u32, point: *mut f32, slot: *mut u32, subchannel: *mut u32, index: *mut u32,
         ) -> u32;
         pub fn bp_ofusc_collisions(
@@ -49,10 +52,10 @@ mod c {
             hits: *mut u8, count: *mut u32,
         ) -> u32;
         pub fn bp_amc_collisions(cell_a: u32, cell_b: u32, hits: *mut u8, count: *mut u32) -> u32;
-        pub fn bp_plan_read(
+        pub fn bp_zone_plan_read(
             bytes: *const u8, len: usize, count: *mut u32, size: *mut u32, zones: *mut u32,
         ) -> u32;
-        pub fn bp_plan_write(
+        pub fn bp_zone_plan_write(
             count: u32, size: u32, zones: *const u32, dest: *mut u8, dest_len: usize, written: *mut u32,
         ) -> u32;
     }

@@ -9,14 +9,14 @@ import sys
 
 ROOT = os.path.dirname(os.path.dirname(os.path.dirname(os.path.abspath(__file__))))
 BUILDER = os.path.join(ROOT, "build.sh")
-VERSION = 3  # of the interface as it is called here: the header's BP_VERSION
+VERSION = 4  # of the interface as it is called here: the header's BP_VERSION
 BUILT = os.path.join(ROOT, "build", "libbellpulsar.so.%d" % VERSION)
 
 uint = ctypes.c_uint32
 int32 = ctypes.c_int32
 Pair = ctypes.c_float * 2
 Hits = ctypes.c_uint8 * 48
-Zones = uint * 24
+Zones = uint * 32
 
 _out = ctypes.POINTER(uint)
 _address = ctypes.c_void_p
@@ -26,15 +26,16 @@ _PROTOTYPES = {
     "bp_place": [uint] * 6 + [_out, ctypes.POINTER(int32)],
     "bp_locate": [uint] * 4 + [int32] + [_out] * 4,
     "bp_points_len": [uint] * 2,
+    "bp_lit_points_len": [uint] * 3,
     "bp_grid_len": [uint] * 2,
-    "bp_ground": [uint] * 4 + [Pair, _address, _length],
-    "bp_lay": [uint] * 5 + [_address, _length, _address, _length],
-    "bp_empty": [uint] * 4 + [_address, _length, _address, _length],
-    "bp_look": [uint] * 4 + [_address, _length, int32, _out, Pair] + [_out] * 3,
+    "bp_ground": [uint] * 5 + [Pair, _address, _length],
+    "bp_lay": [uint] * 6 + [_address, _length, _address, _length],
+    "bp_empty": [uint] * 5 + [_address, _length, _address, _length],
+    "bp_look": [uint] * 5 + [_address, _length, int32, _out, Pair] + [_out] * 3,
     "bp_ofusc_collisions": [uint] * 5 + [Hits, _out],
     "bp_amc_collisions": [uint] * 2 + [Hits, _out],
-    "bp_plan_read": [_address, _length, _out, _out, Zones],
-    "bp_plan_write": [uint, uint, Zones, _address, _length, _out],
+    "bp_zone_plan_read": [_address, _length, _out, _out, Zones],
+    "bp_zone_plan_write": [uint, uint, Zones, _address, _length, _out],
 }
 
 

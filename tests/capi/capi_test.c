@@ -44,6 +44,11 @@ struct length_row {
     size_t points_len, grid_len;
 };
 
+struct lit_row {
+    uint32_t mode, size, mask;
+    size_t points_len;
+};
+
 #include "table.h"
 
 #define COUNT(rows) (sizeof(rows) / sizeof((rows)[0]))
@@ -213,10 +218,25 @@ static int test_lengths(void)
     return wrong;
 }
 
+static int test_lit_lengths(void)
+{
+    int wrong = 0;
+    for (size_t i = 0; i < COUNT(lit_rows); i++) {
+        const struct lit_row *row = &lit_rows[i];
+        if (bp_lit_points_len(row->mode, row->size, row->mask) == row->points_len)
+            continue;
+        wrong = 1;
+        printf("bp_lit_points_len differs: mode %" PRIu32 " size %" PRIu32 " mask %" PRIu32 "\n", row->mode, row->size,
+               row->mask);
+    }
+    return wrong;
+}
+
 int main(void)
 {
-    int wrong = test_place() | test_locate() | test_ofusc_collisions() | test_amc_collisions() | test_lengths();
+    int wrong = test_place() | test_locate() | test_ofusc_collisions() | test_amc_collisions() | test_lengths() |
+                test_lit_lengths();
     if (!wrong)
-        puts("capi: place, locate, both collision calls and both lengths agree with the reference");
+        puts("capi: place, locate, both collision calls and the three lengths agree with the reference");
     return wrong;
 }

@@ -1,4 +1,5 @@
-"""Prints the grids that grid_test.c includes, one for each mode and size, from a fixed seed. Floats are bit patterns.
+"""Prints the grids that grid_test.c includes, one for each mode and size where all is lit and some more for masks, from a
+fixed seed, and the major groups of PUSC downlink. Floats are bit patterns.
 
     python3 tests/capi/grid_table.py > build/capi/grid_table.h
 """
@@ -31,26 +32,31 @@ def pattern(dice):
     return bits + dice.choice([0, SIGN])
 
 
-def case(dice, mode, size):
+# Mode, size and mask of each grid: all lit; then one group at either end, every second one, and holes in the middle.
+CASES = [(mode, size, ref.full_mask(mode)) for mode in ref.MODES for size in ref.sizes(mode)]
+CASES += [(ref.PUSC_DL, 2048, mask) for mask in (1, 32, 0b010101, 0b101010, 0b110011, 0b001011)]
+
+
+def case(dice, mode, size, mask):
     cell, slot = dice.randrange(ref.cells(mode, size)), dice.randrange(512)
     pilot = [pattern(dice), pattern(dice)]
-    points = [pattern(dice) for _ in range(96 * ref.subchannels(mode, size))]
-    number, grid = ref.fill(mode, size, cell, slot, pilot, points, [1] * ref.grid_floats(mode, size))
+    points = [pattern(dice) for _ in range(ref.lit_points_len(mode, size, mask))]
+    number, grid = ref.fill(mode, size, cell, mask, slot, pilot, points, [1] * ref.grid_floats(mode, size))
     assert number == 0
-    assert ref.empty(mode, size, cell, slot, grid, [1] * len(points)) == (0, points)
+    assert ref.empty(mode, size, cell, mask, slot, grid, [1] * len(points)) == (0, points)
     return cell, slot, pilot, points, grid
 
 
-def grounded(mode, size, cell, slot, pilot):
+def grounded(mode, size, cell, mask, slot, pilot):
     """The ground of a slot's grid."""
-    number, grid = ref.ground(mode, size, cell, slot, pilot, [1] * ref.grid_floats(mode, size))
+    number, grid = ref.ground(mode, size, cell, mask, slot, pilot, [1] * ref.grid_floats(mode, size))
     assert number == 0
     return grid
 
 
-def places(mode, size, cell, slot):
-    """Where the two floats of each point start in a slot's grid, by subchannel and index."""
-    addresses = [(s, m) for s in range(ref.subchannels(mode, size)) for m in range(ref.POINTS)]
+def places(mode, size, cell, mask, slot):
+    """Where the two floats of each point start in a slot's grid, by lit subchannel and index."""
+    addresses = [(s, m) for s in ref.lit_subchannels(mode, size, mask) for m in range(ref.POINTS)]
     placed = [ref.place(mode, size, cell, slot, s, m) for s, m in addresses]
     return [ref.grid_at(mode, size, symbol, carrier) for _, symbol, carrier in placed]
 
@@ -59,23 +65,35 @@ def words(numbers):
     return ", ".join("0x%Xu" % number for number in numbers)
 
 
+def print_groups():
+    """The major group of each subchannel, and of each physical cluster by the cell: what a mask of that group lights."""
+    groups = [[g for g in range(6) if s in ref.lit_subchannels(ref.PUSC_DL, 2048, 2**g)] for s in range(60)]
+    print("static const uint32_t subchannel_groups[60] = {%s};" % words(sum(groups, [])))
+    print("static const uint32_t cluster_groups[32][120] = {")
+    for cell in range(32):
+        lit = [ref.lit_carriers(ref.PUSC_DL, 2048, cell, 2**g) for g in range(6)]
+        firsts = [ref.carrier_of_used(ref.PUSC_DL, 2048, 14 * cluster) for cluster in range(120)]
+        print("    {%s}," % words([g for first in firsts for g in range(6) if first in lit[g]]))
+    print("};")
+
+
 def main():
     dice = random.Random(17)
     rows = []
-    for mode in ref.MODES:
-        for size in ref.sizes(mode):
-            cell, slot, pilot, points, grid = case(dice, mode, size)
-            arrays = {
-                "points": points,
-                "places": places(mode, size, cell, slot),
-                "ground": grounded(mode, size, cell, slot, pilot),
-                "grid": grid,
-            }
-            n = len(rows)
-            for name, numbers in arrays.items():
-                print("static const uint32_t %s_%d[] = {%s};" % (name, n, words(numbers)))
-            names = ", ".join("%s_%d" % (name, n) for name in arrays)
-            rows.append("{%s, {%s}, %s}" % (words([mode, size, cell, slot]), words(pilot), names))
+    print_groups()
+    for mode, size, mask in CASES:
+        cell, slot, pilot, points, grid = case(dice, mode, size, mask)
+        arrays = {
+            "points": points,
+            "places": places(mode, size, cell, mask, slot),
+            "ground": grounded(mode, size, cell, mask, slot, pilot),
+            "grid": grid,
+        }
+        n = len(rows)
+        for name, numbers in arrays.items():
+            print("static const uint32_t %s_%d[] = {%s};" % (name, n, words(numbers)))
+        names = ", ".join("%s_%d" % (name, n) for name in arrays)
+        rows.append("{%s, {%s}, %s}" % (words([mode, size, cell, mask, slot]), words(pilot), names))
     print("static const struct grid_row grid_rows[] = {\n    %s,\n};" % ",\n    ".join(rows))
 
 

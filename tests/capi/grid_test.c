@@ -2,8 +2,8 @@
    made, and grids of every mode and size worked out here by place and locate. NaNs of both kinds with payloads,
    infinities, signed zeros and subnormals stand among the points and in the pilot point. Each lay is made alone, where
    every float but its own keeps its bits, and all are made in a shuffled order with repeats, where the last one of a
-   subchannel counts. Then every set of wrong fields: the first refusal, and nothing written. Floats are read and
-   written as bit patterns only. Run by run.sh. */
+   subchannel counts; an unlit one is refused. All 63 masks of PUSC downlink are gone through. Then every set of wrong
+   fields: the first refusal, and nothing written. Floats are read and written as bit patterns only. Run by run.sh. */
 #include <inttypes.h>
 #include <stddef.h>
 #include <stdint.h>
@@ -12,10 +12,10 @@
 
 #include "bellpulsar.h"
 
-/* A slot and the bits that its buffers hold: its points, its ground, and its grid when every subchannel is laid.
-   places: where the two floats of each point start in the grid. */
+/* A slot and the bits that its buffers hold: the points of its lit subchannels, its ground, and its grid when each of
+   these is laid. places: where the two floats of each point start in the grid. */
 struct grid_row {
-    uint32_t mode, size, cell, slot, pilot[2];
+    uint32_t mode, size, cell, mask, slot, pilot[2];
     const uint32_t *points, *places, *ground, *grid;
 };
 
@@ -24,6 +24,7 @@ struct grid_row {
 #define COUNT(rows) (sizeof(rows) / sizeof((rows)[0]))
 
 enum { KIND_GUARD = 0, KIND_DC = 1, KIND_PILOT = 2, KIND_DATA = 3, SLOTS = 512, POINTS = 48 };
+enum { PUSC_DL = 0, FULL_MASK = 63, CLUSTER = 14 }; /* of PUSC downlink; a cluster is so many used numbers */
 enum { LAID = 2 * POINTS }; /* the floats of one subchannel */
 enum { MOST_SUBCHANNELS = 192, MOST_POINTS = LAID * MOST_SUBCHANNELS, MOST_GRID = 2 * 6 * 2048, EDGE = 4 };
 enum { UNLISTED = 7 }; /* the first number that is no mode */
@@ -44,8 +45,47 @@ static const struct setup setups[] = {
 /* The lowest carrier is minus half the size, the highest is half the size less 1. */
 static int32_t half(const struct setup *s) { return (int32_t)(s->size / 2); }
 
-static size_t points_floats(const struct setup *s) { return LAID * (size_t)s->subchannels; }
 static size_t grid_floats(const struct setup *s) { return 2 * (size_t)s->size * s->symbols; }
+
+/* --- what a mask lights ---------------------------------------------------------------------- */
+
+static int lit_subchannel(const struct setup *s, uint32_t mask, uint32_t subchannel)
+{
+    return s->mode != PUSC_DL || (mask >> subchannel_groups[subchannel] & 1);
+}
+
+/* Of a used carrier: its cluster's group. */
+static int lit_carrier(const struct setup *s, uint32_t cell, uint32_t mask, int32_t carrier)
+{
+    int32_t used = carrier + CLUSTER * 60 - (carrier > 0);
+    return s->mode != PUSC_DL || (mask >> cluster_groups[cell][used / CLUSTER] & 1);
+}
+
+/* The lit subchannels, rising, and how many they are. */
+static uint32_t lit_list(const struct setup *s, uint32_t mask, uint32_t *list)
+{
+    uint32_t n = 0;
+    for (uint32_t subchannel = 0; subchannel < s->subchannels; subchannel++)
+        if (lit_subchannel(s, mask, subchannel))
+            list[n++] = subchannel;
+    return n;
+}
+
+/* How many lit subchannels are below this one. */
+static uint32_t rank_of(const struct setup *s, uint32_t mask, uint32_t subchannel)
+{
+    uint32_t list[MOST_SUBCHANNELS], end = lit_list(s, mask, list), rank = 0;
+    while (rank < end && list[rank] < subchannel)
+        rank++;
+    return rank;
+}
+
+/* The floats of the lit subchannels' points. */
+static size_t points_floats(const struct setup *s, uint32_t mask)
+{
+    uint32_t list[MOST_SUBCHANNELS];
+    return LAID * (size_t)lit_list(s, mask, list);
+}
 
 /* --- buffers between guard words ------------------------------------------------------------- */
 
@@ -147,14 +187,21 @@ static const uint32_t pilots[][2] = {
 /* --- a slot's grid by place and locate ------------------------------------------------------- */
 
 static uint32_t want_points[MOST_POINTS], want_places[MOST_POINTS / 2], want_ground[MOST_GRID], want_grid[MOST_GRID];
-static unsigned char want_kinds[MOST_GRID / 2];
+static uint32_t want_kinds[MOST_GRID / 2];
 
 static size_t grid_at(const struct setup *s, uint32_t symbol, int32_t carrier)
 {
     return 2 * ((size_t)(symbol % s->symbols) * s->size + (size_t)(half(s) + carrier));
 }
 
-/* The kinds of all carriers, and the pilot point on pilots. */
+/* What look tells of a carrier: nothing of guards, of DC, and of what is unlit. */
+static uint32_t seen_kind(const struct setup *s, uint32_t cell, uint32_t mask, int32_t carrier, uint32_t kind)
+{
+    int used = kind == KIND_PILOT || kind == KIND_DATA;
+    return used && lit_carrier(s, cell, mask, carrier) ? kind : BP_NOTHING;
+}
+
+/* The kinds of all carriers as look tells them, and the pilot point on lit pilots. */
 static int work_out_ground(const struct setup *s, const struct grid_row *row)
 {
     memset(want_ground, 0, sizeof want_ground);
@@ -164,24 +211,25 @@ static int work_out_ground(const struct setup *s, const struct grid_row *row)
             size_t at = grid_at(s, symbol, carrier);
             if (bp_locate(s->mode, s->size, row->cell, symbol, carrier, &kind, &of, &subchannel, &index))
                 return 0;
-            want_kinds[at / 2] = (unsigned char)kind;
-            if (kind == KIND_PILOT)
+            want_kinds[at / 2] = seen_kind(s, row->cell, row->mask, carrier, kind);
+            if (want_kinds[at / 2] == KIND_PILOT)
                 memcpy(want_ground + at, row->pilot, sizeof row->pilot);
         }
     }
     return 1;
 }
 
-/* Every point, its place, and the ground with all of them on it. */
+/* Every point of the lit subchannels, its place, and the ground with all of them on it. Each lies on a lit carrier. */
 static int work_out_points(const struct setup *s, const struct grid_row *row)
 {
+    uint32_t list[MOST_SUBCHANNELS], points_end = POINTS * lit_list(s, row->mask, list);
     memcpy(want_grid, want_ground, sizeof want_grid);
-    for (uint32_t n = 0; n < points_floats(s); n++)
-        want_points[n] = point_bits(n);
-    for (uint32_t n = 0; n < points_floats(s) / 2; n++) {
+    for (uint32_t n = 0; n < points_end; n++) {
         uint32_t symbol;
         int32_t carrier;
-        if (bp_place(s->mode, s->size, row->cell, row->slot, n / POINTS, n % POINTS, &symbol, &carrier))
+        want_points[2 * n] = point_bits(2 * n);
+        want_points[2 * n + 1] = point_bits(2 * n + 1);
+        if (bp_place(s->mode, s->size, row->cell, row->slot, list[n / POINTS], n % POINTS, &symbol, &carrier))
             return 0;
         size_t at = grid_at(s, symbol, carrier);
         if (want_kinds[at / 2] != KIND_DATA)
@@ -204,24 +252,26 @@ static int ground_agrees(const struct setup *s, const struct grid_row *row)
     spoil(&grid, sizeof grid);
     spoil(&pair, sizeof pair);
     copy_bits(pair.at, row->pilot, 2);
-    return bp_ground(s->mode, s->size, row->cell, row->slot, pair.at, grid.at, grid_floats(s)) == 0 &&
+    return bp_ground(s->mode, s->size, row->cell, row->mask, row->slot, pair.at, grid.at, grid_floats(s)) == 0 &&
            holds(&grid, sizeof grid, row->ground, grid_floats(s)) && holds(&pair, sizeof pair, row->pilot, 2);
 }
 
-/* Lays these bits on the grid as it stands. */
+/* Lays these bits on the grid as it stands; an unlit subchannel is refusal 5. */
 static int lay(const struct setup *s, const struct grid_row *row, uint32_t subchannel, const uint32_t *bits)
 {
+    uint32_t refusal = lit_subchannel(s, row->mask, subchannel) ? 0 : 5;
     spoil(&laid, sizeof laid);
     copy_bits(laid.at, bits, LAID);
-    return bp_lay(s->mode, s->size, row->cell, row->slot, subchannel, laid.at, LAID, grid.at, grid_floats(s)) == 0 &&
+    return bp_lay(s->mode, s->size, row->cell, row->mask, row->slot, subchannel, laid.at, LAID, grid.at,
+                  grid_floats(s)) == refusal &&
            holds(&laid, sizeof laid, bits, LAID);
 }
 
-/* One lay alone, on a grid of its own bits: just the subchannel's floats change. */
-static int lay_agrees(const struct setup *s, const struct grid_row *row, uint32_t subchannel)
+/* One lay alone, on a grid of its own bits: just the floats of the n-th lit subchannel change. */
+static int lay_agrees(const struct setup *s, const struct grid_row *row, uint32_t subchannel, uint32_t n)
 {
     static uint32_t after[MOST_GRID];
-    const uint32_t *bits = row->points + LAID * subchannel, *places = row->places + POINTS * subchannel;
+    const uint32_t *bits = row->points + LAID * n, *places = row->places + POINTS * n;
     spoil(&grid, sizeof grid);
     memcpy(after, old_bits + EDGE, sizeof after);
     for (uint32_t index = 0; index < POINTS; index++)
@@ -229,11 +279,22 @@ static int lay_agrees(const struct setup *s, const struct grid_row *row, uint32_
     return lay(s, row, subchannel, bits) && holds(&grid, sizeof grid, after, grid_floats(s));
 }
 
+/* An unlit lay, on a grid of its own bits: they all stay. */
+static int unlit_lay_agrees(const struct setup *s, const struct grid_row *row, uint32_t subchannel)
+{
+    spoil(&grid, sizeof grid);
+    return lay(s, row, subchannel, row->points) && untouched(&grid, sizeof grid);
+}
+
 static int lays_agree(const struct setup *s, const struct grid_row *row)
 {
-    for (uint32_t subchannel = 0; subchannel < s->subchannels; subchannel++)
-        if (!lay_agrees(s, row, subchannel))
+    uint32_t n = 0;
+    for (uint32_t subchannel = 0; subchannel < s->subchannels; subchannel++) {
+        int lit = lit_subchannel(s, row->mask, subchannel);
+        if (!(lit ? lay_agrees(s, row, subchannel, n) : unlit_lay_agrees(s, row, subchannel)))
             return 0;
+        n += (uint32_t)lit;
+    }
     return 1;
 }
 
@@ -264,7 +325,8 @@ static int occurs(const uint32_t *from, const uint32_t *to, uint32_t number)
     return from < to;
 }
 
-/* The ground, then lays in any order with repeats: every bit turned over, but not when a subchannel comes last. */
+/* The ground, then lays in any order with repeats: every bit turned over, but not when a subchannel comes last. The unlit
+   ones, whichever bits they are given, leave nothing. */
 static int moves_agree(const struct setup *s, const struct grid_row *row)
 {
     uint32_t order[2 * MOST_SUBCHANNELS], bits[LAID], *end = order + 2 * s->subchannels;
@@ -273,8 +335,9 @@ static int moves_agree(const struct setup *s, const struct grid_row *row)
         return 0;
     for (const uint32_t *subchannel = order; subchannel < end; subchannel++) {
         uint32_t turned = occurs(subchannel + 1, end, *subchannel) ? UINT32_MAX : 0;
+        uint32_t rank = lit_subchannel(s, row->mask, *subchannel) ? rank_of(s, row->mask, *subchannel) : 0;
         for (uint32_t n = 0; n < LAID; n++)
-            bits[n] = row->points[LAID * *subchannel + n] ^ turned;
+            bits[n] = row->points[LAID * rank + n] ^ turned;
         if (!lay(s, row, *subchannel, bits))
             return 0;
     }
@@ -286,28 +349,29 @@ static int empty_agrees(const struct setup *s, const struct grid_row *row)
     spoil(&points, sizeof points);
     spoil(&grid, sizeof grid);
     copy_bits(grid.at, row->grid, grid_floats(s));
-    uint32_t refusal =
-        bp_empty(s->mode, s->size, row->cell, row->slot, grid.at, grid_floats(s), points.at, points_floats(s));
-    return refusal == 0 && holds(&points, sizeof points, row->points, points_floats(s)) &&
+    uint32_t refusal = bp_empty(s->mode, s->size, row->cell, row->mask, row->slot, grid.at, grid_floats(s), points.at,
+                                points_floats(s, row->mask));
+    return refusal == 0 && holds(&points, sizeof points, row->points, points_floats(s, row->mask)) &&
            holds(&grid, sizeof grid, row->grid, grid_floats(s));
 }
 
-/* Look at one carrier of the grid as it stands, which has these bits. */
-static int look_agrees(const struct setup *s, uint32_t cell, uint32_t symbol, int32_t carrier,
-                       const uint32_t *grid_words)
+/* Look at one carrier of the grid as it stands, which has the row's bits. */
+static int look_agrees(const struct setup *s, const struct grid_row *row, uint32_t symbol, int32_t carrier)
 {
     struct out kind = fresh(), slot = fresh(), subchannel = fresh(), index = fresh();
     uint32_t what = 0, a = untold, b = untold, m = untold;
     spoil(&pair, sizeof pair);
-    if (bp_look(s->mode, s->size, cell, symbol, grid.at, grid_floats(s), carrier, &kind.value, pair.at, &slot.value,
-                &subchannel.value, &index.value) != 0)
+    if (bp_look(s->mode, s->size, row->cell, row->mask, symbol, grid.at, grid_floats(s), carrier, &kind.value, pair.at,
+                &slot.value, &subchannel.value, &index.value) != 0)
         return 0;
-    if (bp_locate(s->mode, s->size, cell, symbol, carrier, &what, &a, &b, &m) != 0)
+    if (bp_locate(s->mode, s->size, row->cell, symbol, carrier, &what, &a, &b, &m) != 0)
         return 0;
-    int nothing = what == KIND_GUARD || what == KIND_DC;
-    return told(&kind, nothing ? 0 : what) && told(&slot, a) && told(&subchannel, b) && told(&index, m) &&
-           (nothing ? untouched(&pair, sizeof pair)
-                    : holds(&pair, sizeof pair, grid_words + grid_at(s, symbol, carrier), 2));
+    uint32_t seen = seen_kind(s, row->cell, row->mask, carrier, what);
+    int data = seen == KIND_DATA;
+    return told(&kind, seen) && told(&slot, data ? a : untold) && told(&subchannel, data ? b : untold) &&
+           told(&index, data ? m : untold) &&
+           (seen == BP_NOTHING ? untouched(&pair, sizeof pair)
+                               : holds(&pair, sizeof pair, row->grid + grid_at(s, symbol, carrier), 2));
 }
 
 static int looks_agree(const struct setup *s, const struct grid_row *row)
@@ -316,7 +380,7 @@ static int looks_agree(const struct setup *s, const struct grid_row *row)
     copy_bits(grid.at, row->grid, grid_floats(s));
     for (uint32_t offset = 0; offset < s->symbols; offset++)
         for (int32_t carrier = -half(s); carrier < half(s); carrier++)
-            if (!look_agrees(s, row->cell, row->slot * s->symbols + offset, carrier, row->grid))
+            if (!look_agrees(s, row, row->slot * s->symbols + offset, carrier))
                 return 0;
     return holds(&grid, sizeof grid, row->grid, grid_floats(s));
 }
@@ -337,7 +401,8 @@ static const char *difference(const struct setup *s, const struct grid_row *row)
     return NULL;
 }
 
-/* Everything but data written over: empty and look go by the data alone, look sees nothing on guards and DC. */
+/* Everything but lit data written over: empty goes by the data alone, look sees nothing on guards, on DC and on what is
+   unlit. */
 static int data_alone_agrees(const struct setup *s, const struct grid_row *row)
 {
     for (uint32_t n = 0; n < grid_floats(s); n++)
@@ -346,9 +411,10 @@ static int data_alone_agrees(const struct setup *s, const struct grid_row *row)
     return empty_agrees(s, row) && looks_agree(s, row);
 }
 
-static const char *slot_difference(const struct setup *s, uint32_t cell, uint32_t slot, const uint32_t pilot[2])
+static const char *slot_difference(const struct setup *s, uint32_t cell, uint32_t mask, uint32_t slot,
+                                   const uint32_t pilot[2])
 {
-    const struct grid_row row = {s->mode, s->size, cell, slot, {pilot[0], pilot[1]},
+    const struct grid_row row = {s->mode, s->size, cell, mask, slot, {pilot[0], pilot[1]},
                                  want_points, want_places, want_ground, want_grid};
     if (!work_out_ground(s, &row) || !work_out_points(s, &row))
         return "place or locate";
@@ -356,39 +422,54 @@ static const char *slot_difference(const struct setup *s, uint32_t cell, uint32_
     return what || data_alone_agrees(s, &row) ? what : "empty or look by the data alone";
 }
 
+static int slot_differs(const struct setup *s, uint32_t cell, uint32_t mask, uint32_t slot)
+{
+    static uint32_t turn = 0;
+    const char *what = slot_difference(s, cell, mask, slot, pilots[turn++ % COUNT(pilots)]);
+    if (what)
+        printf("%s differs: mode %" PRIu32 " size %" PRIu32 " cell %" PRIu32 " mask %" PRIu32 " slot %" PRIu32 "\n", what,
+               s->mode, s->size, cell, mask, slot);
+    return what != NULL;
+}
+
+/* The mask that lights all. */
+static uint32_t full_mask(const struct setup *s) { return s->mode == PUSC_DL ? FULL_MASK : 0; }
+
 static int test_slots(void)
 {
     static const uint32_t slots[] = {0, 1, 2, 300, SLOTS - 1};
     int wrong = 0;
-    uint32_t turn = 0;
-    for (size_t i = 0; i < COUNT(setups); i++) {
-        const struct setup *s = &setups[i];
+    for (const struct setup *s = setups; s < setups + COUNT(setups); s++) {
         const uint32_t cells[] = {0, 1, s->cells / 2 + 1, s->cells - 1};
-        for (size_t j = 0; j < COUNT(cells); j++) {
-            for (size_t k = 0; k < COUNT(slots); k++) {
-                const char *what = slot_difference(s, cells[j], slots[k], pilots[turn++ % COUNT(pilots)]);
-                if (!what)
-                    continue;
-                wrong = 1;
-                printf("%s differs: mode %" PRIu32 " size %" PRIu32 " cell %" PRIu32 " slot %" PRIu32 "\n", what,
-                       s->mode, s->size, cells[j], slots[k]);
-            }
-        }
+        for (size_t j = 0; j < COUNT(cells); j++)
+            for (size_t k = 0; k < COUNT(slots); k++)
+                wrong |= slot_differs(s, cells[j], full_mask(s), slots[k]);
     }
+    return wrong;
+}
+
+/* Every mask, each at two cells; in all, every cell occurs. */
+static int test_masks(void)
+{
+    const struct setup *s = &setups[PUSC_DL];
+    int wrong = 0;
+    for (uint32_t mask = 1; mask <= FULL_MASK; mask++)
+        wrong |= slot_differs(s, mask % s->cells, mask, mask) | slot_differs(s, mask * 5 % s->cells, mask, SLOTS - mask);
     return wrong;
 }
 
 static int test_rows(void)
 {
-    int wrong = COUNT(grid_rows) != COUNT(setups);
+    int wrong = COUNT(grid_rows) <= COUNT(setups);
     for (size_t i = 0; i < COUNT(grid_rows); i++) {
         const struct grid_row *row = &grid_rows[i];
-        const struct setup *s = &setups[i];
+        const struct setup *s = &setups[i < COUNT(setups) ? i : PUSC_DL]; /* those past all setups are for masks */
         const char *what = row->mode == s->mode && row->size == s->size ? difference(s, row) : "the table";
         if (!what)
             continue;
         wrong = 1;
-        printf("%s differs from the reference: mode %" PRIu32 " size %" PRIu32 "\n", what, row->mode, row->size);
+        printf("%s differs from the reference: mode %" PRIu32 " size %" PRIu32 " mask %" PRIu32 "\n", what, row->mode,
+               row->size, row->mask);
     }
     return wrong;
 }
@@ -412,14 +493,30 @@ static uint32_t past(uint32_t limit, unsigned turn)
     return numbers[turn % COUNT(numbers)];
 }
 
-/* The fields that every call has, the first four of a set. Look has the zone's symbol for the slot. */
+/* A good mask lights the last subchannel; not each lights the first one, nor all. */
+static uint32_t good_mask(const struct setup *s, unsigned turn)
+{
+    static const uint32_t masks[] = {FULL_MASK, 32, 42, 61, 33};
+    return s->mode == PUSC_DL ? masks[turn % COUNT(masks)] : 0;
+}
+
+/* A wrong mask: another mode's, just past the range, the last, or one that is cut to a good one. */
+static uint32_t wrong_mask(const struct setup *s, unsigned turn)
+{
+    static const uint32_t no_groups[] = {FULL_MASK, 1, UINT32_MAX, 64, 0x10000u, 0x80000000u, 32};
+    const uint32_t groups[] = {0, FULL_MASK + 1, UINT32_MAX, good_mask(s, turn) + 64, good_mask(s, turn) + 0x100u,
+                               good_mask(s, turn) + 0x10000u, good_mask(s, turn) + 0x80000000u};
+    return s->mode == PUSC_DL ? groups[turn % COUNT(groups)] : no_groups[turn % COUNT(no_groups)];
+}
+
+/* The fields that every call has, the first five of a set. Look has the zone's symbol for the slot. */
 struct fields {
-    uint32_t mode, size, cell, slot;
+    uint32_t mode, size, cell, mask, slot;
 };
 
 static struct fields fields_of(const struct setup *s, uint32_t slots, unsigned wrong_fields, unsigned turn)
 {
-    struct fields f = {s->mode, s->size, s->cells - 1, slots - 1};
+    struct fields f = {s->mode, s->size, s->cells - 1, good_mask(s, turn), slots - 1};
     if (wrong_fields & 1)
         f.mode = past(UNLISTED, turn);
     if (wrong_fields & 2)
@@ -427,6 +524,8 @@ static struct fields fields_of(const struct setup *s, uint32_t slots, unsigned w
     if (wrong_fields & 4)
         f.cell = past(s->cells, turn);
     if (wrong_fields & 8)
+        f.mask = wrong_mask(s, turn);
+    if (wrong_fields & 16)
         f.slot = past(slots, turn);
     return f;
 }
@@ -441,8 +540,22 @@ static size_t wrong_length(size_t right, unsigned turn)
 /* Of one subchannel's points: these too, half or twice as many, or the whole slot's. */
 static size_t wrong_laid(const struct setup *s, unsigned turn)
 {
-    const size_t others[] = {points_floats(s), LAID / 2, 2 * LAID};
+    const size_t others[] = {LAID * (size_t)s->subchannels, LAID / 2, 2 * LAID};
     return turn % 8 < COUNT(others) ? others[turn % 8] : wrong_length(LAID, turn % 8 - COUNT(others));
+}
+
+/* Of emptied points: these too, one subchannel more or less, or all where not all are lit. */
+static size_t wrong_points(const struct setup *s, size_t right, unsigned turn)
+{
+    const size_t all = LAID * (size_t)s->subchannels, others[] = {right == all ? right - LAID : all, right + LAID};
+    return turn % 8 < COUNT(others) ? others[turn % 8] : wrong_length(right, turn % 8 - COUNT(others));
+}
+
+/* A wrong subchannel: past the last, or one that is not lit. */
+static uint32_t wrong_subchannel(const struct setup *s, unsigned turn)
+{
+    uint32_t subchannel = below(s->subchannels);
+    return lit_subchannel(s, good_mask(s, turn), subchannel) ? past(s->subchannels, turn) : subchannel;
 }
 
 static void spoil_all(void)
@@ -459,36 +572,37 @@ static int all_untouched(void)
 
 static int ground_refusal_agrees(const struct setup *s, unsigned wrong_fields, unsigned turn)
 {
-    static const uint32_t questions[] = {1, 2, 3, 4, 9, 0};
+    static const uint32_t questions[] = {1, 2, 3, 17, 4, 9, 0};
     struct fields f = fields_of(s, SLOTS, wrong_fields, turn);
-    size_t grid_len = wrong_fields & 16 ? wrong_length(grid_floats(s), turn) : grid_floats(s);
+    size_t grid_len = wrong_fields & 32 ? wrong_length(grid_floats(s), turn) : grid_floats(s);
     spoil_all();
-    return bp_ground(f.mode, f.size, f.cell, f.slot, pair.at, grid.at, grid_len) ==
+    return bp_ground(f.mode, f.size, f.cell, f.mask, f.slot, pair.at, grid.at, grid_len) ==
                first_refusal(wrong_fields, questions) &&
            all_untouched();
 }
 
 static int lay_refusal_agrees(const struct setup *s, unsigned wrong_fields, unsigned turn)
 {
-    static const uint32_t questions[] = {1, 2, 3, 4, 5, 8, 9, 0};
+    static const uint32_t questions[] = {1, 2, 3, 17, 4, 5, 8, 9, 0};
     struct fields f = fields_of(s, SLOTS, wrong_fields, turn);
-    uint32_t subchannel = wrong_fields & 16 ? past(s->subchannels, turn) : s->subchannels - 1;
-    size_t points_len = wrong_fields & 32 ? wrong_laid(s, turn) : LAID;
-    size_t grid_len = wrong_fields & 64 ? wrong_length(grid_floats(s), turn / 2) : grid_floats(s);
+    uint32_t subchannel = wrong_fields & 32 ? wrong_subchannel(s, turn) : s->subchannels - 1;
+    size_t points_len = wrong_fields & 64 ? wrong_laid(s, turn) : LAID;
+    size_t grid_len = wrong_fields & 128 ? wrong_length(grid_floats(s), turn / 2) : grid_floats(s);
     spoil_all();
-    return bp_lay(f.mode, f.size, f.cell, f.slot, subchannel, points.at, points_len, grid.at, grid_len) ==
+    return bp_lay(f.mode, f.size, f.cell, f.mask, f.slot, subchannel, points.at, points_len, grid.at, grid_len) ==
                first_refusal(wrong_fields, questions) &&
            all_untouched();
 }
 
 static int empty_refusal_agrees(const struct setup *s, unsigned wrong_fields, unsigned turn)
 {
-    static const uint32_t questions[] = {1, 2, 3, 4, 8, 9, 0};
+    static const uint32_t questions[] = {1, 2, 3, 17, 4, 8, 9, 0};
     struct fields f = fields_of(s, SLOTS, wrong_fields, turn);
-    size_t points_len = wrong_fields & 16 ? wrong_length(points_floats(s), turn) : points_floats(s);
-    size_t grid_len = wrong_fields & 32 ? wrong_length(grid_floats(s), turn / 2) : grid_floats(s);
+    size_t right = points_floats(s, good_mask(s, turn));
+    size_t points_len = wrong_fields & 32 ? wrong_points(s, right, turn) : right;
+    size_t grid_len = wrong_fields & 64 ? wrong_length(grid_floats(s), turn / 2) : grid_floats(s);
     spoil_all();
-    return bp_empty(f.mode, f.size, f.cell, f.slot, grid.at, grid_len, points.at, points_len) ==
+    return bp_empty(f.mode, f.size, f.cell, f.mask, f.slot, grid.at, grid_len, points.at, points_len) ==
                first_refusal(wrong_fields, questions) &&
            all_untouched();
 }
@@ -503,14 +617,14 @@ static int32_t wrong_carrier(const struct setup *s, unsigned turn)
 
 static int look_refusal_agrees(const struct setup *s, unsigned wrong_fields, unsigned turn)
 {
-    static const uint32_t questions[] = {1, 2, 3, 4, 7, 9, 0};
+    static const uint32_t questions[] = {1, 2, 3, 17, 4, 7, 9, 0};
     struct fields f = fields_of(s, SLOTS * s->symbols, wrong_fields, turn);
     int32_t right = turn % 2 ? -half(s) : half(s) - 1;
-    int32_t carrier = wrong_fields & 16 ? wrong_carrier(s, turn) : right;
-    size_t grid_len = wrong_fields & 32 ? wrong_length(grid_floats(s), turn) : grid_floats(s);
+    int32_t carrier = wrong_fields & 32 ? wrong_carrier(s, turn) : right;
+    size_t grid_len = wrong_fields & 64 ? wrong_length(grid_floats(s), turn) : grid_floats(s);
     struct out kind = fresh(), slot = fresh(), subchannel = fresh(), index = fresh();
     spoil_all();
-    return bp_look(f.mode, f.size, f.cell, f.slot, grid.at, grid_len, carrier, &kind.value, pair.at, &slot.value,
+    return bp_look(f.mode, f.size, f.cell, f.mask, f.slot, grid.at, grid_len, carrier, &kind.value, pair.at, &slot.value,
                    &subchannel.value, &index.value) == first_refusal(wrong_fields, questions) &&
            told(&kind, untold) && told(&slot, untold) && told(&subchannel, untold) && told(&index, untold) &&
            all_untouched();
@@ -522,10 +636,10 @@ static const struct refusing {
     unsigned fields;
     int (*agrees)(const struct setup *s, unsigned wrong_fields, unsigned turn);
 } refusing[] = {
-    {"ground", 5, ground_refusal_agrees},
-    {"lay", 7, lay_refusal_agrees},
-    {"empty", 6, empty_refusal_agrees},
-    {"look", 6, look_refusal_agrees},
+    {"ground", 6, ground_refusal_agrees},
+    {"lay", 8, lay_refusal_agrees},
+    {"empty", 7, empty_refusal_agrees},
+    {"look", 7, look_refusal_agrees},
 };
 
 static int call_refuses(const struct refusing *call, const struct setup *s)
@@ -555,7 +669,7 @@ static int test_refusals(void)
 int main(void)
 {
     make_old_bits();
-    int wrong = test_rows() | test_slots() | test_refusals();
+    int wrong = test_rows() | test_slots() | test_masks() | test_refusals();
     if (!wrong)
         puts("capi: ground, lay, empty and look keep every bit");
     return wrong;

@@ -1,4 +1,4 @@
-/* Holds bp_plan_read and bp_plan_write to the stored answers of crates/plan_vectors, which come from
+/* Holds bp_zone_plan_read and bp_zone_plan_write to the stored answers of crates/plan_vectors, which come from
    the reference: standard input is that crate's file `stdout`. A refusal writes nothing, and nothing
    beside an out parameter is written. Run by run.sh. */
 #include <stdint.h>
@@ -8,7 +8,7 @@
 
 #include "bellpulsar.h"
 
-enum { FIELDS = 128, PLACES = 24, ROOM = 48, BEFORE = 238 };
+enum { FIELDS = 128, PLACES = 32, ROOM = 48, BEFORE = 238 };
 
 /* The out parameters of a call between guard words. */
 struct outs {
@@ -35,7 +35,7 @@ static int read_agrees(const uint32_t *asked, const uint32_t *answer, uint32_t f
         expected.second = answer[2];
         memcpy(expected.zones, answer + 3, sizeof expected.zones);
     }
-    return bp_plan_read(bytes, asked[0], &outs.first, &outs.second, outs.zones) == answer[0] &&
+    return bp_zone_plan_read(bytes, asked[0], &outs.first, &outs.second, outs.zones) == answer[0] &&
            memcmp(&outs, &expected, sizeof outs) == 0;
 }
 
@@ -46,7 +46,7 @@ static int write_agrees(const uint32_t *asked, const uint32_t *answer, uint32_t 
     memset(dest, BEFORE, sizeof dest);
     if (answer[0] == 0)
         expected.first = answer[1];
-    if (bp_plan_write(asked[1], asked[2], asked + 3, dest, asked[0], &outs.first) != answer[0])
+    if (bp_zone_plan_write(asked[1], asked[2], asked + 3, dest, asked[0], &outs.first) != answer[0])
         return 0;
     for (size_t i = 0; i < ROOM; i++)
         if (dest[i] != answer[2 + i])
@@ -85,7 +85,7 @@ int main(void)
         if (agrees(asked, answer, 0xA5A5A500u) && agrees(asked, answer, 0x5A5A5A00u))
             continue;
         wrong = 1;
-        printf("%s differs: line %d of those that fit\n", line[0] == 'r' ? "bp_plan_read" : "bp_plan_write", tried);
+        printf("bp_zone_plan_%s differs: line %d of those that fit\n", line[0] == 'r' ? "read" : "write", tried);
     }
     if (tried < 1000)
         return 1;

@@ -117,6 +117,15 @@ def length_rows():
             yield [mode, size, ref.points_len(mode, size), ref.grid_len(mode, size)]
 
 
+def lit_rows():
+    """Every mask about the range with every mode and size that is listed; masks cut to a right one; unlisted modes and
+    sizes."""
+    cut = [mask + off for mask in (1, 63) for off in (2**8, 2**16, 2**31)]
+    for mode, size in SETUPS + [(ref.UNLISTED, 2048), (LARGEST, 2048), (0, 1024), (0, 2049), (2, 128), (6, 0)]:
+        for mask in [*range(66), 127, 128, 255, *cut, LARGEST - 63, LARGEST - 1, LARGEST]:
+            yield [mode, size, mask, ref.lit_points_len(mode, size, mask)]
+
+
 def initializer(value):
     """A number, or a list of such values, as C writes it."""
     if isinstance(value, list):
@@ -149,6 +158,7 @@ def main():
     print_table("struct ofusc_row", "ofusc_rows", ofuscs)
     print_table("struct amc_row", "amc_rows", amcs)
     print_table("struct length_row", "length_rows", list(length_rows()))
+    print_table("struct lit_row", "lit_rows", list(lit_rows()))
 
 
 if __name__ == "__main__":

@@ -116,6 +116,16 @@ fn lengths_agree() {
 }
 
 #[test]
+fn lit_lengths_agree() {
+    for row in rows("lit", 2000) {
+        let [mode, size, mask, points] = row[..] else {
+            panic!("{row:?}")
+        };
+        assert_eq!(lit_points_len(mode, size, mask), points as usize, "{row:?}");
+    }
+}
+
+#[test]
 fn locate_agrees() {
     for row in rows("locate", 16000) {
         let [mode, size, cell, symbol, carrier, refusal, kind, slot, subchannel, index] = row[..]
@@ -138,11 +148,13 @@ fn locate_agrees() {
     }
 }
 
-/// A row `grid`.
+/// A row `grid`; the points and places are those of the lit subchannels.
 struct Grid {
     setup: Setup,
+    mask: u32,
     slot: u32,
     pilot: Point,
+    lit: Vec<u32>,
     points: Vec<u32>,
     places: Vec<u32>,
     ground: Lent,
@@ -153,27 +165,30 @@ struct Grid {
 const LAID: usize = 96;
 
 impl Grid {
-    fn subchannels(&self) -> usize {
-        self.points.len() / LAID
+    /// Which of the lit subchannels it is.
+    fn rank(&self, subchannel: u32) -> Option<usize> {
+        self.lit.iter().position(|lit| *lit == subchannel)
     }
 
-    /// One subchannel's points.
-    fn laid(&self, subchannel: usize) -> &[u32] {
-        &self.points[LAID * subchannel..LAID * (subchannel + 1)]
+    /// The points of the lit subchannel of this rank.
+    fn laid(&self, rank: usize) -> &[u32] {
+        &self.points[LAID * rank..LAID * (rank + 1)]
     }
 
-    /// Lays these bits, which are only read.
-    fn lay(&self, subchannel: usize, bits: &[u32], grid: &mut Lent) {
+    /// Lays these bits, which are only read; an unlit subchannel is refused.
+    fn lay(&self, subchannel: u32, bits: &[u32], grid: &mut Lent) {
         let points = Lent::new(bits);
+        let refusal = if self.lit.contains(&subchannel) { 0 } else { 5 };
         assert_eq!(
             lay(
                 self.setup,
+                self.mask,
                 self.slot,
-                subchannel as u32,
+                subchannel,
                 points.at(),
                 grid.at_mut()
             ),
-            Ok(())
+            expected(refusal, ())
         );
         assert!(points.is(&Lent::new(bits)), "points {:?}", self.setup);
     }
@@ -181,7 +196,8 @@ impl Grid {
 
 fn grids() -> Vec<Grid> {
     let read = |row: Vec<u32>| {
-        let (points, rest) = row[7..].split_at(LAID * row[6] as usize);
+        let (lit, rest) = row[8..].split_at(row[7] as usize);
+        let (points, rest) = rest.split_at(LAID * lit.len());
         let (places, rest) = rest.split_at(points.len() / 2);
         let (ground, grid) = rest.split_at(rest.len() / 2);
         Grid {
@@ -190,71 +206,102 @@ fn grids() -> Vec<Grid> {
                 size: row[1],
                 cell: row[2],
             },
-            slot: row[3],
-            pilot: point_of(&row[4..6]),
+            mask: row[3],
+            slot: row[4],
+            pilot: point_of(&row[5..7]),
+            lit: lit.to_vec(),
             points: points.to_vec(),
             places: places.to_vec(),
             ground: Lent::new(ground),
             grid: Lent::new(grid),
         }
     };
-    rows("grid", 22).into_iter().map(read).collect()
+    rows("grid", 28).into_iter().map(read).collect()
+}
+
+/// A grid of any floats with the ground laid on it.
+fn grounded(of: &Grid) -> Lent {
+    let mut grid = Lent::spoiled(of.ground.at().len());
+    assert_eq!(
+        ground(of.setup, of.mask, of.slot, of.pilot, grid.at_mut()),
+        Ok(())
+    );
+    grid
 }
 
 #[test]
 fn ground_keeps_every_bit() {
     for of in grids() {
-        let mut grid = Lent::spoiled(of.ground.at().len());
-        assert_eq!(ground(of.setup, of.slot, of.pilot, grid.at_mut()), Ok(()));
-        assert!(grid.is(&of.ground), "ground {:?}", of.setup);
+        assert!(grounded(&of).is(&of.ground), "ground {:?}", of.setup);
     }
 }
 
 #[test]
 fn a_lay_writes_its_own_floats_alone() {
     for of in grids() {
-        for subchannel in 0..of.subchannels() {
+        for (rank, subchannel) in of.lit.iter().enumerate() {
             let mut grid = Lent::spoiled(of.grid.at().len());
             let mut expected = Lent::spoiled(of.grid.at().len());
-            let places = &of.places[LAID / 2 * subchannel..];
-            for (place, point) in places.iter().zip(of.laid(subchannel).chunks(2)) {
+            let places = &of.places[LAID / 2 * rank..];
+            for (place, point) in places.iter().zip(of.laid(rank).chunks(2)) {
                 let at = *place as usize;
                 expected.at_mut()[at..at + 2].copy_from_slice(&point_of(point));
             }
-            of.lay(subchannel, of.laid(subchannel), &mut grid);
+            of.lay(*subchannel, of.laid(rank), &mut grid);
             assert!(grid.is(&expected), "lay {subchannel} {:?}", of.setup);
         }
     }
 }
 
-/// In any order with repeats: every bit turned over, but not when a subchannel comes last.
+/// In any order with repeats: every bit turned over, but not when a subchannel comes last. The unlit ones leave nothing.
 #[test]
 fn ground_and_lays_give_the_grid() {
     let grids = grids();
-    for row in rows("order", 22) {
+    for row in rows("order", 28) {
         let (of, order) = (&grids[row[0] as usize], &row[1..]);
-        let mut grid = Lent::spoiled(of.grid.at().len());
-        assert_eq!(ground(of.setup, of.slot, of.pilot, grid.at_mut()), Ok(()));
+        let mut grid = grounded(of);
         for (n, subchannel) in order.iter().enumerate() {
             let turned = if order[n + 1..].contains(subchannel) {
                 u32::MAX
             } else {
                 0
             };
-            let subchannel = *subchannel as usize;
-            let bits: Vec<u32> = of.laid(subchannel).iter().map(|x| x ^ turned).collect();
-            of.lay(subchannel, &bits, &mut grid);
+            let own = of.laid(of.rank(*subchannel).unwrap_or(0));
+            let bits: Vec<u32> = own.iter().map(|x| x ^ turned).collect();
+            of.lay(*subchannel, &bits, &mut grid);
         }
         assert!(grid.is(&of.grid), "lays {:?}", of.setup);
+    }
+}
+
+/// With the lit subchannels' points in one row and no list of them: each subchannel is given the next 96 floats, which go
+/// on to the next one where it is unlit.
+#[test]
+fn a_row_of_lit_points_is_laid() {
+    for of in grids() {
+        let (mut grid, points) = (grounded(&of), Lent::new(&of.points));
+        let subchannels = points_len(of.setup.mode, of.setup.size) / LAID;
+        let mut next = points.at().chunks(LAID).peekable();
+        for subchannel in 0..subchannels as u32 {
+            let Some(own) = next.peek() else { break };
+            let laid = lay(of.setup, of.mask, of.slot, subchannel, own, grid.at_mut());
+            if laid.is_ok() {
+                next.next();
+            } else {
+                assert_eq!(laid, Err(Refusal(5)), "{:?}", of.setup);
+            }
+        }
+        assert!(next.next().is_none() && grid.is(&of.grid), "{:?}", of.setup);
     }
 }
 
 #[test]
 fn empty_keeps_every_bit() {
     for of in grids() {
-        let mut back = Lent::spoiled(of.points.len());
+        let lit = lit_points_len(of.setup.mode, of.setup.size, of.mask);
+        let mut back = Lent::spoiled(lit);
         assert_eq!(
-            empty(of.setup, of.slot, of.grid.at(), back.at_mut()),
+            empty(of.setup, of.mask, of.slot, of.grid.at(), back.at_mut()),
             Ok(())
         );
         assert!(back.is(&Lent::new(&of.points)), "empty {:?}", of.setup);
@@ -263,14 +310,14 @@ fn empty_keeps_every_bit() {
 
 #[test]
 fn ground_refuses_and_writes_nothing() {
-    for row in rows("ground", 4000) {
-        let [mode, size, cell, slot, grid_len, refusal] = row[..] else {
+    for row in rows("ground", 8000) {
+        let [mode, size, cell, mask, slot, grid_len, refusal] = row[..] else {
             panic!("{row:?}")
         };
         let mut grid = Lent::spoiled(grid_len as usize);
         let setup = Setup { mode, size, cell };
         assert_eq!(
-            ground(setup, slot, [1.0, -1.0], grid.at_mut()),
+            ground(setup, mask, slot, [1.0, -1.0], grid.at_mut()),
             Err(Refusal(refusal)),
             "{row:?}"
         );
@@ -281,14 +328,15 @@ fn ground_refuses_and_writes_nothing() {
 #[test]
 fn lay_refuses_and_writes_nothing() {
     for row in rows("lay", 16000) {
-        let [mode, size, cell, slot, subchannel, points_len, grid_len, refusal] = row[..] else {
+        let [mode, size, cell, mask, slot, subchannel, points_len, grid_len, refusal] = row[..]
+        else {
             panic!("{row:?}")
         };
         let points = Lent::spoiled(points_len as usize);
         let mut grid = Lent::spoiled(grid_len as usize);
         let setup = Setup { mode, size, cell };
         assert_eq!(
-            lay(setup, slot, subchannel, points.at(), grid.at_mut()),
+            lay(setup, mask, slot, subchannel, points.at(), grid.at_mut()),
             Err(Refusal(refusal)),
             "{row:?}"
         );
@@ -299,15 +347,15 @@ fn lay_refuses_and_writes_nothing() {
 
 #[test]
 fn empty_refuses_and_writes_nothing() {
-    for row in rows("empty", 4000) {
-        let [mode, size, cell, slot, points_len, grid_len, refusal] = row[..] else {
+    for row in rows("empty", 8000) {
+        let [mode, size, cell, mask, slot, points_len, grid_len, refusal] = row[..] else {
             panic!("{row:?}")
         };
         let mut points = Lent::spoiled(points_len as usize);
         let grid = Lent::spoiled(grid_len as usize);
         let setup = Setup { mode, size, cell };
         assert_eq!(
-            empty(setup, slot, grid.at(), points.at_mut()),
+            empty(setup, mask, slot, grid.at(), points.at_mut()),
             Err(Refusal(refusal)),
             "{row:?}"
         );
@@ -335,9 +383,9 @@ fn numbers(seen: Seen) -> [u32; 6] {
 #[test]
 fn look_agrees() {
     let grids = grids();
-    for row in rows("look", 3800) {
-        let Grid { setup, grid, .. } = &grids[row[0] as usize];
-        let seen = look(*setup, row[1], grid.at(), row[2] as i32).map(numbers);
+    for row in rows("look", 4600) {
+        let of = &grids[row[0] as usize];
+        let seen = look(of.setup, of.mask, row[1], of.grid.at(), row[2] as i32).map(numbers);
         assert_eq!(
             seen.as_ref().map(|seen| &seen[..]),
             Ok(&row[3..]),
@@ -348,13 +396,13 @@ fn look_agrees() {
 
 #[test]
 fn look_refuses() {
-    for row in rows("unseen", 5500) {
-        let [mode, size, cell, symbol, carrier, grid_len, refusal] = row[..] else {
+    for row in rows("unseen", 11000) {
+        let [mode, size, cell, mask, symbol, carrier, grid_len, refusal] = row[..] else {
             panic!("{row:?}")
         };
         let grid = Lent::spoiled(grid_len as usize);
         let setup = Setup { mode, size, cell };
-        let seen = look(setup, symbol, grid.at(), carrier as i32).map(numbers);
+        let seen = look(setup, mask, symbol, grid.at(), carrier as i32).map(numbers);
         assert_eq!(seen, Err(Refusal(refusal)), "{row:?}");
     }
 }
@@ -383,14 +431,15 @@ fn collisions_agree() {
     }
 }
 
-/// A plan as a row has it: count, size, and three numbers of each place.
+/// A plan as a row has it: count, size, and four numbers of each place.
 fn plan_of(row: &[u32]) -> Plan {
     let mut zones = [Zone::default(); 8];
-    for (zone, three) in zones.iter_mut().zip(row[2..26].chunks(3)) {
+    for (zone, four) in zones.iter_mut().zip(row[2..34].chunks(4)) {
         *zone = Zone {
-            mode: three[0],
-            cell: three[1],
-            slots: three[2],
+            mode: four[0],
+            cell: four[1],
+            slots: four[2],
+            mask: four[3],
         };
     }
     Plan {
@@ -402,7 +451,7 @@ fn plan_of(row: &[u32]) -> Plan {
 
 #[test]
 fn plans_are_read() {
-    for row in rows("read", 3000) {
+    for row in rows("read", 2500) {
         let (bytes, answer) = row[1..].split_at(row[0] as usize);
         let bytes: Vec<u8> = bytes.iter().map(|byte| *byte as u8).collect();
         assert_eq!(
@@ -416,7 +465,7 @@ fn plans_are_read() {
 #[test]
 fn plans_are_written() {
     for row in rows("write", 1500) {
-        let (request, answer) = row.split_at(27);
+        let (request, answer) = row.split_at(35);
         // The reference's destination holds 238 before.
         let mut dest = vec![238u8; answer.len() - 2];
         let written = plan_write(&plan_of(&request[1..]), &mut dest[..request[0] as usize]);
@@ -432,7 +481,7 @@ fn plans_are_written() {
 
 #[test]
 fn refusals_have_words() {
-    let questions: Vec<&str> = (1..=16).map(|number| Refusal(number).question()).collect();
+    let questions: Vec<&str> = (1..=17).map(|number| Refusal(number).question()).collect();
     for (n, question) in questions.iter().enumerate() {
         assert!(
             question.ends_with('?') && !questions[..n].contains(question),

@@ -5,18 +5,19 @@
     place     mode size cell slot subchannel index; refusal symbol carrier
     locate    mode size cell symbol carrier; refusal kind slot subchannel index
     length    mode size; points_len grid_len
-    grid      mode size cell slot pilot(2) subchannels; the points, where each one's floats start in the grid, the
-              ground, the grid; floats as bit patterns
-    order     the number of a grid above; subchannels to lay, each at least once
-    ground    mode size cell slot grid_len; refusal of ground
-    lay       mode size cell slot subchannel points_len grid_len; refusal of lay
-    empty     mode size cell slot points_len grid_len; refusal of empty
+    lit       mode size mask; lit_points_len
+    grid      mode size cell mask slot pilot(2) n; the n lit subchannels, their points, where each one's floats start in
+              the grid, the ground, the grid; floats as bit patterns
+    order     the number of a grid above; subchannels to lay, each at least once, unlit ones too
+    ground    mode size cell mask slot grid_len; refusal of ground
+    lay       mode size cell mask slot subchannel points_len grid_len; refusal of lay
+    empty     mode size cell mask slot points_len grid_len; refusal of empty
     look      the number of a grid above, symbol carrier; kind point(2) slot subchannel index
-    unseen    mode size cell symbol carrier grid_len; refusal of look
+    unseen    mode size cell mask symbol carrier grid_len; refusal of look
     ofusc     size cell subchannel cell subchannel; refusal count hits(48)
     amc       cell cell; refusal count hits(48)
-    read      length bytes; refusal count size zones(24)
-    write     length count size zones(24); refusal written, 48 bytes of which the first were lent
+    read      length bytes; refusal count size zones(32)
+    write     length count size zones(32); refusal written, 48 bytes of which the first were lent
 
 What is not given by an answer stands as 0. Only carriers may be negative.
 """
@@ -50,49 +51,63 @@ def wrong_sets(good, wrong):
         yield [wrong[i] if chosen >> i & 1 else good[i] for i in range(len(good))]
 
 
+def setups(dice, mode, size, turn):
+    """The first four fields, right and wrong. A right mask lights the last subchannel."""
+    cells = ref.cells(mode, size)
+    mask = [32, 63, 42, 61][turn % 4] if mode == ref.PUSC_DL else 0
+    others = [0, 64, mask + 64, mask + 2**16] if mode == ref.PUSC_DL else [1, 63, 64, 2**16]
+    return [mode, size, cells - 1, mask], [ref.UNLISTED, 128, cells, dice.choice(others + [2**32 - 1])]
+
+
 def ground_rows(dice, mode, size):
     points, grid = 96 * ref.subchannels(mode, size), ref.grid_floats(mode, size)
-    good, wrong = [mode, size, ref.cells(mode, size) - 1, 511, grid], [ref.UNLISTED, 128, ref.cells(mode, size), 512]
-    for _ in range(6):
-        for fields in wrong_sets(good, wrong + [wrong_length(dice, grid, points)]):
+    for turn in range(6):
+        good, wrong = setups(dice, mode, size, turn)
+        for fields in wrong_sets(good + [511, grid], wrong + [512, wrong_length(dice, grid, points)]):
             yield fields + [ref.ground_refusal(*fields)]
 
 
 def lay_rows(dice, mode, size):
-    """Wrong lengths of the points: about 96, and the whole slot's."""
+    """Wrong subchannels: unlit, and past the last. Wrong lengths of the points: about 96, and the whole slot's."""
     subchannels, grid = ref.subchannels(mode, size), ref.grid_floats(mode, size)
-    good = [mode, size, ref.cells(mode, size) - 1, 511, subchannels - 1, 96, grid]
-    wrong = [ref.UNLISTED, 128, ref.cells(mode, size), 512, subchannels]
-    for length in (0, 94, 95, 97, 98, 96 * subchannels):
-        for fields in wrong_sets(good, wrong + [length, wrong_length(dice, grid, 96 * subchannels)]):
+    for turn, length in enumerate(dice.sample([0, 94, 95, 97, 98, 96 * subchannels], 3)):
+        good, wrong = setups(dice, mode, size, turn)
+        lit = ref.lit_subchannels(mode, size, good[3])
+        unlit = dice.choice([s for s in range(subchannels) if s not in lit] or [subchannels])
+        right = good + [511, subchannels - 1, 96, grid]
+        for fields in wrong_sets(right, wrong + [512, unlit, length, wrong_length(dice, grid, 96 * subchannels)]):
             yield fields + [ref.lay_refusal(*fields)]
 
 
 def empty_rows(dice, mode, size):
-    points, grid = 96 * ref.subchannels(mode, size), ref.grid_floats(mode, size)
-    good = [mode, size, ref.cells(mode, size) - 1, 511, points, grid]
-    for _ in range(3):
-        lengths = [wrong_length(dice, points, grid), wrong_length(dice, grid, points)]
-        for fields in wrong_sets(good, [ref.UNLISTED, 128, ref.cells(mode, size), 512] + lengths):
+    """Wrong lengths of the points: also one subchannel more or less, and all where not all are lit."""
+    every, grid = 96 * ref.subchannels(mode, size), ref.grid_floats(mode, size)
+    for turn in range(4):
+        good, wrong = setups(dice, mode, size, turn)
+        points = ref.lit_points_len(mode, size, good[3])
+        other = [every if points < every else 0, wrong_length(dice, points, grid), points + 96, points - 96][turn]
+        for fields in wrong_sets(good + [511, points, grid], wrong + [512, other, wrong_length(dice, grid, points)]):
             yield fields + [ref.buffers_refusal(*fields)]
 
 
 def unseen_rows(dice, mode, size):
     symbols, grid = 512 * ref.SLOT_LENGTH[mode], ref.grid_floats(mode, size)
-    for carrier in [edge for edge in table.carrier_edges(size) if edge not in ref.carriers(size)]:
-        good = [mode, size, ref.cells(mode, size) - 1, symbols - 1, dice.choice(ref.carriers(size)), grid]
+    edges = [edge for edge in table.carrier_edges(size) if edge not in ref.carriers(size)]
+    for turn, carrier in enumerate(edges):
+        good, wrong = setups(dice, mode, size, turn)
+        right = good + [symbols - 1, dice.choice(ref.carriers(size)), grid]
         length = wrong_length(dice, grid, 96 * ref.subchannels(mode, size))
-        for fields in wrong_sets(good, [ref.UNLISTED, 128, ref.cells(mode, size), symbols, carrier, length]):
-            yield fields + [ref.look_refusal(*fields[:4], fields[5], fields[4])]
+        for fields in wrong_sets(right, wrong + [symbols, carrier, length]):
+            yield fields + [ref.look_refusal(*fields[:5], fields[6], fields[5])]
 
 
-def look_rows(dice, number, mode, size, cell, slot, grid):
+def look_rows(dice, number, mode, size, cell, mask, slot, grid):
     """Each offset of the slot: the edges of the range and of the band, DC and both beside it, and others."""
     length = ref.SLOT_LENGTH[mode]
     edges = [-size // 2, *ref.band(mode, size), -1, 0, 1, size // 2 - 1]
     for symbol in range(slot * length, (slot + 1) * length):
         for carrier in edges + dice.sample(ref.carriers(size), 60):
-            what = ref.look(mode, size, cell, symbol, grid, carrier)[1]
+            what = ref.look(mode, size, cell, mask, symbol, grid, carrier)[1]
             told = list(what[1] if what[1:] else [0, 0]) + list(what[2:])
             yield [number, symbol, carrier, KINDS[what[0]]] + told + [0] * (5 - len(told))
 
@@ -105,14 +120,14 @@ def some_order(dice, subchannels):
 
 
 def print_grids(dice):
-    for number, (mode, size) in enumerate(table.SETUPS):
-        cell, slot, pilot, points, grid = grid_table.case(dice, mode, size)
-        subchannels = ref.subchannels(mode, size)
-        places = grid_table.places(mode, size, cell, slot)
-        ground = grid_table.grounded(mode, size, cell, slot, pilot)
-        line("grid", [mode, size, cell, slot] + pilot + [subchannels] + points + places + ground + grid)
-        line("order", [number] + some_order(dice, subchannels))
-        for row in look_rows(dice, number, mode, size, cell, slot, grid):
+    for number, (mode, size, mask) in enumerate(grid_table.CASES):
+        cell, slot, pilot, points, grid = grid_table.case(dice, mode, size, mask)
+        lit = ref.lit_subchannels(mode, size, mask)
+        places = grid_table.places(mode, size, cell, mask, slot)
+        ground = grid_table.grounded(mode, size, cell, mask, slot, pilot)
+        line("grid", [mode, size, cell, mask, slot] + pilot + [len(lit), *lit] + points + places + ground + grid)
+        line("order", [number] + some_order(dice, ref.subchannels(mode, size)))
+        for row in look_rows(dice, number, mode, size, cell, mask, slot, grid):
             line("look", row)
 
 
@@ -144,6 +159,8 @@ def main():
                 line(name, row)
     for row in table.length_rows():
         line("length", row)
+    for row in table.lit_rows():
+        line("lit", row)
     print_grids(dice)
     for size in ref.BIN_SIZES:
         print_collisions("ofusc", table.ofusc_rows(dice, size))
