@@ -701,7 +701,7 @@ class Masks(unittest.TestCase):
                 for mask in (None, full):
                     call(*setup, pilot, *buffers, one)
                     call(*setup, pilot, *buffers, other, mask=mask)
-                    self.assertEqual(bits(one), bits(other))
+                    self.assertEqual(one.tobytes(), other.tobytes())
             again = random_bits(rng, len(points))
             bp.empty(*setup, one, as_floats(again), mask=full)
             self.assertEqual(again, points)
@@ -719,25 +719,38 @@ class Masks(unittest.TestCase):
             points, pilot, grid = random_bits(rng, 96 * len(lit)), random_bits(rng, 2), random_bits(rng, 8192)
             moved = grid[:]
             bp.ground(*setup, slot, as_floats(pilot), as_floats(grid), mask=mask)
-            after = ref.ground(*setup, mask, slot, pilot.tolist(), moved.tolist())
-            self.assertEqual((0, grid.tolist()), after, mask)
-            after = ref.fill(*setup, mask, slot, pilot.tolist(), points.tolist(), moved.tolist())
+            _, after = ref.ground(*setup, mask, slot, pilot.tolist(), moved.tolist())
+            self.assertEqual(grid, array("I", after), mask)
+            _, after = ref.fill(*setup, mask, slot, pilot.tolist(), points.tolist(), moved.tolist())
             bp.fill(*setup, slot, as_floats(pilot), as_floats(points), as_floats(moved), mask=mask)
-            self.assertEqual((0, moved.tolist()), after, mask)
+            self.assertEqual(moved, array("I", after), mask)
             for rank, subchannel in rng.sample(list(enumerate(lit)), len(lit)):
                 bp.lay(*setup, slot, subchannel, as_floats(own(points, rank)), as_floats(grid), mask=mask)
             self.assertEqual(grid, moved, mask)
             again = random_bits(rng, len(points))
             bp.empty(*setup, slot, as_floats(grid), as_floats(again), mask=mask)
-            self.assertEqual((again, grid), (points, moved), mask)
+            self.assertEqual(again, points, mask)
+            self.assertEqual(grid, moved, mask)
+
+    def test_a_lay_and_no_other_float(self):
+        """Whatever the grid holds, on what is unlit too."""
+        rng = random.Random(20)
+        for mask in (1, 2, 12, 21, 42, 62):
+            cell, slot, subchannel = rng.randrange(32), rng.randrange(512), rng.choice(ref.lit_subchannels(0, 2048, mask))
+            grid, points = random_bits(rng, 8192), random_bits(rng, 96)
+            _, after = ref.lay(0, 2048, cell, mask, slot, subchannel, points.tolist(), grid.tolist())
+            bp.lay(0, 2048, cell, slot, subchannel, as_floats(points), as_floats(grid), mask=mask)
+            self.assertEqual(grid, array("I", after), mask)
 
     def test_empty_reads_lit_data_alone(self):
+        """And writes no float beside the points."""
         rng = random.Random(18)
         for mask in (1, 2, 12, 21, 42, 62):
             grid, points = random_bits(rng, 8192), random_bits(rng, 96 * len(ref.lit_subchannels(0, 2048, mask)))
-            after = ref.empty(0, 2048, 7, mask, 3, grid.tolist(), points.tolist())
-            bp.empty(0, 2048, 7, 3, as_floats(grid), as_floats(points), mask=mask)
-            self.assertEqual((0, points.tolist()), after)
+            _, after = ref.empty(0, 2048, 7, mask, 3, grid.tolist(), points.tolist())
+            large = array("I", [5]) + points + array("I", [6])
+            bp.empty(0, 2048, 7, 3, as_floats(grid), as_floats(large)[1:-1], mask=mask)
+            self.assertEqual(large, array("I", [5, *after, 6]), mask)
 
     def test_the_subchannels_of_every_mask(self):
         """Of the lit ones a lay is taken; the others meet 5, and nothing is written."""

@@ -109,12 +109,12 @@ static int grid_is_right(void)
            kind == BP_DATA && point[0] == 100 && point[1] == 101 && slot == 0 && subchannel == 1 && index == 2;
 }
 
-/* A sector that lights groups 2 and 3, subchannels 20 to 39, filled as the header says. Its 40 clusters have four pilots in a
+/* A sector that lights groups 1 and 2, subchannels 12 to 31, filled as the header says. Its 40 clusters have four pilots in a
    slot. Subchannels 0 and 59 are unlit, whatever the grid holds where they belong, and the sector's points come back. */
 static int sector_is_right(void)
 {
     const float pilot[2] = {-1, 0};
-    const uint32_t mode = BP_PUSC_DL, size = 2048, cell = 5, mask = 12, slot = 3;
+    const uint32_t mode = BP_PUSC_DL, size = 2048, cell = 5, mask = 6, slot = 3;
     const size_t grid_len = bp_grid_len(mode, size);
     float *own = floats(sector), *all = floats(sector_grid), point[2] = {7, 7};
     uint32_t of[4], symbol;
@@ -151,10 +151,10 @@ static int sector_is_right(void)
     for (int n = 0; n < 960; n++)
         if (sector_back[n] != sector[n])
             return 0;
-    return pilots == 160 && place(mode, size, cell, slot, 21, 2, &symbol, &carrier) == BP_ACCEPTED &&
+    return pilots == 160 && place(mode, size, cell, slot, 13, 2, &symbol, &carrier) == BP_ACCEPTED &&
            look(mode, size, cell, mask, symbol, all, grid_len, carrier, &of[0], point, &of[1], &of[2], &of[3]) ==
                BP_ACCEPTED &&
-           of[0] == BP_DATA && point[0] == 101 && of[1] == slot && of[2] == 21 && of[3] == 2;
+           of[0] == BP_DATA && point[0] == 101 && of[1] == slot && of[2] == 13 && of[3] == 2;
 }
 
 /* Each refusal of a field, of a length and of a plan, in the order of their numbers. */
