@@ -736,7 +736,8 @@ class Masks(unittest.TestCase):
         """Whatever the grid holds, on what is unlit too."""
         rng = random.Random(20)
         for mask in (1, 2, 12, 21, 42, 62):
-            cell, slot, subchannel = rng.randrange(32), rng.randrange(512), rng.choice(ref.lit_subchannels(0, 2048, mask))
+            cell, slot = rng.randrange(32), rng.randrange(512)
+            subchannel = rng.choice(ref.lit_subchannels(0, 2048, mask))
             grid, points = random_bits(rng, 8192), random_bits(rng, 96)
             _, after = ref.lay(0, 2048, cell, mask, slot, subchannel, points.tolist(), grid.tolist())
             bp.lay(0, 2048, cell, slot, subchannel, as_floats(points), as_floats(grid), mask=mask)
