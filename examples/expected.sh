@@ -37,7 +37,7 @@ expect 1 "refused 1: Is the mode listed (in a plan: 0 or 2 to 6)?" point 7 1024 
 expect 1 "refused 2: Is the size that mode's (of a plan: 256, 512, 1024 or 2048)?" point 2 128 256 0 0 0
 expect 1 "refused 3: Is the cell in range?" point 2 1024 256 0 0 0
 expect 1 "refused 4: Is the slot below 512, the zone's symbol below 512 times the slot length?" point 3 256 2351 512 0 0
-expect 1 "refused 5: Is the subchannel in range?" point 1 2048 69 511 70 48
+expect 1 "refused 5: Is the subchannel in range (of a lay: and lit)?" point 1 2048 69 511 70 48
 expect 1 "refused 6: Is the index below 48?" point 2 1024 17 0 0 48
 # A number that 32 bits do not hold is refused, not cut to one that they hold.
 expect 1 "refused 1: Is the mode listed (in a plan: 0 or 2 to 6)?" point 4294967298 1024 17 0 0 0
@@ -70,43 +70,81 @@ expect 2 "" carrier 3 256 0 0 -1 -1
 expect 0 "groups 0 1 31 32
 count 4" collisions 2048 0 2 1010 0
 expect 1 "refused 3: Is the cell in range?" collisions 256 0 4 16 0
-expect 1 "refused 5: Is the subchannel in range?" collisions 256 0 4 15 0
+expect 1 "refused 5: Is the subchannel in range (of a lay: and lit)?" collisions 256 0 4 15 0
 expect 0 "indices 8 24 32
 count 3" collisions 48 176
 expect 1 "refused 3: Is the cell in range?" collisions 48 2352
 expect 2 "" collisions 48
 
-expect 0 "symbol 1 carrier -647: point (48, -48) of slot 0 subchannel 1 index 0
-subchannel 1 again: 96 of 12288 floats changed
-symbol 1 carrier -647: point (-48, 48) of slot 0 subchannel 1 index 0
-3360 points: all back" slot 1 2048 0 0
-expect 0 "symbol 9 carrier -123: point (48, -48) of slot 9 subchannel 1 index 0
-subchannel 1 again: 96 of 1024 floats changed
-symbol 9 carrier -123: point (-48, 48) of slot 9 subchannel 1 index 0
-384 points: all back" slot 3 512 7 9
-expect 0 "symbol 29 carrier -196: point (48, -48) of slot 9 subchannel 1 index 0
-subchannel 1 again: 96 of 3072 floats changed
-symbol 29 carrier -196: point (-48, 48) of slot 9 subchannel 1 index 0
-1152 points: all back" slot 4 512 7 9
-expect 1 "refused 2: Is the size that mode's (of a plan: 256, 512, 1024 or 2048)?" slot 2 4294967295 0 0
+expect 0 "70 of 70 subchannels lit
+symbol 0 carrier -815: point (1, -1) of slot 0 subchannel 0 index 0
+symbol 1 carrier 762: point (3313, -3313) of slot 0 subchannel 69 index 0
+subchannel 69 again: 96 of 12288 floats changed
+symbol 1 carrier 762: point (-3313, 3313) of slot 0 subchannel 69 index 0
+3360 points: all back" slot 1 2048 0 0 0
+expect 0 "8 of 8 subchannels lit
+symbol 9 carrier -177: point (1, -1) of slot 9 subchannel 0 index 0
+symbol 9 carrier 202: point (337, -337) of slot 9 subchannel 7 index 0
+subchannel 7 again: 96 of 1024 floats changed
+symbol 9 carrier 202: point (-337, 337) of slot 9 subchannel 7 index 0
+384 points: all back" slot 3 512 7 0 9
+expect 0 "24 of 24 subchannels lit
+symbol 29 carrier -214: point (1, -1) of slot 9 subchannel 0 index 0
+symbol 29 carrier 201: point (1105, -1105) of slot 9 subchannel 23 index 0
+subchannel 23 again: 96 of 3072 floats changed
+symbol 29 carrier 201: point (-1105, 1105) of slot 9 subchannel 23 index 0
+1152 points: all back" slot 4 512 7 0 9
+# The three sectors of a site, each with two of the six major groups.
+expect 0 "20 of 60 subchannels lit
+symbol 6 carrier -71: point (1, -1) of slot 3 subchannel 0 index 0
+symbol 6 carrier 254: nothing, subchannel 59 is unlit
+subchannel 19 again: 96 of 8192 floats changed
+symbol 6 carrier -41: point (-913, 913) of slot 3 subchannel 19 index 0
+960 points: all back" slot 0 2048 5 3 3
+expect 0 "20 of 60 subchannels lit
+symbol 6 carrier -71: nothing, subchannel 0 is unlit
+symbol 6 carrier 254: nothing, subchannel 59 is unlit
+subchannel 39 again: 96 of 8192 floats changed
+symbol 6 carrier -405: point (-913, 913) of slot 3 subchannel 39 index 0
+960 points: all back" slot 0 2048 5 12 3
+expect 0 "20 of 60 subchannels lit
+symbol 6 carrier -71: nothing, subchannel 0 is unlit
+symbol 6 carrier 254: point (913, -913) of slot 3 subchannel 59 index 0
+subchannel 59 again: 96 of 8192 floats changed
+symbol 6 carrier 254: point (-913, 913) of slot 3 subchannel 59 index 0
+960 points: all back" slot 0 2048 5 48 3
+expect 1 "refused 2: Is the size that mode's (of a plan: 256, 512, 1024 or 2048)?" slot 2 4294967295 0 0 0
+mask="refused 17: Is the mask 1 to 63 in mode 0, 0 in the others?"
+for word in 0 64 -1 4294967295 4294967297 18446744073709551617; do
+    expect 1 "$mask" slot 0 2048 31 "$word" 512
+done
+expect 1 "$mask" slot 2 1024 0 63 0
+expect 1 "refused 3: Is the cell in range?" slot 0 2048 32 64 512
+expect 1 "refused 4: Is the slot below 512, the zone's symbol below 512 times the slot length?" slot 0 2048 31 63 512
+for word in "" x 0x3F 3F +7; do
+    expect 2 "" slot 0 2048 5 "$word" 3
+done
+expect 2 "" slot 0 2048 5 3
 
 expect 0 "size 2048
-mode 0 cell 0 slots 12
-bytes 01 80 10 00 00 0C" plan 01 80 10 00 00 0C
+mode 0 cell 0 slots 12 mask 63
+bytes 01 80 10 00 00 0C 3F" plan 01 80 10 00 00 0C 3F
 expect 0 "size 2048
-mode 0 cell 5 slots 12
-bytes 01 80 10 00 05 0C" plan 01 80 10 00 05 0C
+mode 0 cell 5 slots 12 mask 63
+bytes 01 80 10 00 05 0C 3F" plan 01 80 10 00 05 0C 3F
 expect 0 "size 1024
-mode 2 cell 17 slots 3
-mode 3 cell 176 slots 1
-bytes 02 80 08 02 11 03 03 B0 01 01" plan 02 80 08 02 11 03 03 B0 01 01
+mode 2 cell 17 slots 3 mask 0
+mode 3 cell 176 slots 1 mask 0
+bytes 02 80 08 02 11 03 00 03 B0 01 01 00" plan 02 80 08 02 11 03 00 03 B0 01 01 00
 expect 0 "size 1024
-mode 4 cell 176 slots 1
-mode 3 cell 0 slots 2
-bytes 02 80 08 04 B0 01 01 03 00 02" plan 02 80 08 04 B0 01 01 03 00 02
+mode 4 cell 176 slots 1 mask 0
+mode 3 cell 0 slots 2 mask 0
+bytes 02 80 08 04 B0 01 01 00 03 00 02 00" plan 02 80 08 04 B0 01 01 00 03 00 02 00
 order="refused 14: At 2048, is the first zone mode 0, and does only AMC (modes 3 to 6) follow AMC?"
-expect 1 "$order" plan 01 80 10 02 00 0C
-expect 1 "$order" plan 02 80 08 04 B0 01 01 02 00 02
+expect 1 "$order" plan 01 80 10 02 00 0C 00
+expect 1 "$order" plan 02 80 08 04 B0 01 01 00 02 00 02 00
+expect 1 "$mask" plan 01 80 10 02 00 0C 3F
+expect 1 "$mask" plan 01 80 10 00 00 0C 00
 expect 1 "refused 11: Does the value end by its third group, in shortest form?" plan 81 00
 expect 1 "refused 10: Do the bytes reach to the value's end or its third group?" plan
 for word in 100 1 0x1 " 1" -1 +1 0g ""; do

@@ -3,7 +3,7 @@
  * Link with libbellpulsar.a or the shared libbellpulsar.so.4; nothing else is needed but the C library. The engine keeps no
  * state, so calls may run side by side on different buffers.
  *
- * ANSWERS. Every call but bp_points_len and bp_grid_len returns 0, or the number of the first question of document 01 that is
+ * ANSWERS. Every call but those whose names end in _len returns 0, or the number of the first question of document 01 that is
  * answered no (enum bp_refusal). The questions are put in the order in which a call lists its refusals, each only after a yes
  * to all before it. On a refusal nothing is written: every out parameter and buffer keeps its contents. Buffers that are
  * `const` are never written.
@@ -13,43 +13,48 @@
  *
  * FIELDS. Any number may stand in any field and any length may be given: what is out of range is refused. In range are:
  *
- *   mode               size   cell      subchannel   slot     symbol    points_len   grid_len
- *   0 PUSC downlink    2048   0..31     0..59        0..511   0..1023         5760       8192
- *   1 PUSC uplink      2048   0..69     0..69        0..511   0..1535         6720      12288
- *   2 optional FUSC     256   0..15     0..3         0..511   0..511           384        512
- *   2 optional FUSC     512   0..63     0..7         0..511   0..511           768       1024
- *   2 optional FUSC    1024   0..255    0..15        0..511   0..511          1536       2048
- *   2 optional FUSC    2048   0..1023   0..31        0..511   0..511          3072       4096
- *   3 AMC 6x1           256   0..2351   0..3         0..511   0..511           384        512
- *   3 AMC 6x1           512   0..2351   0..7         0..511   0..511           768       1024
- *   3 AMC 6x1          1024   0..2351   0..15        0..511   0..511          1536       2048
- *   3 AMC 6x1          2048   0..2351   0..31        0..511   0..511          3072       4096
- *   4 AMC 2x3           256   0..2351   0..11        0..511   0..1535         1152       1536
- *   4 AMC 2x3           512   0..2351   0..23        0..511   0..1535         2304       3072
- *   4 AMC 2x3          1024   0..2351   0..47        0..511   0..1535         4608       6144
- *   4 AMC 2x3          2048   0..2351   0..95        0..511   0..1535         9216      12288
- *   5 AMC 3x2           256   0..2351   0..7         0..511   0..1023          768       1024
- *   5 AMC 3x2           512   0..2351   0..15        0..511   0..1023         1536       2048
- *   5 AMC 3x2          1024   0..2351   0..31        0..511   0..1023         3072       4096
- *   5 AMC 3x2          2048   0..2351   0..63        0..511   0..1023         6144       8192
- *   6 AMC 1x6           256   0..2351   0..23        0..511   0..3071         2304       3072
- *   6 AMC 1x6           512   0..2351   0..47        0..511   0..3071         4608       6144
- *   6 AMC 1x6          1024   0..2351   0..95        0..511   0..3071         9216      12288
- *   6 AMC 1x6          2048   0..2351   0..191       0..511   0..3071        18432      24576
+ *   mode               size   cell      mask    subchannel   slot     symbol    points_len   grid_len
+ *   0 PUSC downlink    2048   0..31     1..63   0..59        0..511   0..1023         5760       8192
+ *   1 PUSC uplink      2048   0..69     0       0..69        0..511   0..1535         6720      12288
+ *   2 optional FUSC     256   0..15     0       0..3         0..511   0..511           384        512
+ *   2 optional FUSC     512   0..63     0       0..7         0..511   0..511           768       1024
+ *   2 optional FUSC    1024   0..255    0       0..15        0..511   0..511          1536       2048
+ *   2 optional FUSC    2048   0..1023   0       0..31        0..511   0..511          3072       4096
+ *   3 AMC 6x1           256   0..2351   0       0..3         0..511   0..511           384        512
+ *   3 AMC 6x1           512   0..2351   0       0..7         0..511   0..511           768       1024
+ *   3 AMC 6x1          1024   0..2351   0       0..15        0..511   0..511          1536       2048
+ *   3 AMC 6x1          2048   0..2351   0       0..31        0..511   0..511          3072       4096
+ *   4 AMC 2x3           256   0..2351   0       0..11        0..511   0..1535         1152       1536
+ *   4 AMC 2x3           512   0..2351   0       0..23        0..511   0..1535         2304       3072
+ *   4 AMC 2x3          1024   0..2351   0       0..47        0..511   0..1535         4608       6144
+ *   4 AMC 2x3          2048   0..2351   0       0..95        0..511   0..1535         9216      12288
+ *   5 AMC 3x2           256   0..2351   0       0..7         0..511   0..1023          768       1024
+ *   5 AMC 3x2           512   0..2351   0       0..15        0..511   0..1023         1536       2048
+ *   5 AMC 3x2          1024   0..2351   0       0..31        0..511   0..1023         3072       4096
+ *   5 AMC 3x2          2048   0..2351   0       0..63        0..511   0..1023         6144       8192
+ *   6 AMC 1x6           256   0..2351   0       0..23        0..511   0..3071         2304       3072
+ *   6 AMC 1x6           512   0..2351   0       0..47        0..511   0..3071         4608       6144
+ *   6 AMC 1x6          1024   0..2351   0       0..95        0..511   0..3071         9216      12288
+ *   6 AMC 1x6          2048   0..2351   0       0..191       0..511   0..3071        18432      24576
  *
  *   index: 0..47, the points of one subchannel in one slot. carrier: -size/2..size/2-1, by rising frequency, DC at 0.
- *   points_len: all points of a slot, for bp_empty. bp_lay has those of one subchannel, and its points_len is 96 in
- *   every mode.
+ *   mask: the major groups of PUSC downlink that are lit, bit g for group g; BP_ALL_GROUPS lights all six. Their subchannels
+ *   are 0..11, 12..19, 20..31, 32..39, 40..51 and 52..59, group after group. In every other mode all is lit and the mask is 0.
+ *   points_len: all points of a slot where all is lit, for bp_empty; bp_lit_points_len has it for any mask. bp_lay has the
+ *   points of one subchannel, and its points_len is 96 in every mode.
  *
  * size is the FFT size, cell the permutation base. symbol is the symbol's number in the zone: the slot times the slot's
  * length (2 symbols in mode 0, 3 in mode 1, 1 in mode 2; 1, 3, 2 and 6 in modes 3 to 6) plus the offset in the slot.
  * AMC has four slot shapes, a mode for each, named bins x symbols: a subchannel is 6, 2, 3 or 1 bins in a row (modes 3
  * to 6), in every symbol of the slot. A bin is nine carriers in a row, of which one is a pilot.
+ * In PUSC downlink a cluster, 14 carriers in a row, is of one major group with its data and its pilots; which one goes by the
+ * cell. bp_place and bp_locate have no mask: where points belong is the same whatever is lit.
  *
  * POINTS AND GRIDS. A point is two floats, in-phase first; its bits are copied as they are, those of a NaN too. Lengths
  * count floats and are exact: a longer buffer is refused as a shorter one is.
- * The points of a slot stand by subchannel, then index: point `index` of `subchannel` is at 2 * (48 * subchannel + index).
- * So the points of one subchannel are the 96 floats from 96 * subchannel on.
+ * The points of a slot are those of its lit subchannels, by rising subchannel, then index: point `index` is at
+ * 2 * (48 * rank + index), rank being how many lit subchannels come before its own. So the points of one subchannel are the 96
+ * floats from 96 * rank on; where all is lit, the rank is the subchannel itself.
  * The grid of a slot stands symbol after symbol, each by rising carrier: the point on `carrier` in the symbol with this
  * offset in the slot is at 2 * (offset * size + size / 2 + carrier).
  * Complex numbers fit: an array of `float complex` (C) or `std::complex<float>` (C++) is such a buffer, cast to float *, with
@@ -67,14 +72,19 @@ extern "C" {
 #endif
 
 /* The version of this interface. It goes up where a call changes for its callers, and is in the shared library's soname,
- * libbellpulsar.so.4. Version 3 fills a slot in two moves, bp_ground and bp_lay, and no longer has bp_fill. Since
- * version 2 carriers are signed and count from DC; before that they were 0..size-1. A caller can hold itself to it:
+ * libbellpulsar.so.4. Version 4 has the mask: after the cell in bp_ground, bp_lay, bp_empty and bp_look, and as the fourth
+ * number of a plan's place, so that bp_zone_plan_read and bp_zone_plan_write with zones[32] are in place of bp_plan_read and
+ * bp_plan_write with zones[24]. Since version 3 a slot is filled in two moves, bp_ground and bp_lay, and there is no bp_fill.
+ * Since version 2 carriers are signed and count from DC; before that they were 0..size-1. A caller can hold itself to it:
  *
- *     #if BP_VERSION != 3
- *     #error "this program is written for version 3 of bellpulsar.h"
+ *     #if BP_VERSION != 4
+ *     #error "this program is written for version 4 of bellpulsar.h"
  *     #endif
  */
 #define BP_VERSION 4
+
+/* The mask of mode 0 that lights every major group. */
+#define BP_ALL_GROUPS 63
 
 /* Numbers by name: modes, kinds and refusals, which are uint32_t wherever a call takes or gives one. */
 enum bp_mode {
@@ -87,7 +97,7 @@ enum bp_mode {
     BP_AMC_1X6 = 6  /* AMC 1x6 */
 };
 
-/* What a carrier holds. bp_look tells guard and DC alike, as BP_NOTHING. */
+/* What a carrier holds. bp_look tells guard, DC and what is unlit alike, as BP_NOTHING. */
 enum bp_kind {
     BP_GUARD = 0,
     BP_DC = 1,
@@ -102,10 +112,10 @@ enum bp_refusal {
     BP_REFUSED_SIZE = 2,        /* the size is not one of that mode's (of a plan: none of 256, 512, 1024, 2048) */
     BP_REFUSED_CELL = 3,        /* the cell is out of range */
     BP_REFUSED_SLOT = 4,        /* the slot, or the zone's symbol, is out of range */
-    BP_REFUSED_SUBCHANNEL = 5,  /* the subchannel is out of range */
+    BP_REFUSED_SUBCHANNEL = 5,  /* the subchannel is out of range, or (bp_lay) unlit */
     BP_REFUSED_INDEX = 6,       /* the index is not below 48 */
     BP_REFUSED_CARRIER = 7,     /* the carrier is not from -size/2 to size/2 - 1 */
-    BP_REFUSED_POINTS_LEN = 8,  /* points_len is not that of the mode and size (bp_lay: not 96) */
+    BP_REFUSED_POINTS_LEN = 8,  /* points_len is not that of the mode, size and mask (bp_lay: not 96) */
     BP_REFUSED_GRID_LEN = 9,    /* grid_len is not that of the mode and size */
     BP_REFUSED_CUT_SHORT = 10,  /* a plan's bytes end within a value, before its third group */
     BP_REFUSED_FORM = 11,       /* a value goes on after its third group, or is not in its shortest form */
@@ -132,60 +142,62 @@ uint32_t bp_place(uint32_t mode, uint32_t size, uint32_t cell, uint32_t slot, ui
 uint32_t bp_locate(uint32_t mode, uint32_t size, uint32_t cell, uint32_t symbol, int32_t carrier,
                    uint32_t *kind, uint32_t *slot, uint32_t *subchannel, uint32_t *index);
 
-/* The floats of a slot's points, 96 for each subchannel; 0 for a mode and size that the map does not have. */
+/* The floats of a slot's points where all is lit, 96 for each subchannel; 0 for a mode and size that the map does not have. */
 size_t bp_points_len(uint32_t mode, uint32_t size);
 
-/* The floats of a slot's points where only some groups are lit, 96 for each lit subchannel: what bp_empty writes. 0 for a mode,
- * size and mask that questions 1, 2 and 17 do not let pass. */
+/* The floats of a slot's points under a mask, 96 for each lit subchannel: what bp_empty writes. 0 for a mode and size that the
+ * map does not have, and for a mask that is not of that mode. */
 size_t bp_lit_points_len(uint32_t mode, uint32_t size, uint32_t mask);
 
 /* The floats of a slot's grid, 2 for each carrier of each symbol of a slot; 0 for a mode and size that the map does not
  * have. */
 size_t bp_grid_len(uint32_t mode, uint32_t size);
 
-/* A slot is filled in two moves, with the same mode, size, cell and slot: the ground once, then each subchannel's
- * points, in any order, and again where they change. With the points of the whole slot:
+/* A slot is filled in two moves, with the same mode, size, cell, mask and slot: the ground once, then the points of each lit
+ * subchannel, in any order, and again where they change. With all points of the slot, of which an unlit subchannel takes none:
  *
- *     bp_ground(mode, size, cell, slot, pilot, grid, grid_len);
- *     for (uint32_t s = 0; s < bp_points_len(mode, size) / 96; s++)
- *         bp_lay(mode, size, cell, slot, s, points + 96 * s, 96, grid, grid_len);
+ *     bp_ground(mode, size, cell, mask, slot, pilot, grid, grid_len);
+ *     for (uint32_t s = 0, laid = 0; laid < bp_lit_points_len(mode, size, mask); s++)
+ *         if (bp_lay(mode, size, cell, mask, slot, s, points + laid, 96, grid, grid_len) != BP_REFUSED_SUBCHANNEL)
+ *             laid += 96;
  *
- * The grid then holds the point that was laid last on each data carrier, the pilot point on pilots, +0.0 on guards and
- * DC. A ground serves every slot whose pilots are on the same carriers: all slots in modes 0, 1, 4 and 6, those that agree
- * mod 3 in modes 2, 3 and 5; the cell moves no pilot. */
+ * The grid then holds the point that was laid last on each lit data carrier, the pilot point on lit pilots, +0.0 on all else.
+ * A ground serves every slot whose pilots are on the same carriers: all slots in modes 0, 1, 4 and 6, those that agree mod 3
+ * in modes 2, 3 and 5. Where all is lit it serves every cell too; else, in mode 0, only the same cell and mask. */
 
 /* Lays the ground of a slot's grid: pilots and zeros.
  *
- * pilot: the point for every pilot; it is read on a refusal too. grid: grid_len floats, whatever they hold.
- * Written where it is accepted: the whole grid, the pilot point on pilots, +0.0 on every other carrier, data too.
- * Refusals, in this order: 1 mode, 2 size, 3 cell, 4 slot, 9 grid_len. */
+ * pilot: the point for every lit pilot; it is read on a refusal too. grid: grid_len floats, whatever they hold.
+ * Written where it is accepted: the whole grid, the pilot point on lit pilots, +0.0 on every other carrier, data too.
+ * Refusals, in this order: 1 mode, 2 size, 3 cell, 17 mask, 4 slot, 9 grid_len. */
 uint32_t bp_ground(uint32_t mode, uint32_t size, uint32_t cell, uint32_t mask, uint32_t slot, const float pilot[2],
                    float *grid, size_t grid_len);
 
-/* Lays one subchannel's points on a slot's grid.
+/* Lays the points of one lit subchannel on a slot's grid.
  *
  * points: the subchannel's 48 points by index; points_len is 96. grid: grid_len floats, whatever they hold.
  * Written where it is accepted: the 96 floats of the carriers where bp_place puts the subchannel's points. Every other
  * float of the grid keeps its contents.
- * Refusals, in this order: 1 mode, 2 size, 3 cell, 4 slot, 5 subchannel, 8 points_len, 9 grid_len. */
+ * Refusals, in this order: 1 mode, 2 size, 3 cell, 17 mask, 4 slot, 5 subchannel (out of range or unlit), 8 points_len,
+ * 9 grid_len. */
 uint32_t bp_lay(uint32_t mode, uint32_t size, uint32_t cell, uint32_t mask, uint32_t slot, uint32_t subchannel,
                 const float *points, size_t points_len, float *grid, size_t grid_len);
 
-/* Takes all points of a slot off its grid: the reverse of laying every subchannel.
+/* Takes a slot's points off its grid: the reverse of laying every lit subchannel.
  *
- * grid: grid_len floats; only data carriers are read, pilots, guards and DC may hold anything.
- * Written where it is accepted: all points_len floats of points.
- * Refusals, in this order: 1 mode, 2 size, 3 cell, 4 slot, 8 points_len, 9 grid_len. */
+ * grid: grid_len floats; only lit data carriers are read, all others may hold anything.
+ * Written where it is accepted: all points_len floats of points, 96 for each lit subchannel, rising.
+ * Refusals, in this order: 1 mode, 2 size, 3 cell, 17 mask, 4 slot, 8 points_len, 9 grid_len. */
 uint32_t bp_empty(uint32_t mode, uint32_t size, uint32_t cell, uint32_t mask, uint32_t slot,
                   const float *grid, size_t grid_len, float *points, size_t points_len);
 
 /* The point on a carrier in a symbol of the zone, and whose it is.
  *
  * grid: grid_len floats, the whole grid of the symbol's slot; the point is read from it as it stands.
- * Written where it is accepted: *kind (enum bp_kind), 0 nothing (a guard or DC, whatever stands there), 2 pilot, 3 data;
- * point[0] and point[1] where that is 2 or 3; *slot, *subchannel and *index where it is 3. What is not written keeps its
- * contents.
- * Refusals, in this order: 1 mode, 2 size, 3 cell, 4 symbol, 7 carrier, 9 grid_len. */
+ * Written where it is accepted: *kind (enum bp_kind), 0 nothing (a guard, DC, or a pilot or data carrier that is unlit,
+ * whatever stands there), 2 pilot, 3 data; point[0] and point[1] where that is 2 or 3; *slot, *subchannel and *index where it
+ * is 3. What is not written keeps its contents.
+ * Refusals, in this order: 1 mode, 2 size, 3 cell, 17 mask, 4 symbol, 7 carrier, 9 grid_len. */
 uint32_t bp_look(uint32_t mode, uint32_t size, uint32_t cell, uint32_t mask, uint32_t symbol,
                  const float *grid, size_t grid_len, int32_t carrier, uint32_t *kind, float point[2],
                  uint32_t *slot, uint32_t *subchannel, uint32_t *index);
@@ -211,26 +223,26 @@ uint32_t bp_amc_collisions(uint32_t cell_a, uint32_t cell_b, uint8_t hits[48], u
 
 /* Reads a zone plan from its bytes.
  *
- * The bytes are values: the count of zones (1..8), the size (256, 512, 1024, 2048), then mode (0 or 2 to 6), cell and
- * slots (1..512) of each zone. At size 2048 the first zone is mode 0, with any cell of that mode; after AMC (modes 3 to
+ * The bytes are values: the count of zones (1..8), the size (256, 512, 1024, 2048), then mode (0 or 2 to 6), cell, slots
+ * (1..512) and mask of each zone. At size 2048 the first zone is mode 0, with any cell of that mode; after AMC (modes 3 to
  * 6) comes only AMC, of any shape.
  * A value is one to three groups of seven bits, lowest first, with the top bit set where more follow, in its shortest form.
- * len may be any number; no plan has more than 43 bytes.
- * Written where it is accepted: *count, *size, and all of zones: mode, cell and slots of eight places one after the other,
- * the places past the count all zero.
+ * len may be any number; no plan has more than 51 bytes.
+ * Written where it is accepted: *count, *size, and all of zones: mode, cell, slots and mask of eight places one after the
+ * other, the places past the count all zero.
  * Refusals, in this order: 10 and 11 at each value as it is read; 12 directly after the count; 2 directly after the size;
- * after each zone's three values 1 mode, 2 size for that mode, 3 cell, 13 slots, 14 order; at the end 15. */
+ * after each zone's four values 1 mode, 2 size for that mode, 3 cell, 13 slots, 17 mask, 14 order; at the end 15. */
 uint32_t bp_zone_plan_read(const uint8_t *bytes, size_t len, uint32_t *count, uint32_t *size, uint32_t zones[32]);
 
 /* Writes a zone plan as its bytes: the reverse of bp_zone_plan_read.
  *
  * count, size and zones are as bp_zone_plan_read gives them; places past the count must be all zero.
- * Written where it is accepted: the plan's bytes, at most 43, at the start of dest, and *written, how many they are; the
+ * Written where it is accepted: the plan's bytes, at most 51, at the start of dest, and *written, how many they are; the
  * bytes of dest behind them keep their contents.
  * Refusals, in this order: 12 count and the places past it; 2 size; for each zone in turn 1 mode, 2 size for that mode,
- * 3 cell, 13 slots, 14 order; at the end 16 dest_len. */
+ * 3 cell, 13 slots, 17 mask, 14 order; at the end 16 dest_len. */
 uint32_t bp_zone_plan_write(uint32_t count, uint32_t size, const uint32_t zones[32],
-                       uint8_t *dest, size_t dest_len, uint32_t *written);
+                            uint8_t *dest, size_t dest_len, uint32_t *written);
 
 #ifdef __cplusplus
 }

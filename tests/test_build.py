@@ -18,8 +18,8 @@ LIBRARY = os.path.join(ROOT, "build", "libbellpulsar.a")
 ASKED = ["place", "2", "1024", "17", "0", "0", "0"]
 ANSWER = "symbol 0 carrier -425\n"
 PLACED = "Place(symbol=0, carrier=-425)\n"
-VERSION = "#define BP_VERSION 3\n"
-SHARED = "libbellpulsar.so.3"
+VERSION = "#define BP_VERSION 4\n"
+SHARED = "libbellpulsar.so.4"
 
 # Each stub notes its process. The first proves at once: it says the crates that it was given one by one, then, at the static
 # library, where it notes its process, all of them again, as the prover does.
@@ -264,7 +264,7 @@ class Versions(Case):
         self.assertEqual(self.run_in_tree(*command).stderr, "")
         done = self.run_in_tree("./point", *ASKED[1:], LD_LIBRARY_PATH="build")
         self.assertEqual((done.stdout.splitlines()[0] + "\n", done.returncode), (ANSWER, 0), done.stderr)
-        self.header_with("#define BP_VERSION 4\n")
+        self.header_with("#define BP_VERSION 5\n")
         self.is_made_anew()
         os.remove(self.path("build", SHARED))
         done = self.run_in_tree("./point", *ASKED[1:], LD_LIBRARY_PATH="build")

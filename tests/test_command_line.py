@@ -167,6 +167,8 @@ class Map(Case):
         for words in ("--subchannel -1 0 2048 31 7", "0 --subchannel -1 2048 31 7", "0 2048 31 7 --subchannel=-1"):
             self.refused(5, "show " + words)
         self.refused(1, "show --subchannel -1 -1 -1 -1 -1")
+        for words in ("--mask -1 0 2048 31 7", "0 --mask -1 2048 31 7", "0 2048 31 7 --mask=-1"):
+            self.refused(17, "show " + words)
         for words in ("--output -1 --subchannel -1 -1 256 0 0", "-1 256 --output -1 0 0 --subchannel -1"):
             self.refused(1, "picture slot " + words)
         self.refused(4, "picture subchannel 0 2048 0 -1 -1 --output -1")
@@ -194,6 +196,10 @@ class Words(Case):
         words = "subchannel 192 is not one of mode 6's at size 2048: 0 to 191"
         self.refused(5, "picture subchannel 6 2048 0 0 192", words)
         self.refused(4, "show 6 256 0 3072", "symbol 3072 is not one of mode 6's: 0 to 3071")
+        self.refused(17, "show 0 2048 0 0 --mask 64", "mask 64 is not one of mode 0's: 1 to 63")
+        self.refused(17, "picture slot 2 256 0 0 --mask 0x3F", "mask 63 is not one of mode 2's: 0")
+        words = "subchannel 20 is not one of those that mask 35 lights: 0 to 19, 52 to 59"
+        self.refused(5, "show 0 2048 0 0 --mask 0b100011 --subchannel 20", words)
 
     def test_of_any_size(self):
         self.refused(1, "place %d 0 0 0 0 0" % 2**64, "mode %d is not one of the map's: 0 to 6" % 2**64)
@@ -206,9 +212,11 @@ class Words(Case):
         self.refused(12, "plan write 1024", "count 0 is not one of a plan's: 1 to 8")
         for mode in range(3, 7):
             words = "zone 2: mode 2 follows mode %d, after which only modes 3 to 6 are accepted" % mode
-            self.refused(14, "plan write 1024 %d,0,1 2,0,1" % mode, words)
-        self.refused(1, "plan write 1024 7,0,1", "zone 1: mode 7 is not one of a plan's: 0, 2, 3, 4, 5, 6")
-        self.refused(15, "plan read %s 00" % EXAMPLE, "11 bytes are given, and the plan ends after 10")
+            self.refused(14, "plan write 1024 %d,0,1,0 2,0,1,0" % mode, words)
+        self.refused(1, "plan write 1024 7,0,1,0", "zone 1: mode 7 is not one of a plan's: 0, 2, 3, 4, 5, 6")
+        self.refused(17, "plan write 2048 0,0,1,0", "zone 1: mask 0 is not one of mode 0's: 1 to 63")
+        self.refused(17, "plan write 2048 0,0,1,1 2,0,1,1", "zone 2: mask 1 is not one of mode 2's: 0")
+        self.refused(15, "plan read %s 00" % EXAMPLE, "13 bytes are given, and the plan ends after 12")
 
 
 class Collisions(Case):
@@ -233,28 +241,33 @@ class Collisions(Case):
         self.refused(3, "collisions amc 0 -1")
 
 
-EXAMPLE = "02 80 08 02 11 03 03 B0 01 01"
-EXAMPLE_TEXT = "size 1024\nmode 2 cell 17 slots 3\nmode 3 cell 176 slots 1\n"
+EXAMPLE = "02 80 08 02 11 03 00 03 B0 01 01 00"
+EXAMPLE_TEXT = "size 1024\nmode 2 cell 17 slots 3 mask 0\nmode 3 cell 176 slots 1 mask 0\n"
 
 
 class Plans(Case):
     def test_read_words(self):
         self.prints("plan read " + EXAMPLE, EXAMPLE_TEXT)
-        self.prints("plan read 0280080211 0303b00101", EXAMPLE_TEXT)
-        self.prints("plan read 01 80 10 00 00 0C", "size 2048\nmode 0 cell 0 slots 12\n")
-        self.prints("plan read 01 80 10 00 05 0C", "size 2048\nmode 0 cell 5 slots 12\n")
-        self.prints("plan read 02 80 08 04 00 01 03 00 01", "size 1024\nmode 4 cell 0 slots 1\nmode 3 cell 0 slots 1\n")
+        self.prints("plan read 0280080211 030003b0010100", EXAMPLE_TEXT)
+        self.prints("plan read 01 80 10 00 00 0C 3F", "size 2048\nmode 0 cell 0 slots 12 mask 63\n")
+        self.prints("plan read 01 80 10 00 05 0C 3F", "size 2048\nmode 0 cell 5 slots 12 mask 63\n")
+        self.prints("plan read 01 80 10 00 05 0C 01", "size 2048\nmode 0 cell 5 slots 12 mask 1\n")
+        text = "size 1024\nmode 4 cell 0 slots 1 mask 0\nmode 3 cell 0 slots 1 mask 0\n"
+        self.prints("plan read 02 80 08 04 00 01 00 03 00 01 00", text)
 
     def test_read_refusals(self):
-        self.refused(14, "plan read 01 80 10 02 00 0C")
+        self.refused(14, "plan read 01 80 10 02 00 0C 00")
+        self.refused(17, "plan read 01 80 10 02 00 0C 3F")
+        self.refused(17, "plan read 01 80 10 00 00 0C 40")
+        self.refused(10, "plan read 01 80 10 00 00 0C")
         self.refused(11, "plan read 81 00")
         self.refused(10, "plan read ''")
         self.refused(12, "plan read 00")
         self.refused(2, "plan read 01 00")
-        self.refused(1, "plan read 01 80 08 01 00 01")
-        self.refused(1, "plan read 01 80 08 07 00 01")
-        self.refused(3, "plan read 01 80 08 02 80 02 01")
-        self.refused(13, "plan read 01 80 08 02 00 00")
+        self.refused(1, "plan read 01 80 08 01 00 01 00")
+        self.refused(1, "plan read 01 80 08 07 00 01 00")
+        self.refused(3, "plan read 01 80 08 02 80 02 01 00")
+        self.refused(13, "plan read 01 80 08 02 00 00 3F")
         self.refused(15, "plan read %s 00" % EXAMPLE)
 
     def test_read_files(self):
@@ -272,36 +285,50 @@ class Plans(Case):
             self.prints("plan read --file -1", EXAMPLE_TEXT, cwd=directory)
 
     def test_write(self):
-        self.prints("plan write 1024 2,17,3 3,176,1", EXAMPLE + "\n")
-        self.prints("plan write 2048 0,0,12", "01 80 10 00 00 0C\n")
-        self.prints("plan write 2048 0,31,12 0,5,1", "02 80 10 00 1F 0C 00 05 01\n")
-        self.prints("plan write 256 %s" % " ".join(["3,0,1"] * 8), "08 80 02" + " 03 00 01" * 8 + "\n")
-        amc = "plan write 256 2,0,1 6,0,1 5,0,1 4,0,1 3,0,1 4,0,1 5,0,1 6,0,1"
-        self.prints(amc, "08 80 02 " + " ".join("%02X 00 01" % mode for mode in (2, 6, 5, 4, 3, 4, 5, 6)) + "\n")
+        self.prints("plan write 1024 2,17,3,0 3,176,1,0", EXAMPLE + "\n")
+        for mask in ("63", "0x3F", "0X3f", "0b111111", "0B0111111", "0x00003f", "00063"):
+            self.prints("plan write 2048 0,0,12,%s" % mask, "01 80 10 00 00 0C 3F\n")
+        self.prints("plan write 2048 0,31,12,63 0,5,1,21", "02 80 10 00 1F 0C 3F 00 05 01 15\n")
+        self.prints("plan write 256 %s" % " ".join(["3,0,1,0"] * 8), "08 80 02" + " 03 00 01 00" * 8 + "\n")
+        amc = "plan write 256 2,0,1,0 6,0,1,0 5,0,1,0 4,0,1,0 3,0,1,0 4,0,1,0 5,0,1,0 6,0,1,0"
+        self.prints(amc, "08 80 02 " + " ".join("%02X 00 01 00" % mode for mode in (2, 6, 5, 4, 3, 4, 5, 6)) + "\n")
 
     def test_write_refusals(self):
         self.refused(12, "plan write 1024")
-        self.refused(12, "plan write 256 %s" % " ".join(["3,0,1"] * 9))
-        self.refused(2, "plan write -1 2,17,3")
-        self.refused(1, "plan write 1024 -1,17,3")
-        self.refused(1, "plan write 1024 2,17,3 %d,17,3" % 2**64)
-        self.refused(3, "plan write 1024 2,-1,3")
-        self.refused(13, "plan write 1024 2,17,-1")
-        self.refused(14, "plan write 2048 2,0,12", "zone 1: mode 2 is first at size 2048, where only mode 0 is accepted")
-        self.refused(3, "plan write 2048 0,32,12")
-        self.refused(14, "plan write 1024 3,0,1 2,0,1")
-        self.refused(14, "plan write 2048 0,0,1 6,0,1 0,0,1")
-        self.refused(14, "plan write 2048 4,0,1")
+        self.refused(12, "plan write 256 %s" % " ".join(["3,0,1,0"] * 9))
+        self.refused(2, "plan write -1 2,17,3,0")
+        self.refused(1, "plan write 1024 -1,17,3,0")
+        self.refused(1, "plan write 1024 2,17,3,0 %d,17,3,0" % 2**64)
+        self.refused(3, "plan write 1024 2,-1,3,0")
+        self.refused(13, "plan write 1024 2,17,-1,0")
+        for mask in (1, 63, -1, 2**32, 2**64, "9" * 6000, "0x" + "F" * 6000, "0b1"):
+            self.refused(17, "plan write 1024 2,17,3,%s" % mask)
+        for mask in (0, 64, -1, 2**32 + 1, "0x40", "0b0"):
+            self.refused(17, "plan write 2048 0,5,3,%s" % mask)
+        words = "zone 1: mode 2 is first at size 2048, where only mode 0 is accepted"
+        self.refused(14, "plan write 2048 2,0,12,0", words)
+        self.refused(3, "plan write 2048 0,32,12,63")
+        self.refused(14, "plan write 1024 3,0,1,0 2,0,1,0")
+        self.refused(14, "plan write 2048 0,0,1,63 6,0,1,0 0,0,1,63")
+        self.refused(14, "plan write 2048 4,0,1,0")
 
 
 # --- a symbol as text -------------------------------------------------------------------------
 
 
-def shown(mode, size, cell, symbol, picked):
+def is_unlit(mode, size, cell, mask, carrier, what):
+    """Whether what the reference has on a carrier is a pilot or data, and unlit."""
+    return what[0] in (ref.PILOT, ref.DATA) and carrier not in ref.lit_carriers(mode, size, cell, mask)
+
+
+def shown(mode, size, cell, mask, symbol, picked):
     """The carriers of a symbol as the reference has them, a character each."""
-    signs = {ref.GUARD: "-", ref.DC: "D", ref.PILOT: "P", ref.DATA: "."}
-    whats = [ref.locate(mode, size, cell, symbol, carrier)[1] for carrier in ref.carriers(size)]
-    return "".join("#" if what[0] == ref.DATA and what[2] == picked else signs[what[0]] for what in whats)
+    signs, text = {ref.GUARD: "-", ref.DC: "D", ref.PILOT: "P", ref.DATA: "."}, ""
+    for carrier in ref.carriers(size):
+        what = ref.locate(mode, size, cell, symbol, carrier)[1]
+        sign = "#" if what[0] == ref.DATA and what[2] == picked else signs[what[0]]
+        text += "x" if is_unlit(mode, size, cell, mask, carrier, what) else sign
+    return text
 
 
 class Show(Case):
@@ -326,11 +353,27 @@ class Show(Case):
                     rows = done.stdout.decode().splitlines()[1:-1]
                     self.assertEqual([int(row[:7]) for row in rows], list(range(-size // 2, size // 2, 64)))
                     self.assertEqual({row[7:9] for row in rows}, {"  "})
-                    self.assertEqual("".join(row[9:] for row in rows), shown(mode, size, cell, symbol, picked))
+                    wanted = shown(mode, size, cell, ref.full_mask(mode), symbol, picked)
+                    self.assertEqual("".join(row[9:] for row in rows), wanted)
 
-    def test_legend_without_a_subchannel(self):
-        done = asked("show", 3, 256, 0, 0)
-        self.assertEqual(done.stdout.decode().splitlines()[-1], "- guard  D DC  P pilot  . data")
+    def test_masks_against_the_reference(self):
+        for mask, cell, symbol, picked in ((1, 0, 0, 11), (42, 31, 1023, None), (0b110000, 5, 7, 40), (62, 17, 2, 12)):
+            pick = [] if picked is None else ["--subchannel", picked]
+            for word in (mask, hex(mask), bin(mask)):
+                done = asked("show", 0, 2048, cell, symbol, "--mask", word, *pick)
+                rows = done.stdout.decode().splitlines()[1:-1]
+                self.assertEqual("".join(row[9:] for row in rows), shown(0, 2048, cell, mask, symbol, picked))
+
+    def test_legend(self):
+        for line, more in (
+            ("3 256 0 0", ""),
+            ("3 256 0 0 --mask 0", ""),
+            ("0 2048 5 3 --mask 0x3F", ""),
+            ("0 2048 5 3 --mask 1", "  x pilot or data, unlit"),
+            ("0 2048 5 3 --mask 1 --subchannel 2", "  # data of subchannel 2  x pilot or data, unlit"),
+        ):
+            done = asked("show", *line.split())
+            self.assertEqual(done.stdout.decode().splitlines()[-1], "- guard  D DC  P pilot  . data" + more)
 
     def test_refusals(self):
         self.refused(1, "show 7 2048 0 0")
@@ -340,6 +383,14 @@ class Show(Case):
         self.refused(5, "show 0 2048 31 1023 --subchannel 60")
         self.refused(5, "show 0 2048 31 1023 --subchannel=-1")
         self.refused(5, "show 0 2048 31 1023 --subchannel -1")
+        self.refused(5, "show 0 2048 31 1023 --subchannel 59 --mask 31")
+        self.refused(3, "show 0 2048 32 1024 --subchannel 60 --mask 64")
+        for mask in (0, 64, -1, 2**32, 2**32 + 1, 2**64, "9" * 6000, "0x40", "0b0", "0x" + "f" * 6000):
+            self.refused(17, "show 0 2048 31 1024 --subchannel 60 --mask %s" % mask)
+            self.refused(17, "picture slot 0 2048 31 512 --subchannel 60 --mask=%s" % mask)
+        for mask in (1, 63, -1, 2**32, "0b111111"):
+            self.refused(17, "show 2 256 0 0 --mask %s" % mask)
+            self.refused(17, "picture slot 6 2048 0 0 --mask %s" % mask)
 
 
 # --- pictures ---------------------------------------------------------------------------------
@@ -372,23 +423,25 @@ def drawn_slot(root):
     return found, told
 
 
-def slot_as_drawn(mode, size, cell, slot, picked):
+def slot_as_drawn(mode, size, cell, mask, slot, picked):
     """The same from the reference."""
     first, found = slot * ref.SLOT_LENGTH[mode], {}
     for offset in range(ref.SLOT_LENGTH[mode]):
         for carrier in ref.carriers(size):
             what = ref.locate(mode, size, cell, first + offset, carrier)[1]
             data = "subchannel-%d" % what[2] if what[0] == ref.DATA and picked in (None, what[2]) else "other"
-            found[offset, carrier] = data if what[0] == ref.DATA else what[0]
+            lit = data if what[0] == ref.DATA else what[0]
+            found[offset, carrier] = "unlit" if is_unlit(mode, size, cell, mask, carrier, what) else lit
     return found
 
 
-def is_told(title, symbol, carrier, what):
+def is_told(title, symbol, carrier, what, unlit):
     """Whether a title says of this symbol and carrier what the reference has there."""
     where, content = title.split(": ")
     carriers = re.fullmatch(r"symbol (\d+), carriers? (-?\d+)(?: to (-?\d+))?", where).groups()
     first, last = int(carriers[1]), int(carriers[2] or carriers[1])
     wanted = "subchannel %d, index %d" % what[2:] if what[0] == ref.DATA else NAMES.get(what[0], what[0])
+    wanted += ", unlit" if unlit else ""
     return int(carriers[0]) == symbol and first <= carrier <= last and content == wanted
 
 
@@ -416,17 +469,22 @@ def carrier_axis(part):
 
 
 class Pictures(Case):
+    def every_carrier(self, root, mode, size, cell, mask, slot, picked):
+        """What is drawn, and told of it, is the reference's."""
+        found, told = drawn_slot(root)
+        self.assertEqual(found, slot_as_drawn(mode, size, cell, mask, slot, picked))
+        for (offset, carrier), title in told.items():
+            symbol = slot * ref.SLOT_LENGTH[mode] + offset
+            what = ref.locate(mode, size, cell, symbol, carrier)[1]
+            unlit = is_unlit(mode, size, cell, mask, carrier, what)
+            self.assertTrue(is_told(title, symbol, carrier, what, unlit), title)
+
     def test_every_carrier_of_a_slot(self):
         slots = [(0, 2048, 5, 3), (1, 2048, 69, 511), (2, 256, 15, 2), (3, 1024, 2351, 1)]
         slots += [(4, 512, 176, 1), (5, 256, 48, 511), (6, 256, 0, 2), (6, 2048, 2351, 511)]
         for mode, size, cell, slot in slots:
             root = drawing("slot", mode, size, cell, slot)
-            found, told = drawn_slot(root)
-            self.assertEqual(found, slot_as_drawn(mode, size, cell, slot, None))
-            for (offset, carrier), title in told.items():
-                symbol = slot * ref.SLOT_LENGTH[mode] + offset
-                what = ref.locate(mode, size, cell, symbol, carrier)[1]
-                self.assertTrue(is_told(title, symbol, carrier, what), title)
+            self.every_carrier(root, mode, size, cell, ref.full_mask(mode), slot, None)
             bands = of_class(root, "g", "band")
             firsts = range(-size // 2, size // 2, BAND)
             self.assertEqual([carrier_axis(band)[0] for band in bands], [range(at, at + BAND) for at in firsts])
@@ -441,6 +499,32 @@ class Pictures(Case):
             length = ref.SLOT_LENGTH[mode]
             self.assertLessEqual({str(slot * length + offset) for offset in range(length)}, set(words))
 
+    def test_slots_of_which_some_groups_are_lit(self):
+        for mask, cell, slot, picked in ((3, 5, 3, None), (42, 31, 511, None), (8, 0, 0, 39), (62, 17, 1, 12)):
+            pick = [] if picked is None else ["--subchannel", picked]
+            root = drawing("slot", 0, 2048, cell, slot, "--mask", bin(mask), *pick)
+            self.every_carrier(root, 0, 2048, cell, mask, slot, picked)
+            hatch = root.find(SVG + "pattern")
+            unlit = {part.get("fill") for part in of_class(root, "g", "unlit")}
+            self.assertEqual(unlit, {"url(#%s)" % hatch.get("id")})
+            kinds = of_class(root, "g", "legend")[0]
+            self.assertEqual((texts(kinds)[-1], kinds[-2].get("fill")), ("pilot or data, unlit", *unlit))
+            title = "PUSC downlink (mode 0), size 2048, cell %d, slot %d, mask %d" % (cell, slot, mask)
+            told = root.find(SVG + "title").text
+            self.assertEqual(told, title if picked is None else "%s, subchannel %d picked out" % (title, picked))
+            if picked is None:
+                scale = [box.get("fill") for box in of_class(root, "g", "legend")[1].iter(SVG + "rect")]
+                hatched = [number for number, fill in enumerate(scale) if fill in unlit]
+                lit = ref.lit_subchannels(0, 2048, mask)
+                self.assertEqual(hatched, [number for number in range(60) if number not in lit])
+
+    def test_where_all_is_lit_nothing_is_hatched(self):
+        plain = asked("picture", "slot", 0, 2048, 5, 3).stdout
+        self.assertNotIn(b"hatch", plain)
+        self.assertEqual(asked("picture", "slot", 0, 2048, 5, 3, "--mask", 63).stdout, plain)
+        plain = asked("picture", "slot", 2, 256, 0, 0).stdout
+        self.assertEqual(asked("picture", "slot", 2, 256, 0, 0, "--mask", "0x0").stdout, plain)
+
     def test_the_legend_has_the_colours_of_the_paths(self):
         root = drawing("slot", 0, 2048, 5, 3)
         fills = {part.get("class"): part.get("fill") for part in root.iter(SVG + "g")}
@@ -450,7 +534,7 @@ class Pictures(Case):
     def test_a_subchannel_picked_out(self):
         root = drawing("slot", 2, 1024, 17, 0, "--subchannel", 3)
         found, told = drawn_slot(root)
-        self.assertEqual(found, slot_as_drawn(2, 1024, 17, 0, 3))
+        self.assertEqual(found, slot_as_drawn(2, 1024, 17, 0, 0, 3))
         self.assertEqual(told[0, -425], "symbol 0, carrier -425: subchannel 0, index 0")
         self.assertEqual(told[0, -500], "symbol 0, carriers -512 to -433: guard")
         self.assertEqual(list(found.values()).count("subchannel-3"), 48)
@@ -565,6 +649,7 @@ class Pictures(Case):
         self.refused(5, "picture slot 4 2048 0 0 --subchannel 96")
         self.refused(4, "picture slot 0 2048 0 -1 --subchannel -1")
         self.refused(5, "picture slot 0 2048 0 0 --subchannel 60")
+        self.refused(5, "picture slot 0 2048 0 0 --mask 1 --subchannel 12")
         self.refused(3, "picture subchannel 0 2048 0,32 0 1")
         self.refused(3, "picture subchannel 0 2048 -1,0 0 1")
         self.refused(4, "picture subchannel 0 2048 0 512 60")
@@ -597,6 +682,17 @@ class Usage(Case):
             self.assertIn(word, text)
         for words in ("PUSC downlink", "PUSC uplink", "optional FUSC", "AMC 6x1", "256 512 1024 2048", "0..2351"):
             self.assertIn(words, text)
+
+    def test_masks_of_the_help(self):
+        first, last = ref.masks(0)[0], ref.masks(0)[-1]
+        self.assertIn("lit: %d..%d, bit g for group g." % (first, last), command_line.RANGES)
+        groups = [ref.lit_subchannels(0, 2048, 1 << group) for group in range(6)]
+        told = ["%d..%d" % (group[0], group[-1]) for group in groups]
+        self.assertIn("%s and %s." % (", ".join(told[:-1]), told[-1]), command_line.RANGES.replace("\n", " "))
+        for name in COMMANDS.split("|"):
+            text = asked(*name.split(), "--help").stdout.decode()
+            self.assertEqual("--mask MASK" in text, name in ("show", "picture slot"), name)
+            self.assertEqual("MODE,CELL,SLOTS,MASK" in text, name == "plan write", name)
 
     def test_ranges_of_the_help(self):
         row = r"^  (\d)  ([\w ]+?)  +([\d ]+?)  +0\.\.(\S+) +0\.\.(\S+) +(\d)$"
@@ -644,7 +740,9 @@ class Usage(Case):
         lines = ["", "nothing", "-1", "place 2 1024 17 0 0", "place 2 1024 17 0 0 0 0", "place 2 1024 17 0 0 0 -1"]
         lines += ["locate 2 1024 17 0 0 --index 3", "collisions 48 176", "show 2 256 0 0 --sub 1"]
         lines += ["plan", "plan read", "plan read 01 --file x", "plan write", "picture slot 0 2048 0 1 --output"]
-        lines += ["picture subchannel 0 2048 0 1", "picture subchannel 0 2048 0, 1 1"]
+        lines += ["picture subchannel 0 2048 0 1", "picture subchannel 0 2048 0, 1 1", "show 0 2048 0 0 --mask"]
+        lines += ["place 0 2048 0 0 0 0 --mask 63", "locate 0 2048 0 0 0 --mask 63", "show 0 2048 0 0 63"]
+        lines += ["picture subchannel 0 2048 0 0 0 --mask 63"]
         for line in lines:
             self.not_understood(*line.split())
         done = run("place", 2, 1024, 17, 0, 0, " 1")
@@ -656,8 +754,15 @@ class Usage(Case):
         for word in words + [" 1", "1 ", "\t1", "1\n", " -1", "- 1", "-1 ", "-\u0663"]:
             self.not_understood("place", 2, 1024, 17, 0, 0, word)
             self.not_understood("show", 2, 1024, 17, 0, "--subchannel", word)
-            self.not_understood("plan", "write", 1024, "2,%s,1" % word)
-        for word in ("1,2", "1,2,3,4", "1,2,x", "2;3;4", "1,,2", " 1,2,3", "1,2,3 ", "-1, 2,3"):
+            self.not_understood("plan", "write", 1024, "2,%s,1,0" % word)
+            if word != "0x10":
+                self.not_understood("plan", "write", 1024, "2,0,1,%s" % word)
+                self.not_understood("show", 0, 2048, 17, 0, "--mask", word)
+        for word in ("0x", "0b", "0xG", "0b2", "3F", "x3F", "0o77", "-0x1", "-0b1", "0x-1", "+0x1", " 0b1", "0x1_0"):
+            self.not_understood("plan", "write", 1024, "2,0,1,%s" % word)
+            self.not_understood("show", 0, 2048, 17, 0, "--mask", word)
+            self.not_understood("picture", "slot", 0, 2048, 17, 0, "--mask", word)
+        for word in ("1,2", "1,2,3", "1,2,3,4,5", "1,2,x,4", "2;3;4;5", "1,,2,3", " 1,2,3,4", "1,2,3,4 ", "-1, 2,3,4"):
             self.not_understood("plan", "write", 1024, word)
         for word in ("8", "0g", "0x01", "-1", "1 2", " 01", "01 "):
             self.not_understood("plan", "read", "01", word)

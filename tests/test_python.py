@@ -47,20 +47,20 @@ def as_engine(value):
     return value if 0 <= value <= MOST else MOST
 
 
-def refusal(call, *fields):
+def refusal(call, *fields, **mask):
     """The number, or 0. Its words are never the question alone: they tell of this request."""
     try:
-        call(*fields)
+        call(*fields, **mask)
     except bp.Refusal as refused:
         assert refused.words != refused.question, refused
         return refused.number
     return 0
 
 
-def words(call, *fields):
+def words(call, *fields, **mask):
     """What a refusal says behind its number."""
     try:
-        call(*fields)
+        call(*fields, **mask)
     except bp.Refusal as refused:
         assert str(refused) == "refused %d: %s" % (refused.number, refused.words)
         return refused.words
@@ -234,32 +234,32 @@ def kept_by_refusals(*buffers):
         raise
 
 
-def ground_with(mode, size, cell, slot, grid_len):
+def ground_with(mode, size, cell, mask, slot, grid_len):
     grid = floats(grid_len)
     with kept_by_refusals(grid):
-        bp.ground(mode, size, cell, slot, (1.0, 0.0), grid)
+        bp.ground(mode, size, cell, slot, (1.0, 0.0), grid, mask=mask)
 
 
-def lay_with(mode, size, cell, slot, subchannel, points_len, grid_len):
+def lay_with(mode, size, cell, mask, slot, subchannel, points_len, grid_len):
     points, grid = floats(points_len, 3.0), floats(grid_len)
     with kept_by_refusals(points, grid):
-        bp.lay(mode, size, cell, slot, subchannel, points, grid)
+        bp.lay(mode, size, cell, slot, subchannel, points, grid, mask=mask)
 
 
-def fill_with(mode, size, cell, slot, points_len, grid_len):
+def fill_with(mode, size, cell, mask, slot, points_len, grid_len):
     points, grid = floats(points_len, 3.0), floats(grid_len)
     with kept_by_refusals(points, grid):
-        bp.fill(mode, size, cell, slot, (1.0, 0.0), points, grid)
+        bp.fill(mode, size, cell, slot, (1.0, 0.0), points, grid, mask=mask)
 
 
-def empty_with(mode, size, cell, slot, points_len, grid_len):
+def empty_with(mode, size, cell, mask, slot, points_len, grid_len):
     points, grid = floats(points_len, 3.0), floats(grid_len)
     with kept_by_refusals(points, grid):
-        bp.empty(mode, size, cell, slot, grid, points)
+        bp.empty(mode, size, cell, slot, grid, points, mask=mask)
 
 
-def look_with(mode, size, cell, symbol, grid_len, carrier):
-    bp.look(mode, size, cell, symbol, floats(grid_len), carrier)
+def look_with(mode, size, cell, mask, symbol, grid_len, carrier):
+    bp.look(mode, size, cell, symbol, floats(grid_len), carrier, mask=mask)
 
 
 def calls_of(mode, size):
@@ -268,17 +268,18 @@ def calls_of(mode, size):
     symbols = 512 * ref.SLOT_LENGTH[mode]
     points, grid = 96 * subs, ref.grid_floats(mode, size)
     setup, past = (mode, size, cells - 1), (7, size + 1, cells)
+    lit, unlit = (*setup, ref.full_mask(mode)), (*past, ref.full_mask(mode) + 1)
     yield bp.place, ref.place_refusal, (*setup, 511, subs - 1, 47), (*past, 512, subs, 48)
     yield bp.locate, ref.locate_refusal, (*setup, symbols - 1, size // 2 - 1), (*past, symbols, size // 2)
-    yield ground_with, ref.ground_refusal, (*setup, 511, grid), (*past, 512, grid + 2)
-    yield lay_with, ref.lay_refusal, (*setup, 511, subs - 1, 96, grid), (*past, 512, subs, points, grid - 2)
-    yield fill_with, ref.buffers_refusal, (*setup, 511, points, grid), (*past, 512, points + 1, grid + 1)
-    yield empty_with, ref.buffers_refusal, (*setup, 511, points, grid), (*past, 512, points - 1, grid - 1)
+    yield ground_with, ref.ground_refusal, (*lit, 511, grid), (*unlit, 512, grid + 2)
+    yield lay_with, ref.lay_refusal, (*lit, 511, subs - 1, 96, grid), (*unlit, 512, subs, points, grid - 2)
+    yield fill_with, ref.buffers_refusal, (*lit, 511, points, grid), (*unlit, 512, points + 1, grid + 1)
+    yield empty_with, ref.buffers_refusal, (*lit, 511, points, grid), (*unlit, 512, points - 1, grid - 1)
     yield (
         look_with,
         ref.look_refusal,
-        (*setup, symbols - 1, grid, size // 2 - 1),
-        (*past, symbols, grid + 2, size // 2),
+        (*lit, symbols - 1, grid, size // 2 - 1),
+        (*unlit, symbols, grid + 2, size // 2),
     )
     if mode == ref.OFUSC:
         yield (
@@ -294,8 +295,8 @@ def amc_refusal(cell_a, cell_b):
 
 
 AMC_COLLISIONS = (bp.amc_collisions, amc_refusal, (2351, 2351), (2352, 2352))
-LENGTHS = {ground_with: (4,), lay_with: (5, 6), fill_with: (4, 5), empty_with: (4, 5), look_with: (4,)}
-CARRIERS = {bp.locate: 4, look_with: 5}
+LENGTHS = {ground_with: (5,), lay_with: (6, 7), fill_with: (5, 6), empty_with: (5, 6), look_with: (5,)}
+CARRIERS = {bp.locate: 4, look_with: 6}
 
 
 def expected_of(expected, call, fields):
@@ -360,6 +361,13 @@ class Refusals(unittest.TestCase):
         self.assertEqual(refusal(bp.fill, 2, 1024, 255, 512, (1, 0), wrong, wrong[:0]), 4)
         self.assertEqual(refusal(bp.fill, 2, 1024, 255, 511, (1, 0), wrong, wrong[:0]), 8)
         self.assertEqual(refusal(bp.fill, 2, 1024, 255, 511, (1, 0), floats(1536), wrong[:0]), 9)
+        for mask in (1, 63, -1):
+            self.assertEqual(refusal(bp.ground, 2, 1024, 256, 512, (1, 0), wrong, mask=mask), 3)
+            self.assertEqual(refusal(bp.ground, 2, 1024, 255, 512, (1, 0), wrong, mask=mask), 17)
+            self.assertEqual(refusal(bp.lay, 2, 1024, 255, 512, 16, wrong, wrong[:0], mask=mask), 17)
+            self.assertEqual(refusal(bp.fill, 2, 1024, 255, 512, (1, 0), wrong, wrong[:0], mask=mask), 17)
+            self.assertEqual(refusal(bp.empty, 2, 1024, 255, 512, wrong[:0], wrong, mask=mask), 17)
+            self.assertEqual(refusal(bp.look, 2, 1024, 255, 512, wrong, 512, mask=mask), 17)
         self.assertEqual(refusal(bp.look, 2, 1024, 255, 0, wrong, 512), 7)
         self.assertEqual(refusal(bp.look, 2, 1024, 255, 0, wrong, 511), 9)
 
@@ -367,16 +375,18 @@ class Refusals(unittest.TestCase):
         for value in (1.0, "1", None, b"1", 2 + 0j):
             for call, _, good, _ in calls_of(2, 256):
                 for at in range(len(good)):
-                    if at not in LENGTHS.get(call, ()):
+                    no_mask = value is None and call in LENGTHS and at == 3  # which lights all
+                    if at not in LENGTHS.get(call, ()) and not no_mask:
                         with self.assertRaises(TypeError):
                             call(*good[:at], value, *good[at + 1 :])
             with self.assertRaises(TypeError):
                 bp.amc_collisions(value, 0)
             for fields in ((value, 1024), (1, value)):
                 with self.assertRaises(TypeError):
-                    bp.plan_write(*fields, [(0, 0, 0)] * 8, bytearray(9))
-            with self.assertRaises(TypeError):
-                bp.plan_bytes(1024, [(2, 0, value)])
+                    bp.plan_write(*fields, [UNUSED] * 8, bytearray(9))
+            for zone in ((2, 0, value, 0), (2, 0, 1, value)):
+                with self.assertRaises(TypeError):
+                    bp.plan_bytes(1024, [zone])
 
     def test_whatever_counts_as_an_integer_is_one(self):
         class Index:
@@ -400,13 +410,13 @@ class Refusals(unittest.TestCase):
         names = {
             bp.place: "mode size cell slot subchannel index",
             bp.locate: "mode size cell symbol carrier",
-            ground_with: "mode size cell slot grid",
-            lay_with: "mode size cell slot subchannel points grid",
-            look_with: "mode size cell symbol grid carrier",
+            ground_with: "mode size cell mask slot grid",
+            lay_with: "mode size cell mask slot subchannel points grid",
+            look_with: "mode size cell mask symbol grid carrier",
             bp.ofusc_collisions: "size cell_a subchannel_a cell_b subchannel_b",
             bp.amc_collisions: "cell_a cell_b",
         }
-        buffers = "mode size cell slot points grid"
+        buffers = "mode size cell mask slot points grid"
         for call, _, good, past in all_calls():
             mode = {bp.ofusc_collisions: 2, bp.amc_collisions: 3}.get(call, good[0])
             for at, name in enumerate(names.get(call, buffers).split()):
@@ -417,28 +427,45 @@ class Refusals(unittest.TestCase):
                 self.assertTrue(told.startswith("%s %d is not one of " % (name, past[at])), told)
                 accepted = {"mode": "0 to 6", "size": ", ".join(map(str, ref.sizes(mode)))}
                 accepted["carrier"] = "%d to %d" % (-good[at] - 1, good[at])
+                accepted["mask"] = "1 to 63" if mode == 0 else "0"
                 self.assertEqual(told.split(": ")[1], accepted.get(name, "0 to %d" % good[at]))
 
     def test_words_of_both_lengths(self):
-        self.assertEqual(words(ground_with, 2, 1024, 0, 0, 2046), "grid of 2046 floats, not 2048")
-        self.assertEqual(words(lay_with, 2, 1024, 0, 0, 0, 95, 2048), "points of 95 floats, not 96")
-        self.assertEqual(words(lay_with, 6, 2048, 0, 0, 191, 18432, 24576), "points of 18432 floats, not 96")
-        self.assertEqual(words(lay_with, 6, 2048, 0, 0, 191, 96, 4096), "grid of 4096 floats, not 24576")
-        self.assertEqual(words(fill_with, 2, 1024, 0, 0, 95, 2048), "points of 95 floats, not 1536")
-        self.assertEqual(words(empty_with, 2, 1024, 0, 0, 1536, 0), "grid of 0 floats, not 2048")
-        self.assertEqual(words(look_with, 0, 2048, 0, 0, 5, 0), "grid of 5 floats, not 8192")
-        self.assertEqual(words(fill_with, 6, 2048, 0, 0, 3072, 4096), "points of 3072 floats, not 18432")
-        self.assertEqual(words(look_with, 6, 2048, 0, 3071, 4096, 0), "grid of 4096 floats, not 24576")
+        self.assertEqual(words(ground_with, 2, 1024, 0, 0, 0, 2046), "grid of 2046 floats, not 2048")
+        self.assertEqual(words(lay_with, 2, 1024, 0, 0, 0, 0, 95, 2048), "points of 95 floats, not 96")
+        self.assertEqual(words(lay_with, 6, 2048, 0, 0, 0, 191, 18432, 24576), "points of 18432 floats, not 96")
+        self.assertEqual(words(lay_with, 6, 2048, 0, 0, 0, 191, 96, 4096), "grid of 4096 floats, not 24576")
+        self.assertEqual(words(fill_with, 2, 1024, 0, 0, 0, 95, 2048), "points of 95 floats, not 1536")
+        self.assertEqual(words(fill_with, 0, 2048, 0, 0b000011, 0, 5760, 8192), "points of 5760 floats, not 1920")
+        self.assertEqual(words(empty_with, 0, 2048, 0, 0b100000, 0, 5760, 8192), "points of 5760 floats, not 768")
+        self.assertEqual(words(empty_with, 2, 1024, 0, 0, 0, 1536, 0), "grid of 0 floats, not 2048")
+        self.assertEqual(words(look_with, 0, 2048, 0, 63, 0, 5, 0), "grid of 5 floats, not 8192")
+        self.assertEqual(words(fill_with, 6, 2048, 0, 0, 0, 3072, 4096), "points of 3072 floats, not 18432")
+        self.assertEqual(words(look_with, 6, 2048, 0, 0, 3071, 4096, 0), "grid of 4096 floats, not 24576")
 
     def test_words_of_the_shapes(self):
         self.assertEqual(words(bp.place, 7, 2048, 0, 0, 0, 0), "mode 7 is not one of the map's: 0 to 6")
         last = "subchannel 192 is not one of mode 6's at size 2048: 0 to 191"
         self.assertEqual(words(bp.place, 6, 2048, 0, 0, 192, 0), last)
-        self.assertEqual(words(lay_with, 6, 2048, 0, 0, 192, 96, 24576), last)
+        self.assertEqual(words(lay_with, 6, 2048, 0, 0, 0, 192, 96, 24576), last)
         self.assertEqual(words(bp.locate, 6, 256, 0, 3072, 0), "symbol 3072 is not one of mode 6's: 0 to 3071")
         self.assertEqual(words(bp.place, 4, 128, 0, 0, 0, 0), "size 128 is not one of mode 4's: 256, 512, 1024, 2048")
         self.assertEqual(words(bp.place, 5, 256, 2352, 0, 0, 0), "cell 2352 is not one of mode 5's: 0 to 2351")
         self.assertEqual(words(bp.amc_collisions, 2352, 0), "cell_a 2352 is not one of AMC's: 0 to 2351")
+
+    def test_words_of_masks(self):
+        self.assertEqual(words(ground_with, 0, 2048, 0, 64, 0, 8192), "mask 64 is not one of mode 0's: 1 to 63")
+        self.assertEqual(words(ground_with, 0, 2048, 0, 0, 0, 8192), "mask 0 is not one of mode 0's: 1 to 63")
+        self.assertEqual(words(look_with, 2, 256, 0, 63, 0, 512, 0), "mask 63 is not one of mode 2's: 0")
+        huge = "mask of more than 20 digits is not one of mode 0's: 1 to 63"
+        self.assertEqual(words(ground_with, 0, 2048, 0, HUGE, 0, 8192), huge)
+        told = "subchannel 25 is not one of those that mask %d lights: %s"
+        lay = (25, 96, 8192)
+        self.assertEqual(words(lay_with, 0, 2048, 0, 0b000011, 0, *lay), told % (3, "0 to 19"))
+        self.assertEqual(words(lay_with, 0, 2048, 0, 0b111011, 0, *lay), told % (59, "0 to 19, 32 to 59"))
+        self.assertEqual(words(lay_with, 0, 2048, 0, 0b100010, 0, *lay), told % (34, "12 to 19, 52 to 59"))
+        past = "subchannel 60 is not one of mode 0's: 0 to 59"
+        self.assertEqual(words(lay_with, 0, 2048, 0, 0b000011, 0, 60, 96, 8192), past)
 
     def test_words_of_plans(self):
         def read(text):
@@ -449,33 +476,40 @@ class Refusals(unittest.TestCase):
 
         self.assertEqual(read(""), "0 bytes end within the count, and more must follow")
         self.assertEqual(read("0180"), "2 bytes end within the size, and more must follow")
-        self.assertEqual(read("028008020001030001"[:-2]), "8 bytes end within zone 2's slots, and more must follow")
+        self.assertEqual(read("028008 02000100 030001"), "10 bytes end within zone 2's mask, and more must follow")
+        self.assertEqual(read("028008 02000100 0300"), "9 bytes end within zone 2's slots, and more must follow")
         self.assertEqual(read("018000"), "the size is 80 00, which is not its shortest form")
         self.assertEqual(read("018008 02 808000"), "zone 1's cell is 80 80 00, which is not its shortest form")
         self.assertEqual(read("018008 02 8080808001"), "zone 1's cell is 80 80 80, and a fourth group is not accepted")
+        self.assertEqual(read("018010 000001 8000"), "zone 1's mask is 80 00, which is not its shortest form")
         self.assertEqual(read("09"), "count 9 is not one of a plan's: 1 to 8")
         self.assertEqual(read("018001"), "size 128 is not one of a plan's: 256, 512, 1024, 2048")
-        self.assertEqual(read("028008 020001 000001"), "zone 2: size 1024 is not one of mode 0's: 2048")
-        self.assertEqual(read("028008 020001 010001"), "zone 2: mode 1 is not one of a plan's: 0, 2, 3, 4, 5, 6")
-        self.assertEqual(write(1, 256, (7, 0, 1)), "zone 1: mode 7 is not one of a plan's: 0, 2, 3, 4, 5, 6")
-        self.assertEqual(read("018008 02 8002 01"), "zone 1: cell 256 is not one of mode 2's at size 1024: 0 to 255")
-        self.assertEqual(read("018008 02 00 8104"), "zone 1: slots 513 is not one of a zone's: 1 to 512")
+        self.assertEqual(read("028008 02000100 0000013F"), "zone 2: size 1024 is not one of mode 0's: 2048")
+        self.assertEqual(read("028008 02000100 01000100"), "zone 2: mode 1 is not one of a plan's: 0, 2, 3, 4, 5, 6")
+        self.assertEqual(write(1, 256, (7, 0, 1, 0)), "zone 1: mode 7 is not one of a plan's: 0, 2, 3, 4, 5, 6")
+        self.assertEqual(read("018008 02 8002 0100"), "zone 1: cell 256 is not one of mode 2's at size 1024: 0 to 255")
+        self.assertEqual(read("018008 02 00 8104 00"), "zone 1: slots 513 is not one of a zone's: 1 to 512")
+        self.assertEqual(read("018010 000001 40"), "zone 1: mask 64 is not one of mode 0's: 1 to 63")
+        self.assertEqual(read("018010 000001 00"), "zone 1: mask 0 is not one of mode 0's: 1 to 63")
+        self.assertEqual(write(2, 256, (2, 0, 1, 0), (3, 0, 1, 63)), "zone 2: mask 63 is not one of mode 3's: 0")
+        self.assertEqual(write(1, 2048, (3, 5, 1, -1)), "zone 1: mask -1 is not one of mode 3's: 0")
         first = "zone 1: mode %d is first at size 2048, where only mode 0 is accepted"
-        self.assertEqual(read("018010 020001"), first % 2)
-        self.assertEqual(write(1, 2048, (3, 5, 1)), first % 3)
-        self.assertEqual(write(1, 2048, (0, 32, 1)), "zone 1: cell 32 is not one of mode 0's: 0 to 31")
+        self.assertEqual(read("018010 02000100"), first % 2)
+        self.assertEqual(write(1, 2048, (3, 5, 1, 0)), first % 3)
+        self.assertEqual(write(1, 2048, (0, 32, 1, 63)), "zone 1: cell 32 is not one of mode 0's: 0 to 31")
         third = "zone 3: mode %d follows mode %d, after which only modes 3 to 6 are accepted"
         for mode in range(3, 7):
-            self.assertEqual(write(1, 2048, (mode, 0, 1)), first % mode)
-            self.assertEqual(write(3, 1024, (2, 0, 1), (mode, 0, 1), (2, 0, 1)), third % (2, mode))
-            self.assertEqual(write(3, 2048, (0, 0, 1), (mode, 0, 1), (0, 0, 1)), third % (0, mode))
-        self.assertEqual(read(EXAMPLE.hex() + "00" * 500), "510 bytes are given, and the plan ends after 10")
+            amc = (mode, 0, 1, 0)
+            self.assertEqual(write(1, 2048, amc), first % mode)
+            self.assertEqual(write(3, 1024, (2, 0, 1, 0), amc, (2, 0, 1, 0)), third % (2, mode))
+            self.assertEqual(write(3, 2048, (0, 0, 1, 63), amc, (0, 0, 1, 1)), third % (0, mode))
+        self.assertEqual(read(EXAMPLE.hex() + "00" * 500), "512 bytes are given, and the plan ends after 12")
         self.assertEqual(write(-1, 1024), "count -1 is not one of a plan's: 1 to 8")
-        place = "place 3 is 0,%s,1, where past the count of 1 only zeros are accepted"
-        self.assertEqual(write(1, 1024, (2, 0, 1), UNUSED, (0, -7, 1)), place % -7)
-        self.assertEqual(write(1, 1024, (2, 0, 1), UNUSED, (0, HUGE, 1)), place % "of more than 20 digits")
-        self.assertEqual(write(1, 1024, (2, 200, 1), room=3), "dest of 3 bytes, not 7 or more")
-        self.assertEqual(words(bp.plan_bytes, 1024, [(2, 0, 1)] * 9), "count 9 is not one of a plan's: 1 to 8")
+        place = "place 3 is 0,%s,1,0, where past the count of 1 only zeros are accepted"
+        self.assertEqual(write(1, 1024, (2, 0, 1, 0), UNUSED, (0, -7, 1, 0)), place % -7)
+        self.assertEqual(write(1, 1024, (2, 0, 1, 0), UNUSED, (0, HUGE, 1, 0)), place % "of more than 20 digits")
+        self.assertEqual(write(1, 1024, (2, 200, 1, 0), room=3), "dest of 3 bytes, not 8 or more")
+        self.assertEqual(words(bp.plan_bytes, 1024, [(2, 0, 1, 0)] * 9), "count 9 is not one of a plan's: 1 to 8")
 
     def test_the_ranges_that_words_are_made_of(self):
         for mode, size in SETUPS:
@@ -484,10 +518,11 @@ class Refusals(unittest.TestCase):
             n = ref.n_of(size)
             self.assertEqual((told.cells(n), told.subchannels(n)), (ref.cells(mode, size), ref.subchannels(mode, size)))
             self.assertEqual(told.symbols, ref.SLOT_LENGTH[mode])
+            self.assertEqual(list(told.masks), list(ref.masks(mode)))
 
-    def test_sixteen_questions(self):
-        self.assertEqual(sorted(bp.QUESTIONS), list(range(1, 17)))
-        self.assertEqual(len(set(bp.QUESTIONS.values())), 16)
+    def test_seventeen_questions(self):
+        self.assertEqual(sorted(bp.QUESTIONS), list(range(1, 18)))
+        self.assertEqual(len(set(bp.QUESTIONS.values())), 17)
         self.assertTrue(all(text[0].isupper() and text.endswith("?") for text in bp.QUESTIONS.values()))
 
     def test_the_wrapper_in_rust_has_the_same_questions(self):
@@ -498,7 +533,7 @@ class Refusals(unittest.TestCase):
     def test_the_examples_in_c_have_the_same_questions(self):
         with open(os.path.join(ROOT, "examples", "c", "refusal.h")) as file:
             c = re.findall(r'^    "(.*)",$', file.read(), re.MULTILINE)
-        self.assertEqual(c, [""] + [bp.QUESTIONS[n] for n in range(1, 17)])
+        self.assertEqual(c, [""] + [bp.QUESTIONS[n] for n in range(1, 18)])
 
     def test_every_number_comes_back(self):
         def read(text):
@@ -517,12 +552,13 @@ class Refusals(unittest.TestCase):
             read(""),
             read("8100"),
             read("00"),
-            read("018008020000"),
-            read("01801002000C"),
-            read("02800802110303B0010100"),
-            refusal(bp.plan_write, 1, 1024, [(2, 0, 1)] + [(0, 0, 0)] * 7, bytearray(5)),
+            read("01800802000000"),
+            read("01801002000C00"),
+            read(EXAMPLE.hex() + "00"),
+            refusal(bp.plan_write, 1, 1024, [(2, 0, 1, 0)] + [UNUSED] * 7, bytearray(6)),
+            read("01801002000C3F"),
         ]
-        self.assertEqual(numbers, list(range(1, 17)))
+        self.assertEqual(numbers, list(range(1, 18)))
 
 
 # --- grids ------------------------------------------------------------------------------------
@@ -536,6 +572,12 @@ def random_bits(rng, count):
 
 def as_floats(patterns):
     return memoryview(patterns).cast("B").cast("f")
+
+
+def as_seen(what):
+    """The reference's answer to a look as the module gives it."""
+    kind = {"nothing": Kind.NOTHING, ref.PILOT: Kind.PILOT, ref.DATA: Kind.DATA}[what[0]]
+    return bp.Seen(kind, *(tuple(part) if isinstance(part, list) else part for part in what[1:]))
 
 
 def own(points, subchannel):
@@ -597,7 +639,8 @@ class Grids(unittest.TestCase):
                 points = random_bits(rng, 96 * ref.subchannels(mode, size))
                 pilot = random_bits(rng, 2)
                 grid = random_bits(rng, ref.grid_floats(mode, size))
-                after = ref.fill(mode, size, cell, slot, pilot.tolist(), points.tolist(), grid.tolist())
+                setup = (mode, size, cell, ref.full_mask(mode), slot)
+                after = ref.fill(*setup, pilot.tolist(), points.tolist(), grid.tolist())
                 before = points[:], pilot[:]
                 bp.fill(mode, size, cell, slot, as_floats(pilot), as_floats(points), as_floats(grid))
                 self.assertEqual((0, grid.tolist()), after)
@@ -608,16 +651,13 @@ class Grids(unittest.TestCase):
 
     def test_look_as_the_reference(self):
         rng = random.Random(7)
-        kinds = {"nothing": Kind.NOTHING, ref.PILOT: Kind.PILOT, ref.DATA: Kind.DATA}
         for mode, size in SETUPS:
             grid = array("f", [rng.randrange(-1000, 1000) / 8 for _ in range(ref.grid_floats(mode, size))])
             cell, length = ref.cells(mode, size) - 1, ref.SLOT_LENGTH[mode]
             for symbol in range(5 * length, 6 * length):
                 for carrier in ref.carriers(size):
-                    what = ref.look(mode, size, cell, symbol, grid, carrier)[1]
-                    wanted = (kinds[what[0]], *(tuple(part) if isinstance(part, list) else part for part in what[1:]))
-                    seen = bp.look(mode, size, cell, symbol, grid, carrier)
-                    self.assertEqual(seen, wanted + (None,) * (5 - len(wanted)))
+                    what = ref.look(mode, size, cell, ref.full_mask(mode), symbol, grid, carrier)[1]
+                    self.assertEqual(bp.look(mode, size, cell, symbol, grid, carrier), as_seen(what))
 
     def test_look_keeps_a_quiet_nan(self):
         patterns = array("I", [0xFFC12345, 0x7FC00007]) * 1024
@@ -647,6 +687,132 @@ class Grids(unittest.TestCase):
             self.assertEqual(grid[0], 0.0)
 
 
+class Masks(unittest.TestCase):
+    """A slot of PUSC downlink of which only some major groups are lit."""
+
+    def test_without_a_mask_all_is_lit(self):
+        rng = random.Random(16)
+        self.assertEqual(bp.ALL_GROUPS, 63)
+        for mode, size in SETUPS:
+            setup, full = (mode, size, 1, 2), ref.full_mask(mode)
+            points, pilot = random_bits(rng, 96 * ref.subchannels(mode, size)), as_floats(random_bits(rng, 2))
+            one, other = grid_for(mode, size), grid_for(mode, size)
+            for call, buffers in ((bp.ground, ()), (bp.fill, (as_floats(points),))):
+                for mask in (None, full):
+                    call(*setup, pilot, *buffers, one)
+                    call(*setup, pilot, *buffers, other, mask=mask)
+                    self.assertEqual(one.tobytes(), other.tobytes())
+            again = random_bits(rng, len(points))
+            bp.empty(*setup, one, as_floats(again), mask=full)
+            self.assertEqual(again, points)
+            symbol = 2 * ref.SLOT_LENGTH[mode]
+            for carrier in range(-20, 20):
+                seen = [repr(bp.look(*setup[:3], symbol, one, carrier, mask=mask)) for mask in (None, full)]
+                self.assertEqual(*seen)
+
+    def test_every_mask_to_the_bit(self):
+        """The ground and both moves, whatever the grid holds, and the lit points back."""
+        rng = random.Random(17)
+        for mask in ref.masks(0):
+            setup, slot = (0, 2048, rng.randrange(32)), rng.randrange(512)
+            lit = ref.lit_subchannels(0, 2048, mask)
+            points, pilot, grid = random_bits(rng, 96 * len(lit)), random_bits(rng, 2), random_bits(rng, 8192)
+            moved = grid[:]
+            bp.ground(*setup, slot, as_floats(pilot), as_floats(grid), mask=mask)
+            _, after = ref.ground(*setup, mask, slot, pilot.tolist(), moved.tolist())
+            self.assertEqual(grid, array("I", after), mask)
+            _, after = ref.fill(*setup, mask, slot, pilot.tolist(), points.tolist(), moved.tolist())
+            bp.fill(*setup, slot, as_floats(pilot), as_floats(points), as_floats(moved), mask=mask)
+            self.assertEqual(moved, array("I", after), mask)
+            for rank, subchannel in rng.sample(list(enumerate(lit)), len(lit)):
+                bp.lay(*setup, slot, subchannel, as_floats(own(points, rank)), as_floats(grid), mask=mask)
+            self.assertEqual(grid, moved, mask)
+            again = random_bits(rng, len(points))
+            bp.empty(*setup, slot, as_floats(grid), as_floats(again), mask=mask)
+            self.assertEqual(again, points, mask)
+            self.assertEqual(grid, moved, mask)
+
+    def test_a_lay_and_no_other_float(self):
+        """Whatever the grid holds, on what is unlit too."""
+        rng = random.Random(20)
+        for mask in (1, 2, 12, 21, 42, 62):
+            cell, slot = rng.randrange(32), rng.randrange(512)
+            subchannel = rng.choice(ref.lit_subchannels(0, 2048, mask))
+            grid, points = random_bits(rng, 8192), random_bits(rng, 96)
+            _, after = ref.lay(0, 2048, cell, mask, slot, subchannel, points.tolist(), grid.tolist())
+            bp.lay(0, 2048, cell, slot, subchannel, as_floats(points), as_floats(grid), mask=mask)
+            self.assertEqual(grid, array("I", after), mask)
+
+    def test_empty_reads_lit_data_alone(self):
+        """And writes no float beside the points."""
+        rng = random.Random(18)
+        for mask in (1, 2, 12, 21, 42, 62):
+            grid, points = random_bits(rng, 8192), random_bits(rng, 96 * len(ref.lit_subchannels(0, 2048, mask)))
+            _, after = ref.empty(0, 2048, 7, mask, 3, grid.tolist(), points.tolist())
+            large = array("I", [5]) + points + array("I", [6])
+            bp.empty(0, 2048, 7, 3, as_floats(grid), as_floats(large)[1:-1], mask=mask)
+            self.assertEqual(large, array("I", [5, *after, 6]), mask)
+
+    def test_the_subchannels_of_every_mask(self):
+        """Of the lit ones a lay is taken; the others meet 5, and nothing is written."""
+        grid, points = grid_for(0, 2048), floats(96, 3.0)
+        for mask in ref.masks(0):
+            taken = [s for s in range(61) if refusal(bp.lay, 0, 2048, 31, 511, s, points, grid, mask=mask) == 0]
+            self.assertEqual(taken, list(ref.lit_subchannels(0, 2048, mask)))
+        for mask, subchannel in ((1, 12), (62, 11), (32, 51), (31, 52), (55, 39), (63, 60), (1, -1), (1, 2**32)):
+            self.assertEqual(refusal(lay_with, 0, 2048, 31, mask, 511, subchannel, 95, 1), 5)
+            self.assertEqual(refusal(lay_with, 0, 2048, 31, mask, 511, subchannel, 96, 8192), 5)
+
+    def test_look_at_every_carrier(self):
+        """Nothing on what is unlit, whatever the grid holds there."""
+        rng = random.Random(19)
+        grid = array("f", [rng.randrange(-1000, 1000) / 8 for _ in range(8192)])
+        for mask, cell, symbol in ((1, 0, 0), (2, 31, 1), (12, 5, 6), (21, 17, 1023), (42, 30, 1022), (62, 1, 3)):
+            for carrier in ref.carriers(2048):
+                what = ref.look(0, 2048, cell, mask, symbol, grid, carrier)[1]
+                self.assertEqual(bp.look(0, 2048, cell, symbol, grid, carrier, mask=mask), as_seen(what))
+
+    def test_three_sectors_make_up_the_slot(self):
+        """Each lights two groups: no float is two sectors', and all together they are the slot with everything lit."""
+        points, whole = array("f", range(1, 5761)), grid_for(0, 2048)
+        bp.fill(0, 2048, 5, 3, (-1, -2), points, whole)
+        parts = []
+        for sector, mask in enumerate((0b000011, 0b001100, 0b110000)):
+            parts.append(grid_for(0, 2048))
+            bp.fill(0, 2048, 5, 3, (-1, -2), points[1920 * sector :][:1920], parts[-1], mask=mask)
+        for floats_there, float_whole in zip(zip(*parts), whole):
+            self.assertEqual(sorted(floats_there, key=abs), [0.0, 0.0, float_whole])
+
+    def test_masks_out_of_range(self):
+        """Refused by every call that has a mask, and nothing is written."""
+        for mode, size in SETUPS:
+            points, grid = 96 * ref.subchannels(mode, size), ref.grid_floats(mode, size)
+            for mask in (0, 64, 127, 128, 2**31, 2**32 + 1, 2**64 + 1, *NEVER) if mode == 0 else (1, 63, 64, *NEVER):
+                setup = (mode, size, 0, mask)
+                self.assertEqual(refusal(ground_with, *setup, 0, grid), 17)
+                self.assertEqual(refusal(lay_with, *setup, 0, 0, 96, grid), 17)
+                self.assertEqual(refusal(fill_with, *setup, 0, points, grid), 17)
+                self.assertEqual(refusal(empty_with, *setup, 0, points, grid), 17)
+                self.assertEqual(refusal(look_with, *setup, 0, grid, 0), 17)
+                self.assertEqual(bp.lit_points_len(mode, size, mask), 0)
+
+    def test_points_of_the_lit_alone(self):
+        for mask in (1, 32, 21, 62):
+            lit = 96 * len(ref.lit_subchannels(0, 2048, mask))
+            for length in (0, 96, lit - 96, lit - 1, lit + 1, lit + 96, 5760):
+                self.assertEqual(refusal(fill_with, 0, 2048, 0, mask, 0, length, 8192), 8)
+                self.assertEqual(refusal(empty_with, 0, 2048, 0, mask, 0, length, 8192), 8)
+
+    def test_given_by_name(self):
+        grid = grid_for(0, 2048)
+        for call, fields in ((bp.ground, ((1, 2), grid)), (bp.look, (grid, 0))):
+            self.assertRaises(TypeError, call, 0, 2048, 0, 0, *fields, 63)
+        for mask in (1.0, "1", b"1", [1]):
+            self.assertRaises(TypeError, bp.ground, 0, 2048, 0, 0, (1, 2), grid, mask=mask)
+            self.assertRaises(TypeError, bp.lit_points_len, 0, 2048, mask)
+        self.assertEqual(grid, grid_for(0, 2048))
+
+
 class Lengths(unittest.TestCase):
     def test_as_the_reference(self):
         sizes = [*range(0, 4200), 2**16 + 256, 2**31, 2**32 - 1, 2**32 + 256, -256, HUGE]
@@ -655,6 +821,11 @@ class Lengths(unittest.TestCase):
                 setup = as_engine(mode), as_engine(size)
                 lengths = ref.points_len(*setup), ref.grid_len(*setup)
                 self.assertEqual((bp.points_len(mode, size), bp.grid_len(mode, size)), lengths, (mode, size))
+                for mask in (0, 1, 63, 64) if size in ref.BIN_SIZES or size == 2**32 + 256 else ():
+                    self.assertEqual(bp.lit_points_len(mode, size, mask), ref.lit_points_len(*setup, mask))
+        for mask in range(130):
+            self.assertEqual(bp.lit_points_len(0, 2048, mask), ref.lit_points_len(0, 2048, mask))
+        self.assertEqual((bp.lit_points_len(0, 2048), bp.lit_points_len(1, 2048)), (5760, 6720))
         self.assertEqual(bp.points_len(mode=1, size=2048), 6720)
         self.assertEqual((bp.points_len(bp.AMC_1X6, 2048), bp.grid_len(bp.AMC_1X6, 2048)), (18432, 24576))
         for value in (1.0, "1", None):
@@ -767,8 +938,8 @@ class Lending(unittest.TestCase):
             refusal(bp.fill, 2, 256, cell, 0, pilot, points, grid)
             refusal(bp.empty, 2, 256, cell, 0, grid, points)
             refusal(bp.look, 2, 256, cell, 0, grid, 0)
-            refusal(bp.plan_bytes, 256, [(2, cell, 1)])
-            refusal(bp.plan_write, 1, 256, [(2, cell, 1)] + [(0, 0, 0)] * 7, dest)
+            refusal(bp.plan_bytes, 256, [(2, cell, 1, 0)])
+            refusal(bp.plan_write, 1, 256, [(2, cell, 1, 0)] + [UNUSED] * 7, dest)
             refusal(bp.plan_read, dest)
         self.assertRaises(ValueError, bp.fill, 2, 256, 0, 0, floats(3), points, grid)
         self.assertRaises(ValueError, bp.fill, 2, 256, 0, 0, pilot, grid, grid)
@@ -865,7 +1036,7 @@ class NoRefusal(unittest.TestCase):
         self.assertEqual(kept, bytes(2048))
         self.fails(BufferError, bp.empty, 2, 256, 0, 0, self.grid, memoryview(self.points).toreadonly())
         kept = bytes(64)
-        self.fails(BufferError, bp.plan_write, 1, 1024, [(2, 0, 1)] + [(0, 0, 0)] * 7, kept)
+        self.fails(BufferError, bp.plan_write, 1, 1024, [(2, 0, 1, 0)] + [UNUSED] * 7, kept)
         self.assertEqual(kept, bytes(64))
 
     def test_not_aligned(self):
@@ -930,16 +1101,16 @@ class NoRefusal(unittest.TestCase):
         self.fails(ValueError, bp.lay, 9, 256, 0, 0, 0, self.grid, self.grid)
         self.fails(ValueError, bp.empty, 9, 256, 0, 0, self.grid, self.grid)
 
-    def test_zones_that_are_not_eight_by_three(self):
-        zone, unused = (2, 0, 1), (0, 0, 0)
-        for zones in ([], [zone] * 7, [zone] * 9, [zone] * 7 + [(0, 0)], [zone] * 7 + [(0,) * 4]):
+    def test_zones_that_are_not_eight_by_four(self):
+        zone = (2, 0, 1, 0)
+        for zones in ([], [zone] * 7, [zone] * 9, [zone] * 7 + [(0,) * 3], [zone] * 7 + [(0,) * 5]):
             dest = bytearray(b"\x55" * 80)
             self.fails(ValueError, bp.plan_write, 1, 1024, zones, dest)
             self.assertEqual(dest, b"\x55" * 80)
-        self.fails(TypeError, bp.plan_write, 1, 1024, [0] * 24, bytearray(80))
+        self.fails(TypeError, bp.plan_write, 1, 1024, [0] * 32, bytearray(80))
         self.fails(TypeError, bp.plan_bytes, 1024, zone)
-        self.fails(ValueError, bp.plan_bytes, 1024, [(2, 0)])
-        self.fails(TypeError, bp.plan_write, 1, 1024, [zone] + [unused] * 7, array("f", [0] * 9))
+        self.fails(ValueError, bp.plan_bytes, 1024, [(2, 0, 1)])
+        self.fails(TypeError, bp.plan_write, 1, 1024, [zone] + [UNUSED] * 7, array("f", [0] * 9))
         self.fails(TypeError, bp.plan_read, "0280")
         self.fails(TypeError, bp.plan_read, array("H", [1, 2]))
         self.fails(BufferError, bp.plan_read, memoryview(bytes(8))[::2])
@@ -947,9 +1118,9 @@ class NoRefusal(unittest.TestCase):
 
 # --- plans ------------------------------------------------------------------------------------
 
-EXAMPLE = bytes.fromhex("02800802110303B00101")
-LARGEST = bytes([8, 0x80, 0x10, 0, 0, 1]) + bytes([2, 0xFF, 7, 0x80, 4]) * 7
-UNUSED = (0, 0, 0)
+EXAMPLE = bytes.fromhex("028008 02110300 03B0010100")
+LARGEST = bytes([8, 0x80, 8]) + bytes([3, 0xAF, 0x12, 0x80, 4, 0]) * 8
+UNUSED = (0, 0, 0, 0)
 
 
 def random_plan(rng):
@@ -960,7 +1131,9 @@ def random_plan(rng):
         modes = [0] if not zones and size == 2048 else [2, 3, 4, 5, 6]
         mode = rng.choice(range(8) if rng.random() < 0.2 else modes)
         cell = rng.choice([0, 5, 31, 31, 32] if mode == 0 else [0, 15, 16, 255, 1023, 2351, 2352, MOST])
-        zones.append((mode, cell, rng.choice([1, 3, 512, 1, 3, 512, 0, 513])))
+        masks = [63, 1, 32, 21] if mode == 0 else [0]
+        mask = rng.choice([0, 1, 63, 64, MOST] if rng.random() < 0.2 else masks)
+        zones.append((mode, cell, rng.choice([1, 3, 512, 1, 3, 512, 0, 513]), mask))
     return size, zones
 
 
@@ -979,11 +1152,14 @@ def read_as_module(data):
 class Plans(unittest.TestCase):
     def test_known_plans(self):
         plan = bp.plan_read(EXAMPLE)
-        self.assertEqual(plan, bp.Plan(1024, (bp.Zone(2, 17, 3), bp.Zone(3, 176, 1))))
+        self.assertEqual(plan, bp.Plan(1024, (bp.Zone(2, 17, 3, 0), bp.Zone(3, 176, 1, 0))))
         self.assertEqual((plan.size, plan.zones[1].cell), (1024, 176))
-        self.assertEqual(bp.plan_read(bytes.fromhex("01801000000C")), (2048, ((0, 0, 12),)))
-        self.assertEqual(bp.plan_read(bytes.fromhex("01801000050C")), (2048, ((0, 5, 12),)))
-        self.assertEqual(refusal(bp.plan_read, bytes.fromhex("01801002000C")), 14)
+        self.assertEqual(bp.plan_read(bytes.fromhex("01801000000C3F")), (2048, ((0, 0, 12, 63),)))
+        self.assertEqual(bp.plan_read(bytes.fromhex("01801000050C3F")), (2048, ((0, 5, 12, 63),)))
+        self.assertEqual(bp.plan_read(bytes.fromhex("01801000050C15")).zones[0].mask, 0b010101)
+        self.assertEqual(refusal(bp.plan_read, bytes.fromhex("01801002000C00")), 14)
+        self.assertEqual(refusal(bp.plan_read, bytes.fromhex("01801002000C3F")), 17)
+        self.assertEqual(len(LARGEST), 51)
 
     def test_every_kind_of_bytes(self):
         wanted = bp.plan_read(EXAMPLE)
@@ -995,9 +1171,9 @@ class Plans(unittest.TestCase):
     def test_reading_as_the_reference(self):
         rng = random.Random(8)
         for _ in range(4000):
-            data = bytearray(rng.choice([EXAMPLE, LARGEST, bytes.fromhex("01801000000C")]))
+            data = bytearray(rng.choice([EXAMPLE, LARGEST, bytes.fromhex("01801000000C3F")]))
             for _ in range(rng.randrange(3)):
-                data[rng.randrange(len(data))] = rng.choice([*range(9), 0x80, 0x81, rng.randrange(256)])
+                data[rng.randrange(len(data))] = rng.choice([*range(9), 0x3F, 0x40, 0x80, 0x81, rng.randrange(256)])
             data = data[: rng.randrange(len(data) + 1)] if rng.random() < 0.2 else data
             self.assertEqual(read_as_module(data), read_as_reference(data), data.hex())
 
@@ -1007,7 +1183,7 @@ class Plans(unittest.TestCase):
             size, zones = random_plan(rng)
             count = len(zones) if rng.random() < 0.9 else rng.choice([0, 9, len(zones) - 1, -1, 2**32, HUGE])
             places = zones + [UNUSED] * (8 - len(zones))
-            dest = bytearray(rng.randbytes(rng.choice([0, 5, 6, 42, 43, 60])))
+            dest = bytearray(rng.randbytes(rng.choice([0, 6, 7, 50, 51, 60])))
             after = ref.write_plan(as_engine(count), size, places, dest)
             try:
                 answer = (0, bp.plan_write(count, size, places, dest))
@@ -1015,57 +1191,72 @@ class Plans(unittest.TestCase):
                 answer = (refused.number, 0)
             self.assertEqual((*answer, list(dest)), after)
             met.add(answer[0])
-        self.assertEqual(met, {0, 1, 2, 3, 12, 13, 14, 16})
+        self.assertEqual(met, {0, 1, 2, 3, 12, 13, 14, 16, 17})
 
     def test_every_order_of_two_zones(self):
         """Only AMC, modes 3 to 6, follows AMC; at 2048 mode 0 is first."""
         for size in ref.BIN_SIZES:
-            first, modes = ([(0, 5, 1)], [0, 2, 3, 4, 5, 6]) if size == 2048 else ([], [2, 3, 4, 5, 6])
+            first, modes = ([(0, 5, 1, 63)], [0, 2, 3, 4, 5, 6]) if size == 2048 else ([], [2, 3, 4, 5, 6])
             for one, other in itertools.product(modes, modes):
-                zones = first + [(one, 0, 1), (other, 1, 512)]
+                zones = first + [(one, 0, 1, ref.full_mask(one)), (other, 1, 512, ref.full_mask(other))]
                 number = refusal(bp.plan_bytes, size, zones)
                 self.assertEqual(number, 14 if one >= 3 > other else 0, (size, zones))
                 if number == 0:
                     self.assertEqual(bp.plan_read(bp.plan_bytes(size, zones)), (size, tuple(zones)))
-        self.assertEqual([refusal(bp.plan_bytes, 2048, [(mode, 0, 1)]) for mode in range(8)], [0, 1] + [14] * 5 + [1])
+        firsts = [refusal(bp.plan_bytes, 2048, [(mode, 0, 1, ref.full_mask(mode))]) for mode in range(8)]
+        self.assertEqual(firsts, [0, 1] + [14] * 5 + [1])
+
+    def test_every_mask(self):
+        """1 to 63 in mode 0, 0 in the others; in a plan it comes after the slots and before the order."""
+        for mode, mask in itertools.product(range(7), [*range(130), *NEVER]):
+            cell = 0 if mode == 0 else 3
+            first = [(0, cell, 512, 63)] if mode else []
+            zones = first + [(mode, cell, 2, mask)]
+            number = 1 if mode == 1 else 0 if mask in ref.masks(mode) else 17
+            self.assertEqual(refusal(bp.plan_bytes, 2048, zones), number, zones)
+            if number == 0:
+                self.assertEqual(bp.plan_read(bp.plan_bytes(2048, zones)), (2048, tuple(zones)))
+        self.assertEqual(refusal(bp.plan_bytes, 2048, [(2, 0, 0, 63)]), 13)
+        self.assertEqual(refusal(bp.plan_bytes, 2048, [(2, 0, 1, 63)]), 17)
+        self.assertEqual(refusal(bp.plan_bytes, 2048, [(2, 0, 1, 0)]), 14)
 
     def test_integers_out_of_range(self):
         for value in NEVER:
-            for number, at in ((1, 0), (3, 1), (13, 2)):
-                zone = [2, 17, 3]
+            for number, at in ((1, 0), (3, 1), (13, 2), (17, 3)):
+                zone = [2, 17, 3, 0]
                 zone[at] = value
                 self.assertEqual(refusal(bp.plan_bytes, 1024, [zone]), number)
-                self.assertEqual(refusal(bp.plan_bytes, 1024, [(2, 17, 3), zone]), number)
+                self.assertEqual(refusal(bp.plan_bytes, 1024, [(2, 17, 3, 0), zone]), number)
                 past = [UNUSED] * 8
-                past[0], past[7] = (2, 17, 3), tuple(value if i == at else 0 for i in range(3))
+                past[0], past[7] = (2, 17, 3, 0), tuple(value if i == at else 0 for i in range(4))
                 self.assertEqual(refusal(bp.plan_write, 1, 1024, past, bytearray(80)), 12)
-            self.assertEqual(refusal(bp.plan_bytes, value, [(2, 17, 3)]), 2)
-            self.assertEqual(refusal(bp.plan_write, value, value, [(value,) * 3] * 8, bytearray()), 12)
+            self.assertEqual(refusal(bp.plan_bytes, value, [(2, 17, 3, 0)]), 2)
+            self.assertEqual(refusal(bp.plan_write, value, value, [(value,) * 4] * 8, bytearray()), 12)
 
     def test_places_past_the_count(self):
         for place in range(1, 8):
-            for at in range(3):
-                places = [[0, 0, 0] for _ in range(8)]
-                places[0], places[place][at] = [2, 17, 3], 1
+            for at in range(4):
+                places = [[0, 0, 0, 0] for _ in range(8)]
+                places[0], places[place][at] = [2, 17, 3, 0], 1
                 self.assertEqual(refusal(bp.plan_write, 1, 1024, places, bytearray(80)), 12)
 
     def test_destination(self):
-        places = [(2, 17, 3), (3, 176, 1)] + [UNUSED] * 6
-        for length in range(14):
+        places = [(2, 17, 3, 0), (3, 176, 1, 0)] + [UNUSED] * 6
+        for length in range(16):
             dest = bytearray(b"\x55" * (length + 3))
             number = refusal(bp.plan_write, 2, 1024, places, memoryview(dest)[1 : 1 + length])
-            self.assertEqual(number, 0 if length >= 10 else 16)
-            written = EXAMPLE if length >= 10 else b""
+            self.assertEqual(number, 0 if length >= 12 else 16)
+            written = EXAMPLE if length >= 12 else b""
             self.assertEqual(dest, b"\x55" + written + b"\x55" * (length + 2 - len(written)))
-        self.assertEqual(bp.plan_write(2, 1024, places, bytearray(12)), 10)
+        self.assertEqual(bp.plan_write(2, 1024, places, bytearray(14)), 12)
 
     def test_bytes_and_back(self):
         for data in (EXAMPLE, LARGEST):
             self.assertEqual(bp.plan_bytes(*bp.plan_read(data)), data)
-        self.assertIs(type(bp.plan_bytes(1024, [(2, 17, 3)])), bytes)
+        self.assertIs(type(bp.plan_bytes(1024, [(2, 17, 3, 0)])), bytes)
         self.assertEqual(refusal(bp.plan_bytes, 1024, []), 12)
-        self.assertEqual(refusal(bp.plan_bytes, 1024, [(2, 0, 1)] * 8), 0)
-        self.assertEqual(refusal(bp.plan_bytes, 1024, [(2, 0, 1)] * 9), 12)
+        self.assertEqual(refusal(bp.plan_bytes, 1024, [(2, 0, 1, 0)] * 8), 0)
+        self.assertEqual(refusal(bp.plan_bytes, 1024, [(2, 0, 1, 0)] * 9), 12)
 
 
 # --- loading ----------------------------------------------------------------------------------
@@ -1117,7 +1308,7 @@ class Loading(unittest.TestCase):
         public = {name for name in calls if not name.startswith("_")}
         modes = {"PUSC_DL", "PUSC_UL", "OFUSC", "AMC", "AMC_2X3", "AMC_3X2", "AMC_1X6"}
         self.assertEqual(sorted(getattr(bp, name) for name in modes), list(range(7)))
-        self.assertEqual(set(found) - {"__builtins__"}, public | modes | {"QUESTIONS"})
+        self.assertEqual(set(found) - {"__builtins__"}, public | modes | {"ALL_GROUPS", "QUESTIONS"})
         self.assertEqual(len(bp.__all__), len(set(bp.__all__)))
 
     def test_what_is_said_of_numpy(self):

@@ -20,21 +20,21 @@ int main(int argc, char **argv)
 {
     uint8_t bytes[128], again[128];
     size_t len = 0;
-    uint32_t count, size, zones[24], written;
+    uint32_t count, size, zones[32], written;
     for (int i = 1; i < argc; i++) {
         uint8_t next = byte(argv[i]);
         if (len < sizeof bytes)
             bytes[len++] = next;
     }
 
-    uint32_t refused = bp_plan_read(bytes, len, &count, &size, zones);
+    uint32_t refused = bp_zone_plan_read(bytes, len, &count, &size, zones);
     if (refused == BP_ACCEPTED)
-        refused = bp_plan_write(count, size, zones, again, sizeof again, &written);
+        refused = bp_zone_plan_write(count, size, zones, again, sizeof again, &written);
     if (refused != BP_ACCEPTED)
         return print_refusal(refused);
     printf("size %u\n", size);
     for (uint32_t k = 0; k < count; k++)
-        printf("mode %u cell %u slots %u\n", zones[3 * k], zones[3 * k + 1], zones[3 * k + 2]);
+        printf("mode %u cell %u slots %u mask %u\n", zones[4 * k], zones[4 * k + 1], zones[4 * k + 2], zones[4 * k + 3]);
     printf("bytes");
     for (uint32_t i = 0; i < written; i++)
         printf(" %02X", again[i]);

@@ -5,16 +5,16 @@
 #include <stdint.h>
 #include <stdio.h>
 
-static const char *const questions[17] = {
+static const char *const questions[18] = {
     "",
     "Is the mode listed (in a plan: 0 or 2 to 6)?",
     "Is the size that mode's (of a plan: 256, 512, 1024 or 2048)?",
     "Is the cell in range?",
     "Is the slot below 512, the zone's symbol below 512 times the slot length?",
-    "Is the subchannel in range?",
+    "Is the subchannel in range (of a lay: and lit)?",
     "Is the index below 48?",
     "Is the carrier from -size/2 to size/2 - 1?",
-    "Are the points just 96 floats for each subchannel (of a lay: 96)?",
+    "Are the points just 96 floats for each subchannel that is lit (of a lay: 96)?",
     "Is the grid just 2 * size floats for each symbol of a slot?",
     "Do the bytes reach to the value's end or its third group?",
     "Does the value end by its third group, in shortest form?",
@@ -23,6 +23,7 @@ static const char *const questions[17] = {
     "At 2048, is the first zone mode 0, and does only AMC (modes 3 to 6) follow AMC?",
     "Are the bytes used up?",
     "Is the destination long enough?",
+    "Is the mask 1 to 63 in mode 0, 0 in the others?",
 };
 
 /* 0 where all could be written, else 2. */

@@ -73,10 +73,10 @@ impl Refusal {
             2 => "Is the size that mode's (of a plan: 256, 512, 1024 or 2048)?",
             3 => "Is the cell in range?",
             4 => "Is the slot below 512, the zone's symbol below 512 times the slot length?",
-            5 => "Is the subchannel in range?",
+            5 => "Is the subchannel in range (of a lay: and lit)?",
             6 => "Is the index below 48?",
             7 => "Is the carrier from -size/2 to size/2 - 1?",
-            8 => "Are the points just 96 floats for each subchannel (of a lay: 96)?",
+            8 => "Are the points just 96 floats for each subchannel that is lit (of a lay: 96)?",
             9 => "Is the grid just 2 * size floats for each symbol of a slot?",
             10 => "Do the bytes reach to the value's end or its third group?",
             11 => "Does the value end by its third group, in shortest form?",
@@ -85,6 +85,7 @@ impl Refusal {
             14 => "At 2048, is the first zone mode 0, and does only AMC (modes 3 to 6) follow AMC?",
             15 => "Are the bytes used up?",
             16 => "Is the destination long enough?",
+            17 => "Is the mask 1 to 63 in mode 0, 0 in the others?",
             _ => "A question that document 01 does not have",
         }
     }
@@ -143,7 +144,7 @@ pub enum Content {
     Data(Address),
 }
 
-/// What stands on a carrier of a grid: nothing on guards and DC.
+/// What stands on a carrier of a grid: nothing on guards, DC and what is unlit.
 #[derive(Clone, Copy, Debug, PartialEq)]
 pub enum Seen {
     Nothing,
@@ -163,6 +164,7 @@ pub struct Zone {
     pub mode: u32,
     pub cell: u32,
     pub slots: u32,
+    pub mask: u32,
 }
 
 /// A zone plan; the places past the count are all zero.
@@ -220,10 +222,21 @@ pub fn locate(setup: Setup, at: Place) -> Result<Content, Refusal> {
     })
 }
 
-/// The floats of a slot's points, 96 for each subchannel; 0 for a mode and size that the map does not have.
+/// The mask of mode 0 that lights every major group: bit g is for group g. The other modes have mask 0, and all is lit.
+pub const ALL_GROUPS: u32 = 63;
+
+/// The floats of a slot's points where all is lit, 96 for each subchannel; 0 for a mode and size that the map does not
+/// have.
 pub fn points_len(mode: u32, size: u32) -> usize {
     // Safety: no pointer is given.
     unsafe { c::bp_points_len(mode, size) }
+}
+
+/// The floats of a slot's points under a mask, 96 for each lit subchannel; 0 for a mode and size that the map does not
+/// have, and for a mask that is not of that mode.
+pub fn lit_points_len(mode: u32, size: u32, mask: u32) -> usize {
+    // Safety: no pointer is given.
+    unsafe { c::bp_lit_points_len(mode, size, mask) }
 }
 
 /// The floats of a slot's grid, 2 for each carrier of each symbol of a slot; 0 for a mode and size that the map does not
@@ -233,9 +246,15 @@ pub fn grid_len(mode: u32, size: u32) -> usize {
     unsafe { c::bp_grid_len(mode, size) }
 }
 
-/// The first move of filling a slot's grid: the pilot point on pilots, 0.0 on every other carrier, data too. The whole
-/// grid is written.
-pub fn ground(setup: Setup, slot: u32, pilot: Point, grid: &mut [f32]) -> Result<(), Refusal> {
+/// The first move of filling a slot's grid: the pilot point on lit pilots, 0.0 on every other carrier, data too. The
+/// whole grid is written.
+pub fn ground(
+    setup: Setup,
+    mask: u32,
+    slot: u32,
+    pilot: Point,
+    grid: &mut [f32],
+) -> Result<(), Refusal> {
     let Setup { mode, size, cell } = setup;
     // Safety: each pointer comes with its slice's own length, and a slice lent mutably overlaps no other.
     done(unsafe {
@@ -243,6 +262,7 @@ pub fn ground(setup: Setup, slot: u32, pilot: Point, grid: &mut [f32]) -> Result
             mode,
             size,
             cell,
+            mask,
             slot,
             pilot.as_ptr(),
             grid.as_mut_ptr(),
@@ -251,11 +271,13 @@ pub fn ground(setup: Setup, slot: u32, pilot: Point, grid: &mut [f32]) -> Result
     })
 }
 
-/// The second move: lays one subchannel's 48 points, 96 floats, on the grid; no other float of it is written.
+/// The second move: lays the 48 points, 96 floats, of one lit subchannel on the grid; no other float of it is written.
 /// Subchannels may be laid in any order, and again. A ground serves every slot whose pilots are on the same carriers: all
-/// slots in modes 0, 1, 4 and 6, those that agree mod 3 in modes 2, 3 and 5; the cell moves no pilot.
+/// slots in modes 0, 1, 4 and 6, those that agree mod 3 in modes 2, 3 and 5. Where all is lit it serves every cell too;
+/// else, in mode 0, only the same cell and mask.
 pub fn lay(
     setup: Setup,
+    mask: u32,
     slot: u32,
     subchannel: u32,
     points: &[f32],
@@ -268,6 +290,7 @@ pub fn lay(
             mode,
             size,
             cell,
+            mask,
             slot,
             subchannel,
             points.as_ptr(),
@@ -278,8 +301,14 @@ pub fn lay(
     })
 }
 
-/// Takes all points of a slot off its grid; all of `points` is written.
-pub fn empty(setup: Setup, slot: u32, grid: &[f32], points: &mut [f32]) -> Result<(), Refusal> {
+/// Takes the points of the lit subchannels off a slot's grid, rising; all of `points` is written.
+pub fn empty(
+    setup: Setup,
+    mask: u32,
+    slot: u32,
+    grid: &[f32],
+    points: &mut [f32],
+) -> Result<(), Refusal> {
     let Setup { mode, size, cell } = setup;
     // Safety: as in `ground`.
     done(unsafe {
@@ -287,6 +316,7 @@ pub fn empty(setup: Setup, slot: u32, grid: &[f32], points: &mut [f32]) -> Resul
             mode,
             size,
             cell,
+            mask,
             slot,
             grid.as_ptr(),
             grid.len(),
@@ -297,7 +327,13 @@ pub fn empty(setup: Setup, slot: u32, grid: &[f32], points: &mut [f32]) -> Resul
 }
 
 /// The point on a carrier in a symbol of the zone, read from the grid of the symbol's slot, and whose it is.
-pub fn look(setup: Setup, symbol: u32, grid: &[f32], carrier: i32) -> Result<Seen, Refusal> {
+pub fn look(
+    setup: Setup,
+    mask: u32,
+    symbol: u32,
+    grid: &[f32],
+    carrier: i32,
+) -> Result<Seen, Refusal> {
     let Setup { mode, size, cell } = setup;
     let (mut kind, mut point, mut of) = (0, [0.0; 2], Address::default());
     // Safety: the grid comes with its own length, and the out parameters are distinct variables.
@@ -306,6 +342,7 @@ pub fn look(setup: Setup, symbol: u32, grid: &[f32], carrier: i32) -> Result<See
             mode,
             size,
             cell,
+            mask,
             symbol,
             grid.as_ptr(),
             grid.len(),
@@ -365,10 +402,10 @@ pub fn amc_collisions(cell_a: u32, cell_b: u32) -> Result<Collisions, Refusal> {
 
 /// The zone plan that the bytes are.
 pub fn plan_read(bytes: &[u8]) -> Result<Plan, Refusal> {
-    let (mut plan, mut numbers) = (Plan::default(), [0u32; 24]);
-    // Safety: the bytes come with their own length, and `numbers` has the 24 that are written.
+    let (mut plan, mut numbers) = (Plan::default(), [0u32; 32]);
+    // Safety: the bytes come with their own length, and `numbers` has the 32 that are written.
     done(unsafe {
-        c::bp_plan_read(
+        c::bp_zone_plan_read(
             bytes.as_ptr(),
             bytes.len(),
             &mut plan.count,
@@ -376,11 +413,12 @@ pub fn plan_read(bytes: &[u8]) -> Result<Plan, Refusal> {
             numbers.as_mut_ptr(),
         )
     })?;
-    for (zone, three) in plan.zones.iter_mut().zip(numbers.chunks_exact(3)) {
+    for (zone, four) in plan.zones.iter_mut().zip(numbers.chunks_exact(4)) {
         *zone = Zone {
-            mode: three[0],
-            cell: three[1],
-            slots: three[2],
+            mode: four[0],
+            cell: four[1],
+            slots: four[2],
+            mask: four[3],
         };
     }
     Ok(plan)
@@ -388,13 +426,13 @@ pub fn plan_read(bytes: &[u8]) -> Result<Plan, Refusal> {
 
 /// Writes a plan at the start of `dest` and tells how many bytes it takes; further bytes stay.
 pub fn plan_write(plan: &Plan, dest: &mut [u8]) -> Result<usize, Refusal> {
-    let (mut numbers, mut written) = ([0u32; 24], 0);
-    for (three, zone) in numbers.chunks_exact_mut(3).zip(plan.zones) {
-        three.copy_from_slice(&[zone.mode, zone.cell, zone.slots]);
+    let (mut numbers, mut written) = ([0u32; 32], 0);
+    for (four, zone) in numbers.chunks_exact_mut(4).zip(plan.zones) {
+        four.copy_from_slice(&[zone.mode, zone.cell, zone.slots, zone.mask]);
     }
-    // Safety: `numbers` has the 24 that are read, and the destination comes with its own length.
+    // Safety: `numbers` has the 32 that are read, and the destination comes with its own length.
     done(unsafe {
-        c::bp_plan_write(
+        c::bp_zone_plan_write(
             plan.count,
             plan.size,
             numbers.as_ptr(),

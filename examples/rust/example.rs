@@ -4,8 +4,8 @@
 //!     carrier MODE SIZE CELL SYMBOL CARRIER            what a carrier, counted from DC, holds in a symbol
 //!     collisions SIZE CELL SUBCHANNEL CELL SUBCHANNEL  where two cells collide in optional FUSC
 //!     collisions CELL CELL                             where two cells collide in AMC
-//!     slot MODE SIZE CELL SLOT                         fills a slot's grid in two moves, lays subchannel 1
-//!                                                      again, and takes all points off the grid
+//!     slot MODE SIZE CELL MASK SLOT                    fills a slot's grid in two moves, lays the last lit
+//!                                                      subchannel again, and takes all points off the grid
 //!     plan BYTE..                                      reads a zone plan (each byte two hex digits),
 //!                                                      prints its zones, and writes it again
 
@@ -19,7 +19,7 @@ use std::process::exit;
 const USAGE: &str = "usage: point MODE SIZE CELL SLOT SUBCHANNEL INDEX
        carrier MODE SIZE CELL SYMBOL CARRIER
        collisions SIZE CELL SUBCHANNEL CELL SUBCHANNEL, or collisions CELL CELL
-       slot MODE SIZE CELL SLOT
+       slot MODE SIZE CELL MASK SLOT
        plan BYTE..";
 
 /// Ends a program that is misused. (eprintln! would panic where nothing can be written.)
@@ -102,51 +102,70 @@ fn collisions(what: &str, found: Result<Collisions, Refusal>) -> Result<String, 
     Ok(format!("{what}{hit}\ncount {}\n", found.count))
 }
 
-/// The point on a carrier, and whose it is.
-fn point_at(setup: Setup, at: Place, grid: &[f32]) -> Result<String, Refusal> {
-    let Place { symbol, carrier } = at;
-    Ok(match bellpulsar::look(setup, symbol, grid, carrier)? {
-        Seen::Data([i, q], of) => format!(
-            "symbol {symbol} carrier {carrier}: point ({i}, {q}) of slot {} subchannel {} index {}\n",
-            of.slot, of.subchannel, of.index
-        ),
-        _ => String::new(),
-    })
-}
-
-fn slot(setup: Setup, slot: u32) -> Result<String, Refusal> {
-    const OWN: usize = 96; // the floats of one subchannel's points
+/// What the grid holds where point 0 of a subchannel belongs.
+fn point_of(
+    setup: Setup,
+    mask: u32,
+    slot: u32,
+    subchannel: u32,
+    grid: &[f32],
+) -> Result<String, Refusal> {
     let address = Address {
         slot,
-        subchannel: 1,
+        subchannel,
         index: 0,
     };
-    let at = bellpulsar::place(setup, address)?;
-    let count = bellpulsar::points_len(setup.mode, setup.size) / 2;
-    let mut points: Vec<f32> = (0..count).flat_map(|n| [n as f32, -(n as f32)]).collect();
-    let mut grid = vec![0.0; bellpulsar::grid_len(setup.mode, setup.size)];
+    let Place { symbol, carrier } = bellpulsar::place(setup, address)?;
+    let what = match bellpulsar::look(setup, mask, symbol, grid, carrier)? {
+        Seen::Data([i, q], of) => format!(
+            "point ({i}, {q}) of slot {} subchannel {} index {}",
+            of.slot, of.subchannel, of.index
+        ),
+        _ => format!("nothing, subchannel {subchannel} is unlit"),
+    };
+    Ok(format!("symbol {symbol} carrier {carrier}: {what}\n"))
+}
 
-    // The ground once; then the subchannels, here from the last to the first: any order will do.
-    bellpulsar::ground(setup, slot, [1.0, 0.0], &mut grid)?;
-    for (subchannel, own) in points.chunks(OWN).enumerate().rev() {
-        bellpulsar::lay(setup, slot, subchannel as u32, own, &mut grid)?;
+fn slot(setup: Setup, mask: u32, slot: u32) -> Result<String, Refusal> {
+    const OWN: usize = 96; // the floats of one subchannel's points
+    let Setup { mode, size, .. } = setup;
+    let points_len = bellpulsar::lit_points_len(mode, size, mask);
+    let mut points: Vec<f32> = (1..=points_len / 2)
+        .flat_map(|n| [n as f32, -(n as f32)])
+        .collect();
+    let mut grid = vec![0.0; bellpulsar::grid_len(mode, size)];
+
+    // The ground once; then the subchannels. One that is unlit is refused, and the next takes these points.
+    bellpulsar::ground(setup, mask, slot, [1.0, 0.0], &mut grid)?;
+    let (mut left, mut next, mut last) = (&points[..], 0, 0);
+    while !left.is_empty() {
+        match bellpulsar::lay(setup, mask, slot, next, &left[..OWN], &mut grid) {
+            Ok(()) => (last, left) = (next, &left[OWN..]),
+            Err(Refusal(5)) => {}
+            Err(refusal) => return Err(refusal),
+        }
+        next += 1;
     }
-    let mut text = point_at(setup, at, &grid)?;
+    let lit = points_len / OWN;
+    let count = bellpulsar::points_len(mode, size) / OWN;
+    let mut text = format!("{lit} of {count} subchannels lit\n");
+    text += &point_of(setup, mask, slot, 0, &grid)?;
+    text += &point_of(setup, mask, slot, count as u32 - 1, &grid)?;
 
-    // Other points for subchannel 1: pilots, zeros and the other subchannels stay as they are.
+    // Other points for the last one that is lit: pilots, zeros and the other subchannels stay as they are.
     let before = grid.clone();
-    let own = &mut points[OWN..2 * OWN];
+    let own = &mut points[points_len - OWN..];
     own.iter_mut().for_each(|float| *float = -*float);
-    bellpulsar::lay(setup, slot, 1, own, &mut grid)?;
+    bellpulsar::lay(setup, mask, slot, last, own, &mut grid)?;
     let changed = grid.iter().zip(&before).filter(|(a, b)| a != b).count();
     let floats = grid.len();
-    text += &format!("subchannel 1 again: {changed} of {floats} floats changed\n");
-    text += &point_at(setup, at, &grid)?;
+    text += &format!("subchannel {last} again: {changed} of {floats} floats changed\n");
+    text += &point_of(setup, mask, slot, last, &grid)?;
 
-    let mut back = vec![0.0; points.len()];
-    bellpulsar::empty(setup, slot, &grid, &mut back)?;
+    let mut back = vec![0.0; points_len];
+    bellpulsar::empty(setup, mask, slot, &grid, &mut back)?;
     let all = if back == points { "all" } else { "not all" };
-    Ok(text + &format!("{count} points: {all} back\n"))
+    Ok(text + &format!("{} points: {all} back\n", points_len / 2))
 }
 
 fn plan(bytes: &[u8]) -> Result<String, Refusal> {
@@ -156,8 +175,8 @@ fn plan(bytes: &[u8]) -> Result<String, Refusal> {
     let mut text = format!("size {}\n", plan.size);
     for zone in &plan.zones[..plan.count as usize] {
         text += &format!(
-            "mode {} cell {} slots {}\n",
-            zone.mode, zone.cell, zone.slots
+            "mode {} cell {} slots {} mask {}\n",
+            zone.mode, zone.cell, zone.slots, zone.mask
         );
     }
     let bytes: String = again[..written]
@@ -201,7 +220,9 @@ fn run(name: &str, words: &[String]) -> Result<String, Refusal> {
         ("collisions", &[cell_a, cell_b]) => {
             collisions("indices", bellpulsar::amc_collisions(cell_a, cell_b))
         }
-        ("slot", &[mode, size, cell, number]) => slot(Setup { mode, size, cell }, number),
+        ("slot", &[mode, size, cell, mask, number]) => {
+            slot(Setup { mode, size, cell }, mask, number)
+        }
         _ => usage(),
     }
 }

@@ -30,22 +30,37 @@ any order, and again where they change. Here all of them are taken off again:
     >>> again == points
     True
 
-`fill` makes both moves, with the points of a whole slot.
+`fill` makes both moves, with the points of a whole slot. A sector of PUSC downlink that lights only some of the six
+major groups gives a mask, bit g for group g. Here groups 0 and 1 are lit, which have subchannels 0 to 19:
+
+    >>> points = array("f", range(bellpulsar.lit_points_len(0, 2048, mask=0b000011)))
+    >>> len(points) // 96
+    20
+    >>> grid = array("f", [0.0]) * bellpulsar.grid_len(0, 2048)
+    >>> bellpulsar.fill(0, 2048, 5, 3, (1.0, 0.0), points, grid, mask=0b000011)
+    >>> bellpulsar.look(0, 2048, 5, 6, grid, -71, mask=0b000011)
+    Seen(kind=<Kind.DATA: 'data'>, point=Point(i=0.0, q=1.0), slot=3, subchannel=0, index=0)
+    >>> bellpulsar.look(0, 2048, 5, 6, grid, 254, mask=0b000011)  # of subchannel 59, which is unlit
+    Seen(kind=<Kind.NOTHING: 'nothing'>, point=None, slot=None, subchannel=None, index=None)
 
 Modes and their ranges; N is size / 64:
 
-    mode                    size                    cell        subchannels  symbols a slot
-    0 PUSC_DL PUSC downlink 2048                    0..31       60           2
-    1 PUSC_UL PUSC uplink   2048                    0..69       70           3
-    2 OFUSC   optional FUSC 256, 512, 1024, 2048    0..N*N-1    N            1
-    3 AMC     AMC 6x1       256, 512, 1024, 2048    0..2351     N            1
-    4 AMC_2X3 AMC 2x3       256, 512, 1024, 2048    0..2351     3 * N        3
-    5 AMC_3X2 AMC 3x2       256, 512, 1024, 2048    0..2351     2 * N        2
-    6 AMC_1X6 AMC 1x6       256, 512, 1024, 2048    0..2351     6 * N        6
+    mode                    size                    cell        mask   subchannels  symbols a slot
+    0 PUSC_DL PUSC downlink 2048                    0..31       1..63  60           2
+    1 PUSC_UL PUSC uplink   2048                    0..69       0      70           3
+    2 OFUSC   optional FUSC 256, 512, 1024, 2048    0..N*N-1    0      N            1
+    3 AMC     AMC 6x1       256, 512, 1024, 2048    0..2351     0      N            1
+    4 AMC_2X3 AMC 2x3       256, 512, 1024, 2048    0..2351     0      3 * N        3
+    5 AMC_3X2 AMC 3x2       256, 512, 1024, 2048    0..2351     0      2 * N        2
+    6 AMC_1X6 AMC 1x6       256, 512, 1024, 2048    0..2351     0      6 * N        6
 
 The cell is the permutation base. Slots are 0..511. A slot has 48 points a subchannel, with the indices 0..47. Carriers
 are -size/2..size/2-1, by rising frequency, with DC at 0. AMC has four slot shapes, bins x symbols; a bin is nine
 carriers in a row, of which one is a pilot.
+
+The mask says which major groups of PUSC downlink are lit. Groups 0 to 5 have the subchannels 0..11, 12..19, 20..31,
+32..39, 40..51 and 52..59. Without a mask, or with None, all is lit: in mode 0 that is ALL_GROUPS, in every other mode
+0, which is all that these take. A slot's points are those of its lit subchannels, by rising subchannel.
 
 Numbers. Any integer may stand in any field. One that 32 bits do not hold, negative ones too, reaches the engine as
 2**32 - 1, which no question lets pass, so it is refused in its turn. A carrier is signed: one beyond 32 bits reaches
@@ -81,6 +96,7 @@ __all__ = [
     "AMC_2X3",
     "AMC_3X2",
     "AMC_1X6",
+    "ALL_GROUPS",
     "QUESTIONS",
     "Refusal",
     "Kind",
@@ -94,6 +110,7 @@ __all__ = [
     "place",
     "locate",
     "points_len",
+    "lit_points_len",
     "grid_len",
     "ground",
     "lay",
@@ -109,6 +126,7 @@ __all__ = [
 
 PUSC_DL, PUSC_UL, OFUSC = 0, 1, 2
 AMC, AMC_2X3, AMC_3X2, AMC_1X6 = 3, 4, 5, 6
+ALL_GROUPS = 0b111111  # the mask of mode 0 that lights every major group
 
 
 class Refusal(Exception):
@@ -126,7 +144,8 @@ class Refusal(Exception):
 
 
 def _refusal(number, **asked):
-    """Of a request's fields as they were given; a length is a pair, that given and the right one."""
+    """Of a request's fields as they were given; a length is a pair, that given and the right one, and what is lit is a
+    row of subchannels."""
     asked = {name: value if isinstance(value, tuple) else operator.index(value) for name, value in asked.items()}
     return Refusal(number, refusals.field_words(number, asked))
 
@@ -135,7 +154,8 @@ def _refusal(number, **asked):
 
 
 class Kind(enum.Enum):
-    """What a carrier holds. `look` says NOTHING for a guard and for DC; `locate` tells them apart."""
+    """What a carrier holds. `look` says NOTHING for a guard, for DC and for what is unlit; `locate` tells guard and DC
+    apart, and knows no mask."""
 
     GUARD = "guard"
     DC = "DC"
@@ -190,6 +210,7 @@ class Zone(NamedTuple):
     mode: int
     cell: int
     slots: int
+    mask: int
 
 
 class Plan(NamedTuple):
@@ -235,9 +256,23 @@ def locate(mode, size, cell, symbol, carrier):
 # --- grids ------------------------------------------------------------------------------------
 
 
+def _mask(mode, mask):
+    """As it is given, or the one that lights all."""
+    if mask is not None:
+        return mask
+    return ALL_GROUPS if operator.index(mode) == PUSC_DL else 0
+
+
 def points_len(mode, size):
-    """The floats of a slot's points, 96 for each subchannel; 0 for a mode and size that the map does not have."""
+    """The floats of a slot's points where all is lit, 96 for each subchannel; 0 for a mode and size that the map does
+    not have."""
     return engine.bp_points_len(*numbers(mode, size))
+
+
+def lit_points_len(mode, size, mask=None):
+    """The floats of a slot's points under a mask, 96 for each lit subchannel; 0 for a mode and size that the map does
+    not have, and for a mask that is not of that mode."""
+    return engine.bp_lit_points_len(*numbers(mode, size, _mask(mode, mask)))
 
 
 def grid_len(mode, size):
@@ -247,113 +282,134 @@ def grid_len(mode, size):
 
 
 _SUBCHANNEL_LEN = 2 * refusals.POINTS  # the floats of one subchannel's points
+_UNLIT = 5  # what a lay answers for a subchannel that is out of range or unlit
 
 
-def ground(mode, size, cell, slot, pilot, grid):
-    """Lays the ground of a slot's grid, the first move of filling it. Refusals 1, 2, 3, 4, 9.
+def _lit(mode, size, mask):
+    """The subchannels that are lit: of these, and no others, a lay of no floats comes to the question about them."""
+    fields, none = numbers(mode, size, 0, mask, 0), (None, 0, None, 0)
+    every = range(points_len(mode, size) // _SUBCHANNEL_LEN)
+    return tuple(subchannel for subchannel in every if engine.bp_lay(*fields, subchannel, *none) != _UNLIT)
 
-    The whole grid is written: the pilot point on pilots, 0.0 on every other carrier, data carriers too.
+
+def ground(mode, size, cell, slot, pilot, grid, *, mask=None):
+    """Lays the ground of a slot's grid, the first move of filling it. Refusals 1, 2, 3, 17, 4, 9.
+
+    The whole grid is written: the pilot point on lit pilots, 0.0 on every other carrier, data carriers too.
 
     pilot: a complex number or two numbers (rounded to 32-bit floats), or a buffer of two floats, whose bits are copied
     as they are.
     grid: `grid_len(mode, size)` floats, symbol after symbol, each by rising carrier: the point of `carrier` in the
     symbol with this offset in the slot is at 2 * (offset * size + size // 2 + carrier).
     """
-    fields, pilot = numbers(mode, size, cell, slot), pilot_point(pilot)
+    mask = _mask(mode, mask)
+    fields, pilot = numbers(mode, size, cell, mask, slot), pilot_point(pilot)
     with lent(grid, "grid", FLOAT, writable=True) as target:
         refused = engine.bp_ground(*fields, pilot, target.address, target.length)
     if refused:
         lengths = (target.length, grid_len(mode, size))
-        raise _refusal(refused, mode=mode, size=size, cell=cell, slot=slot, grid=lengths)
+        raise _refusal(refused, mode=mode, size=size, cell=cell, mask=mask, slot=slot, grid=lengths)
 
 
-def lay(mode, size, cell, slot, subchannel, points, grid):
-    """Lays one subchannel's points on a slot's grid, the second move of filling it. Refusals 1, 2, 3, 4, 5, 8, 9.
+def lay(mode, size, cell, slot, subchannel, points, grid, *, mask=None):
+    """Lays the points of one lit subchannel on a slot's grid, the second move of filling it.
 
     No other float of the grid is written. Subchannels may be laid in any order, and again: the last time counts. Bits
-    are copied as they are, those of a NaN too.
+    are copied as they are, those of a NaN too. Refusals 1, 2, 3, 17, 4, 5 (out of range or unlit), 8, 9.
 
-    points: the subchannel's 48 points by index, in-phase first: 96 floats. Of a slot's points they are those from
-    96 * subchannel on.
+    points: the subchannel's 48 points by index, in-phase first: 96 floats. Where all is lit, they are those of a slot's
+    points from 96 * subchannel on.
     grid: as in `ground`. A ground serves every slot whose pilots are on the same carriers: all slots in modes 0, 1, 4
-    and 6, those that agree mod 3 in modes 2, 3 and 5; the cell moves no pilot.
+    and 6, those that agree mod 3 in modes 2, 3 and 5. Where all is lit it serves every cell too; else, in mode 0, only
+    the same cell and mask.
     """
-    fields = numbers(mode, size, cell, slot, subchannel)
+    mask = _mask(mode, mask)
+    fields = numbers(mode, size, cell, mask, slot, subchannel)
     with lent(points, "points", FLOAT) as source, lent(grid, "grid", FLOAT, writable=True) as target:
         apart(source, target)
         refused = engine.bp_lay(*fields, source.address, source.length, target.address, target.length)
     if refused:
+        of = {"mode": mode, "size": size, "cell": cell, "mask": mask, "slot": slot, "subchannel": subchannel}
         lengths = {"points": (source.length, _SUBCHANNEL_LEN), "grid": (target.length, grid_len(mode, size))}
-        raise _refusal(refused, mode=mode, size=size, cell=cell, slot=slot, subchannel=subchannel, **lengths)
+        raise _refusal(refused, **of, **lengths, lit=_lit(mode, size, mask))
 
 
-def _slot_refusal(refused, mode, size, cell, slot, points, grid):
+def _slot_refusal(refused, mode, size, cell, mask, slot, points, grid):
     """Of fill and empty, which have all points of a slot."""
-    lengths = {"points": (points.length, points_len(mode, size)), "grid": (grid.length, grid_len(mode, size))}
-    return _refusal(refused, mode=mode, size=size, cell=cell, slot=slot, **lengths)
+    lengths = {
+        "points": (points.length, lit_points_len(mode, size, mask)),
+        "grid": (grid.length, grid_len(mode, size)),
+    }
+    return _refusal(refused, mode=mode, size=size, cell=cell, mask=mask, slot=slot, **lengths)
 
 
 def _fill_refusal(fields, pilot, points, grid):
     """The first of fill's questions that is answered no, or 0. The engine is asked for a ground of no floats, which it
     refuses, by 9 at the latest: so nothing is written."""
+    mode, size, _, mask, _ = fields
     refused = engine.bp_ground(*fields, pilot, grid.address, 0)
     if refused != 9:
         return refused
-    if points.length != engine.bp_points_len(*fields[:2]):
+    if points.length != engine.bp_lit_points_len(mode, size, mask):
         return 8
-    return 9 if grid.length != engine.bp_grid_len(*fields[:2]) else 0
+    return 9 if grid.length != engine.bp_grid_len(mode, size) else 0
 
 
-def fill(mode, size, cell, slot, pilot, points, grid):
-    """`ground`, and then `lay` for each subchannel. Refusals 1, 2, 3, 4, 8, 9.
+def fill(mode, size, cell, slot, pilot, points, grid, *, mask=None):
+    """`ground`, and then `lay` for each lit subchannel. Refusals 1, 2, 3, 17, 4, 8, 9.
 
     A convenience of this package: the engine has the two moves only. Every question is put before the first of them.
 
-    points: `points_len(mode, size)` floats, by subchannel and index, in-phase first.
+    points: `lit_points_len(mode, size, mask)` floats, by lit subchannel, rising, and index, in-phase first.
     pilot, grid: as in `ground`.
     """
-    fields, pilot = numbers(mode, size, cell, slot), pilot_point(pilot)
+    mask = _mask(mode, mask)
+    fields, pilot = numbers(mode, size, cell, mask, slot), pilot_point(pilot)
     with lent(points, "points", FLOAT) as source, lent(grid, "grid", FLOAT, writable=True) as target:
         apart(source, target)
         refused = _fill_refusal(fields, pilot, source, target)
         if refused:
-            raise _slot_refusal(refused, mode, size, cell, slot, source, target)
+            raise _slot_refusal(refused, mode, size, cell, mask, slot, source, target)
         engine.bp_ground(*fields, pilot, target.address, target.length)
-        for subchannel in range(source.length // _SUBCHANNEL_LEN):
-            own = source.address + FLOAT.bytes * _SUBCHANNEL_LEN * subchannel
-            engine.bp_lay(*fields, subchannel, own, _SUBCHANNEL_LEN, target.address, target.length)
+        subchannel, own = 0, source.address
+        while own < source.end:
+            laid = engine.bp_lay(*fields, subchannel, own, _SUBCHANNEL_LEN, target.address, target.length)
+            own += 0 if laid == _UNLIT else FLOAT.bytes * _SUBCHANNEL_LEN
+            subchannel += 1
 
 
-def empty(mode, size, cell, slot, grid, points):
-    """Takes a slot's points off its grid, into `points`. Refusals 1, 2, 3, 4, 8, 9.
+def empty(mode, size, cell, slot, grid, points, *, mask=None):
+    """Takes the points of a slot's lit subchannels off its grid, into `points`. Refusals 1, 2, 3, 17, 4, 8, 9.
 
-    All points are written; only data carriers are read. Both buffers are as in `fill`.
+    All points are written; only lit data carriers are read. Both buffers are as in `fill`.
     """
-    fields = numbers(mode, size, cell, slot)
+    mask = _mask(mode, mask)
+    fields = numbers(mode, size, cell, mask, slot)
     with lent(grid, "grid", FLOAT) as source, lent(points, "points", FLOAT, writable=True) as target:
         apart(target, source)
         refused = engine.bp_empty(*fields, source.address, source.length, target.address, target.length)
         if refused:
-            raise _slot_refusal(refused, mode, size, cell, slot, target, source)
+            raise _slot_refusal(refused, mode, size, cell, mask, slot, target, source)
 
 
 _SEEN = {0: Kind.NOTHING, 2: Kind.PILOT, 3: Kind.DATA}
 
 
-def look(mode, size, cell, symbol, grid, carrier):
+def look(mode, size, cell, symbol, grid, carrier, *, mask=None):
     """What the grid of the symbol's slot holds on a carrier, as Seen(kind, point, slot, subchannel, index).
 
-    kind is Kind.NOTHING (guard or DC, whatever the grid holds there), Kind.PILOT with its point, or Kind.DATA with
-    all of it. The point is a pair of Python floats, which hold every 32-bit float; only a signalling NaN comes out as
-    a quiet one. Refusals 1, 2, 3, 4, 7, 9.
+    kind is Kind.NOTHING (guard, DC, or a pilot or data carrier that is unlit, whatever the grid holds there),
+    Kind.PILOT with its point, or Kind.DATA with all of it. The point is a pair of Python floats, which hold every
+    32-bit float; only a signalling NaN comes out as a quiet one. Refusals 1, 2, 3, 17, 4, 7, 9.
     """
-    fields, last = numbers(mode, size, cell, symbol), signed(carrier)
+    mask = _mask(mode, mask)
+    fields, last = numbers(mode, size, cell, mask, symbol), signed(carrier)
     kind, point, slot, subchannel, index = uint(), Pair(), uint(), uint(), uint()
     with lent(grid, "grid", FLOAT) as memory:
         refused = engine.bp_look(*fields, memory.address, memory.length, last, kind, point, slot, subchannel, index)
     if refused:
-        lengths = (memory.length, grid_len(mode, size))
-        raise _refusal(refused, mode=mode, size=size, cell=cell, symbol=symbol, carrier=carrier, grid=lengths)
+        of = {"mode": mode, "size": size, "cell": cell, "mask": mask, "symbol": symbol, "carrier": carrier}
+        raise _refusal(refused, **of, grid=(memory.length, grid_len(mode, size)))
     what = _SEEN[kind.value]
     if what is Kind.NOTHING:
         return Seen(what)
@@ -398,34 +454,36 @@ _DECIDE = 128  # bytes: what follows them changes no answer
 
 
 def plan_read(data):
-    """The zone plan that the bytes are, as Plan(size, zones). Refusals 10, 11, 12, 2, 1, 3, 13, 14, 15.
+    """The zone plan that the bytes are, as Plan(size, zones). Refusals 10, 11, 12, 2, 1, 3, 13, 17, 14, 15.
 
-    data: any contiguous buffer of bytes. zones has as many Zone(mode, cell, slots) as the plan counts.
+    data: any contiguous buffer of bytes. zones has as many Zone(mode, cell, slots, mask) as the plan counts.
     """
     count, size, places = uint(), uint(), Zones()
     with lent(data, "data", BYTE) as memory:
-        refused = engine.bp_plan_read(memory.address, memory.length, count, size, places)
+        refused = engine.bp_zone_plan_read(memory.address, memory.length, count, size, places)
         if refused:
             start = ctypes.string_at(memory.address, min(memory.length, _DECIDE))
             raise Refusal(refused, refusals.read_words(refused, start, memory.length))
-    zones = [Zone(*places[at : at + 3]) for at in range(0, 3 * count.value, 3)]
+    zones = [Zone(*places[at : at + 4]) for at in range(0, 4 * count.value, 4)]
     return Plan(size.value, tuple(zones))
 
 
 def _zone(zone):
-    """The three numbers of a place of a plan."""
+    """The four numbers of a place of a plan."""
     try:
-        mode, cell, slots = zone
+        mode, cell, slots, mask = zone
     except (TypeError, ValueError) as error:
-        raise type(error)("zones: three numbers are needed for each, mode, cell and slots, not %r" % (zone,)) from None
-    return operator.index(mode), operator.index(cell), operator.index(slots)
+        needed = "zones: four numbers are needed for each, mode, cell, slots and mask, not %r"
+        raise type(error)(needed % (zone,)) from None
+    return operator.index(mode), operator.index(cell), operator.index(slots), operator.index(mask)
 
 
 def plan_write(count, size, zones, dest):
     """Writes a plan's bytes at the start of `dest` and returns how many they are; further bytes stay as they are.
 
-    zones: all eight places of the plan, three numbers each (mode, cell, slots); those past the count are to be zero.
-    dest: any writable, contiguous buffer of bytes. Refusals 12, 2, for each zone 1, 2, 3, 13, 14, then 16.
+    zones: all eight places of the plan, four numbers each (mode, cell, slots, mask); those past the count are to be
+    zero.
+    dest: any writable, contiguous buffer of bytes. Refusals 12, 2, for each zone 1, 2, 3, 13, 17, 14, then 16.
     `plan_bytes` is the same without count, unused places and destination.
     """
     count, size = operator.index(count), operator.index(size)
@@ -434,21 +492,21 @@ def plan_write(count, size, zones, dest):
         raise ValueError("zones: eight places are needed, not %d" % len(zones))
     places, written = Zones(*numbers(*itertools.chain(*zones))), uint()
     with lent(dest, "dest", BYTE, writable=True) as memory:
-        refused = engine.bp_plan_write(*numbers(count, size), places, memory.address, memory.length, written)
+        refused = engine.bp_zone_plan_write(*numbers(count, size), places, memory.address, memory.length, written)
     if refused:
         raise Refusal(refused, refusals.write_words(refused, count, size, zones, memory.length))
     return written.value
 
 
-_UNUSED = Zone(0, 0, 0)
-_LONGEST = 3 * (2 + 3 * _PLACES)  # bytes: a value takes three at most
+_UNUSED = Zone(0, 0, 0, 0)
+_LONGEST = 3 * (2 + 4 * _PLACES)  # bytes: a value takes three at most
 
 
 def plan_bytes(size, zones):
-    """A plan's bytes: `plan_bytes(*plan_read(data))` is data. Refusals 12, 2, for each zone 1, 2, 3, 13, 14.
+    """A plan's bytes: `plan_bytes(*plan_read(data))` is data. Refusals 12, 2, for each zone 1, 2, 3, 13, 17, 14.
 
-    zones: Zone(mode, cell, slots), or any three numbers, for each zone; none at all and more than eight are refused
-    (12).
+    zones: Zone(mode, cell, slots, mask), or any four numbers, for each zone; none at all and more than eight are
+    refused (12).
     """
     zones = list(zones)
     dest = bytearray(_LONGEST)

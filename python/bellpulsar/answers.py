@@ -5,6 +5,7 @@ import sys
 import bellpulsar
 from bellpulsar import Kind, picture
 from bellpulsar.refusals import carriers_of
+from bellpulsar.rows import check_picked, is_unlit, symbol_row
 
 PLAN_LIMIT = 128  # bytes: no plan is that long, so what follows does not matter
 
@@ -62,7 +63,7 @@ def plan_input(options):
 
 def plan_read(options):
     plan = bellpulsar.plan_read(plan_input(options))
-    return lines("size %d" % plan.size, *("mode %d cell %d slots %d" % zone for zone in plan.zones))
+    return lines("size %d" % plan.size, *("mode %d cell %d slots %d mask %d" % zone for zone in plan.zones))
 
 
 def plan_write(options):
@@ -73,10 +74,13 @@ def plan_write(options):
 
 ROW = 64  # carriers; every size is a multiple of it
 SIGNS = {Kind.GUARD: "-", Kind.DC: "D", Kind.PILOT: "P", Kind.DATA: "."}
-PICKED = "#"
+PICKED, UNLIT = "#", "x"
 
 
-def sign(what, picked):
+def sign(carrier, picked):
+    if is_unlit(carrier):
+        return UNLIT
+    what = carrier.what
     return PICKED if picked is not None and what.subchannel == picked else SIGNS[what.kind]
 
 
@@ -85,28 +89,27 @@ def ruler():
     return "carrier +" + "".join("%-10d" % tens for tens in range(0, ROW, 10)).rstrip()
 
 
-def legend(picked):
+def legend(picked, has_unlit):
     parts = ["%s %s" % (sign, kind.value) for kind, sign in SIGNS.items()]
-    return "  ".join(parts + (["%s data of subchannel %d" % (PICKED, picked)] if picked is not None else []))
+    parts += ["%s data of subchannel %d" % (PICKED, picked)] if picked is not None else []
+    return "  ".join(parts + (["%s pilot or data, unlit" % UNLIT] if has_unlit else []))
 
 
 def show(options):
-    setup = (options.mode, options.size, options.cell)
-    bellpulsar.locate(*setup, options.symbol, 0)
-    if options.subchannel is not None:
-        bellpulsar.place(*setup, 0, options.subchannel, 0)
+    setup, mask = (options.mode, options.size, options.cell), options.mask
+    symbol = symbol_row(*setup, options.symbol, mask)
+    check_picked(*setup, 0, options.subchannel, mask)
+    signs = "".join(sign(carrier, options.subchannel) for carrier in symbol)
     carriers = carriers_of(options.size)
-    symbol = [bellpulsar.locate(*setup, options.symbol, carrier) for carrier in carriers]
-    signs = "".join(sign(what, options.subchannel) for what in symbol)
     rows = ["%7d  %s" % (carriers[at], signs[at : at + ROW]) for at in range(0, options.size, ROW)]
-    return lines(ruler(), *rows, legend(options.subchannel))
+    return lines(ruler(), *rows, legend(options.subchannel, any(map(is_unlit, symbol))))
 
 
 # --- pictures ---------------------------------------------------------------------------------
 
 
 def slot_picture(options):
-    return picture.slot(options.mode, options.size, options.cell, options.slot, options.subchannel)
+    return picture.slot(options.mode, options.size, options.cell, options.slot, options.subchannel, options.mask)
 
 
 def subchannel_picture(options):

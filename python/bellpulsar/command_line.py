@@ -34,13 +34,15 @@ SIZE is the FFT size, CELL the permutation base. SLOT is 0..511, INDEX 0..47.
 CARRIER is -SIZE/2..SIZE/2-1, by rising frequency, with DC at 0.
 SYMBOL counts in the zone: slot times symbols a slot, plus the offset in the slot.
 AMC has four slot shapes, bins x symbols; a bin is nine carriers in a row, of which one is a pilot.
+MASK says which major groups of mode 0 are lit: 1..63, bit g for group g. Groups 0 to 5 have the subchannels 0..11,
+12..19, 20..31, 32..39, 40..51 and 52..59. In the other modes all is lit and MASK is 0.
 Any number may be given: the engine refuses what is out of range."""
 
 PLAN_RULES = """\
-A plan has a SIZE (256, 512, 1024 or 2048) and one to eight zones, each of MODE 0 or 2 to 6, a CELL of that mode and 1
-to 512 SLOTS. At 2048 the first zone is mode 0, with any of its cells. After a zone of AMC (modes 3 to 6) come zones of
-AMC only, of any shape.
-./bellpulsar --help has the modes and their cells."""
+A plan has a SIZE (256, 512, 1024 or 2048) and one to eight zones, each of MODE 0 or 2 to 6, a CELL of that mode, 1 to
+512 SLOTS and a MASK of that mode. At 2048 the first zone is mode 0, with any of its cells. After a zone of AMC (modes 3
+to 6) come zones of AMC only, of any shape.
+./bellpulsar --help has the modes, their cells and their masks."""
 
 OVERVIEW = """\
 Where IEEE 802.16e OFDMA puts each point of a slot, and what belongs on a carrier, from an engine that is proved.
@@ -58,9 +60,9 @@ examples:
   ./bellpulsar place 2 1024 17 0 0 0
   ./bellpulsar locate 0 2048 5 1 -840
   ./bellpulsar collisions ofusc 2048 0 2 1010 0
-  ./bellpulsar plan read 02 80 08 02 11 03 03 B0 01 01
+  ./bellpulsar plan read 02 80 08 02 11 03 00 03 B0 01 01 00
   ./bellpulsar show 2 1024 17 0 --subchannel 3
-  ./bellpulsar picture slot 0 2048 5 3 --output slot.svg
+  ./bellpulsar picture slot 0 2048 5 3 --mask 0b000011 --output slot.svg
   ./bellpulsar place --help"""
 )
 
@@ -98,12 +100,18 @@ def number(text):
     return -value if "-" in text else value
 
 
+def mask(text):
+    """A number, which may also be in base sixteen or two, after 0x or 0b."""
+    digits = text.removeprefix(SHIELD)
+    return int(digits, 0) if re.fullmatch("0[xX][0-9A-Fa-f]+|0[bB][01]+", digits) else number(text)
+
+
 def zone(text):
     text = text.removeprefix(SHIELD)
     parts = text.split(",")
-    if len(parts) != 3:
-        raise argparse.ArgumentTypeError("%r is not a zone: MODE,CELL,SLOTS is needed" % text)
-    return tuple(number(part) for part in parts)
+    if len(parts) != 4:
+        raise argparse.ArgumentTypeError("%r is not a zone: MODE,CELL,SLOTS,MASK is needed" % text)
+    return (*map(number, parts[:3]), mask(parts[3]))
 
 
 def cells(text):
@@ -117,7 +125,7 @@ def hex_word(text):
     return bytes.fromhex(text)
 
 
-VALUED = ("--file", "--output", "--subchannel")  # options that take the next word, whatever it looks like
+VALUED = ("--file", "--mask", "--output", "--subchannel")  # options that take the next word, whatever it looks like
 
 
 def shielded(arguments):
@@ -202,18 +210,27 @@ def add_collisions(commands):
 def add_plans(commands):
     kinds = branch(commands, "plan", "zone plans and their bytes")
     example = """\
-  ./bellpulsar plan read 02 80 08 02 11 03 03 B0 01 01
+  ./bellpulsar plan read 02 80 08 02 11 03 00 03 B0 01 01 00
   size 1024
-  mode 2 cell 17 slots 3
-  mode 3 cell 176 slots 1"""
+  mode 2 cell 17 slots 3 mask 0
+  mode 3 cell 176 slots 1 mask 0"""
     summary = "the size and the zones of a plan, a line each"
     reading = command(kinds, "read", "plan_read", summary, example, [], PLAN_RULES)
     reading.add_argument("words", nargs="*", type=hex_word, metavar="HEX", help="the plan's bytes, two hex digits each")
     reading.add_argument("--file", help="take the bytes from this file, as they are; - is standard input")
     reading.set_defaults(reading=reading)
-    example = "  ./bellpulsar plan write 1024 2,17,3 3,176,1\n  02 80 08 02 11 03 03 B0 01 01"
+    example = "  ./bellpulsar plan write 2048 0,5,12,0x3F 3,176,1,0\n  02 80 10 00 05 0C 3F 03 B0 01 01 00"
+    example += "\n\nMASK may also be in base sixteen or two, as 0x3F or 0b111111."
     writing = command(kinds, "write", "plan_write", "the bytes of a plan, in hex", example, ["size"], PLAN_RULES)
-    writing.add_argument("zones", nargs="*", type=zone, metavar="MODE,CELL,SLOTS", help="a zone, one to eight of them")
+    name = "MODE,CELL,SLOTS,MASK"
+    writing.add_argument("zones", nargs="*", type=zone, metavar=name, help="a zone, one to eight of them")
+
+
+def add_picks(drawing):
+    """What show and the picture of a slot may be told."""
+    drawing.add_argument("--subchannel", type=number, help="pick out the data of this subchannel, which must be lit")
+    lit = "the major groups that are lit, in base ten, or as 0x.. or 0b..; without it all are"
+    drawing.add_argument("--mask", type=mask, help=lit)
 
 
 def add_show(commands):
@@ -222,8 +239,7 @@ def add_show(commands):
 
 A row has 64 carriers, each a character; the number at the left is that of the row's first carrier."""
     summary = "a symbol of a zone as text, a character a carrier"
-    showing = command(commands, "show", "show", summary, example, ["mode", "size", "cell", "symbol"])
-    showing.add_argument("--subchannel", type=number, help="pick out the data of this subchannel")
+    add_picks(command(commands, "show", "show", summary, example, ["mode", "size", "cell", "symbol"]))
 
 
 def add_output(drawing):
@@ -232,10 +248,10 @@ def add_output(drawing):
 
 def add_pictures(commands):
     kinds = branch(commands, "picture", "SVG pictures")
-    example = "  ./bellpulsar picture slot 0 2048 5 3 --output slot.svg"
-    summary = "a slot: carriers along x, symbols along y, a colour for each subchannel"
+    example = "  ./bellpulsar picture slot 0 2048 5 3 --mask 0b000011 --output slot.svg"
+    summary = "a slot: carriers along x, symbols along y, a colour for each subchannel, hatched where unlit"
     drawing = command(kinds, "slot", "slot_picture", summary, example, ["mode", "size", "cell", "slot"])
-    drawing.add_argument("--subchannel", type=number, help="pick out the data of this subchannel")
+    add_picks(drawing)
     add_output(drawing)
     example = "  ./bellpulsar picture subchannel 0 2048 0,1,31 0 1 --output subchannel.svg"
     summary = "a subchannel's points: carriers along x, indices along y, a panel for each cell"

@@ -1,6 +1,7 @@
 """Pictures of the map as SVG text, drawn from the library's answers alone.
 
-`slot` draws a slot: carriers along x, in bands under each other, symbols along y, a colour for each subchannel.
+`slot` draws a slot: carriers along x, in bands under each other, symbols along y, a colour for each subchannel. What is
+unlit is hatched.
 `subchannel` draws one subchannel's points: carriers along x, the index along y, a panel for each cell, a colour for
 each symbol. Where all points lie close together, as in AMC, it has only the carriers around them.
 What one points at has a title: symbol, carrier and what is there.
@@ -14,11 +15,13 @@ from typing import NamedTuple
 import bellpulsar
 from bellpulsar import Kind
 from bellpulsar.refusals import AMC_MODES, MODES, carriers_of
+from bellpulsar.rows import check_picked, check_slot, is_unlit, symbol_row
 
 LEFT, RIGHT, TOP, BOTTOM = 76, 24, 64, 16  # margins
 WIDTH = 1280  # of a band or panel
 
 GUARD, DC, PILOT, OTHER, PICKED = "#d4d4d4", "#ffffff", "#000000", "#cfe3f5", "#d7301f"
+UNLIT = "url(#hatch)"
 
 
 # --- SVG --------------------------------------------------------------------------------------
@@ -89,12 +92,10 @@ def slot_symbols(mode, size, cell, slot):
     return sorted({bellpulsar.place(mode, size, cell, slot, 0, index).symbol for index in range(48)})
 
 
-def slot_rows(mode, size, cell, slot):
-    """What each carrier is, a row for each symbol of the slot."""
-    return [
-        [bellpulsar.locate(mode, size, cell, symbol, carrier) for carrier in carriers_of(size)]
-        for symbol in slot_symbols(mode, size, cell, slot)
-    ]
+def hatch():
+    """What UNLIT names: thin lines, so that it is told from every plain colour."""
+    lines = box(0, 0, 5, 5, fill="#f7f7f7") + line(0, 5, 5, 0, stroke="#9a9a9a")
+    return element("pattern", lines, id="hatch", width=5, height=5, patternUnits="userSpaceOnUse")
 
 
 def hue(number, total):
@@ -104,8 +105,11 @@ def hue(number, total):
     return "#%02x%02x%02x" % (round(255 * red), round(255 * green), round(255 * blue))
 
 
-def class_of(located, picked):
+def class_of(carrier, picked):
     """The SVG class of a carrier."""
+    if is_unlit(carrier):
+        return "unlit"
+    located = carrier.what
     if located.kind is not Kind.DATA:
         return located.kind.value.lower()
     if picked is None or located.subchannel == picked:
@@ -113,18 +117,20 @@ def class_of(located, picked):
     return "other"
 
 
-def styles(total, picked):
-    """How each class is drawn."""
-    fills = {"guard": GUARD, "dc": DC, "pilot": PILOT, "other": OTHER}
+def styles(total, picked, unlit):
+    """How each class is drawn; the legend has the subchannels that are unlit too."""
+    fills = {"guard": GUARD, "dc": DC, "pilot": PILOT, "other": OTHER, "unlit": UNLIT}
     for number in range(total):
-        fills["subchannel-%d" % number] = hue(number, total) if picked is None else PICKED
+        colour = UNLIT if number in unlit else hue(number, total)
+        fills["subchannel-%d" % number] = colour if picked is None else PICKED
     return {name: {"fill": fill} for name, fill in fills.items()} | {"dc": {"fill": DC, "stroke": "#000000"}}
 
 
-def content_of(located):
-    if located.kind is Kind.DATA:
-        return "subchannel %d, index %d" % (located.subchannel, located.index)
-    return located.kind.value
+def content_of(carrier):
+    located = carrier.what
+    data = located.kind is Kind.DATA
+    content = "subchannel %d, index %d" % (located.subchannel, located.index) if data else located.kind.value
+    return content + ", unlit" if is_unlit(carrier) else content
 
 
 def runs(things):
@@ -146,11 +152,11 @@ def band_paths(first, rows, symbols, picked, style):
     """A group for each class, DC over all others; rows are what the band's carriers are, a row a symbol."""
     paths = collections.defaultdict(list)
     for number, (symbol, row) in enumerate(zip(symbols, rows)):
-        for located, at, length in runs(row):  # guards are equal, points and pilots stand apart
+        for carrier, at, length in runs(row):  # guards are equal, points and pilots stand apart
             width = CARRIER * length
             outline = "M%d %dh%dv%dh-%dz" % (CARRIER * at, SYMBOL * number, width, SYMBOL, width)
-            path = titled_path(symbol, first + at, content_of(located), outline, length)
-            paths[class_of(located, picked)].append(path)
+            path = titled_path(symbol, first + at, content_of(carrier), outline, length)
+            paths[class_of(carrier, picked)].append(path)
     order = sorted(paths, key=lambda name: (name == "dc", name))
     return [element("g", "\n" + "\n".join(paths[name]) + "\n", class_=name, **style[name]) for name in order]
 
@@ -175,7 +181,7 @@ def symbol_labels(symbols):
 
 
 def band(first, rows, symbols, picked, style):
-    height, classes = SYMBOL * len(rows), [class_of(what, picked) for what in rows[0]]
+    height, classes = SYMBOL * len(rows), [class_of(carrier, picked) for carrier in rows[0]]
     parts = band_paths(first, rows, symbols, picked, style)
     parts += [line(0, SYMBOL * row, WIDTH, SYMBOL * row, stroke="#ffffff") for row in range(1, len(rows))]
     parts += [box(0, 0, CARRIER * len(rows[0]), height, fill="none", stroke="#444444")]
@@ -188,19 +194,23 @@ def swatch(x, label, fill):
     return [box(x, 0, SWATCH, SYMBOL, fill=fill, stroke="#444444"), text(x + SWATCH + 8, 14, label)]
 
 
-def legend_kinds(style, picked):
-    """Guard, DC, pilot, and data where one subchannel is picked out."""
+def legend_kinds(style, picked, unlit):
+    """Guard, DC, pilot, data where one subchannel is picked out, and what is unlit where something is."""
     labels = [("guard", "guard"), ("dc", "DC"), ("pilot", "pilot")]
     if picked is not None:
         labels += [("subchannel-%d" % picked, "data of subchannel %d" % picked), ("other", "data of other subchannels")]
+    if unlit:
+        labels += [("unlit", "pilot or data, unlit")]
     parts = []
-    for at, (name, label) in enumerate(labels):
-        parts += swatch(110 * at if at < 4 else 560, label, style[name]["fill"])
+    for x, (name, label) in zip((0, 110, 220, 330, 560, 790), labels):
+        parts += swatch(x, label, style[name]["fill"])
     return parts
 
 
 def ink(fill):
-    """Black or white, whichever reads better on a colour."""
+    """Black or white, whichever reads better on a colour or on the hatching."""
+    if fill == UNLIT:
+        return "#000000"
     red, green, blue = (int(fill[at : at + 2], 16) for at in (1, 3, 5))
     return "#000000" if 299 * red + 587 * green + 114 * blue > 125000 else "#ffffff"
 
@@ -217,27 +227,31 @@ def legend_scale(style, total):
     return parts
 
 
-def slot(mode, size, cell, slot, picked=None):
-    """A slot of a zone; with `picked`, one subchannel of it picked out. Refusals 1, 2, 3, 4, 5."""
-    if picked is not None:
-        bellpulsar.place(mode, size, cell, slot, picked, 0)
-    symbols, rows = slot_symbols(mode, size, cell, slot), slot_rows(mode, size, cell, slot)
+def slot(mode, size, cell, slot, picked=None, mask=None):
+    """A slot of a zone; with `picked`, one subchannel of it picked out. Refusals 1, 2, 3, 17, 4, 5."""
+    check_slot(mode, size, cell, slot, mask)
+    check_picked(mode, size, cell, slot, picked, mask)
+    symbols = slot_symbols(mode, size, cell, slot)
+    rows = [symbol_row(mode, size, cell, symbol, mask) for symbol in symbols]
     carriers = carriers_of(size)
-    total = 1 + max(what.subchannel for what in rows[0] if what.kind is Kind.DATA)
-    style = styles(total, picked)
+    total = 1 + max(carrier.what.subchannel for carrier in rows[0] if carrier.what.kind is Kind.DATA)
+    unlit = {carrier.what.subchannel for row in rows for carrier in row if is_unlit(carrier)}
+    style = styles(total, picked, unlit)
     height = SYMBOL * len(symbols) + GAP
-    parts, y = [], TOP
+    parts, y = [hatch()] if unlit else [], TOP
     for at in range(0, size, BAND):
         part = [row[at : at + BAND] for row in rows]
         parts.append(group(LEFT, y, band(carriers[at], part, symbols, picked, style), class_="band"))
         y += height
     parts.append(text(LEFT + WIDTH / 2, y - 10, "carrier", text_anchor="middle"))
-    parts.append(group(LEFT, y + 12, legend_kinds(style, picked), class_="legend"))
+    parts.append(group(LEFT, y + 12, legend_kinds(style, picked, unlit), class_="legend"))
     y += 58
     if picked is None:
         parts.append(group(LEFT, y, legend_scale(style, total), class_="legend"))
         y += 10 + 26 * (1 + (total - 1) // (WIDTH // SWATCH))
     title = "%s (mode %d), size %d, cell %d, slot %d" % (MODES[mode].name, mode, size, cell, slot)
+    if unlit:
+        title += ", mask %d" % mask
     if picked is not None:
         title += ", subchannel %d picked out" % picked
     return document(y + BOTTOM, title, parts)

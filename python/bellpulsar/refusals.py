@@ -4,7 +4,7 @@ The engine alone judges a request. What stands here only explains the number tha
 explain, the words are those of document 01's question.
 """
 
-from typing import Callable, NamedTuple, Tuple
+from typing import Callable, NamedTuple, Sequence, Tuple
 
 # The questions of document 01, by number.
 QUESTIONS = {
@@ -12,10 +12,10 @@ QUESTIONS = {
     2: "Is the size that mode's (of a plan: 256, 512, 1024 or 2048)?",
     3: "Is the cell in range?",
     4: "Is the slot below 512, the zone's symbol below 512 times the slot length?",
-    5: "Is the subchannel in range?",
+    5: "Is the subchannel in range (of a lay: and lit)?",
     6: "Is the index below 48?",
     7: "Is the carrier from -size/2 to size/2 - 1?",
-    8: "Are the points just 96 floats for each subchannel (of a lay: 96)?",
+    8: "Are the points just 96 floats for each subchannel that is lit (of a lay: 96)?",
     9: "Is the grid just 2 * size floats for each symbol of a slot?",
     10: "Do the bytes reach to the value's end or its third group?",
     11: "Does the value end by its third group, in shortest form?",
@@ -24,6 +24,7 @@ QUESTIONS = {
     14: "At 2048, is the first zone mode 0, and does only AMC (modes 3 to 6) follow AMC?",
     15: "Are the bytes used up?",
     16: "Is the destination long enough?",
+    17: "Is the mask 1 to 63 in mode 0, 0 in the others?",
 }
 
 # --- the ranges of document 01 ----------------------------------------------------------------
@@ -33,6 +34,7 @@ SLOTS = 512
 POINTS = 48
 AMC_CELLS = 2352
 AMC_MODES = range(3, 7)
+ALL_LIT = (0,)  # the masks of a mode that has no major groups
 
 
 class Mode(NamedTuple):
@@ -43,6 +45,7 @@ class Mode(NamedTuple):
     cells: Callable[[int], int]
     subchannels: Callable[[int], int]
     symbols: int  # of a slot
+    masks: Sequence[int] = ALL_LIT
 
 
 def amc(bins, symbols):
@@ -51,7 +54,7 @@ def amc(bins, symbols):
 
 
 MODES = (
-    Mode("PUSC downlink", (2048,), lambda n: 32, lambda n: 60, 2),
+    Mode("PUSC downlink", (2048,), lambda n: 32, lambda n: 60, 2, range(1, 64)),
     Mode("PUSC uplink", (2048,), lambda n: 70, lambda n: 70, 3),
     Mode("optional FUSC", SIZES, lambda n: n * n, lambda n: n, 1),
     amc(6, 1),
@@ -110,6 +113,10 @@ def cell_words(field, asked):
     return not_one_of(field, asked[field], by_size(mode, size, count), range(count(size // 64)))
 
 
+def mask_words(field, asked):
+    return not_one_of(field, asked[field], "mode %d's" % asked["mode"], MODES[asked["mode"]].masks)
+
+
 def slot_words(field, asked):
     return not_one_of(field, asked[field], "a zone's", range(SLOTS))
 
@@ -122,7 +129,23 @@ def symbol_words(field, asked):
 def subchannel_words(field, asked):
     mode, size = asked["mode"], asked["size"]
     count = MODES[mode].subchannels
-    return not_one_of(field, asked[field], by_size(mode, size, count), range(count(size // 64)))
+    told = not_one_of(field, asked[field], by_size(mode, size, count), range(count(size // 64)))
+    return told or unlit_words(asked)
+
+
+def runs(numbers):
+    """Of rising numbers, a range for each run without a gap."""
+    firsts = [number for number in numbers if number - 1 not in numbers]
+    lasts = [number for number in numbers if number + 1 not in numbers]
+    return [range(first, last + 1) for first, last in zip(firsts, lasts)]
+
+
+def unlit_words(asked):
+    """Of a lay, which has the subchannels that are lit."""
+    if "lit" in asked and asked["subchannel"] not in asked["lit"]:
+        accepted = ", ".join(map(accepted_values, runs(asked["lit"])))
+        told = (asked["subchannel"], asked["mask"], accepted)
+        return "subchannel %d is not one of those that mask %d lights: %s" % told
 
 
 def index_words(field, asked):
@@ -150,11 +173,13 @@ FIELDS = {
     7: {"carrier": carrier_words},
     8: {"points": length_words},
     9: {"grid": length_words},
+    17: {"mask": mask_words},
 }
 
 
 def field_words(number, asked):
-    """Of a request's fields by name, lengths as pairs of what is given and what would be accepted."""
+    """Of a request's fields by name, lengths as pairs of what is given and what would be accepted; `lit` has the
+    subchannels that a lay's mask lights."""
     for field, words in FIELDS[number].items():
         told = field in asked and words(field, asked)
         if told:
@@ -177,8 +202,8 @@ def order_words(size, zones, at):
 
 def zone_words(number, size, zones, at):
     """What question `number` finds in a zone, or nothing."""
-    mode, cell, slots = zones[at]
-    asked = {"mode": mode, "size": size, "cell": cell}
+    mode, cell, slots, mask = zones[at]
+    asked = {"mode": mode, "size": size, "cell": cell, "mask": mask}
     if number == 1:
         return not_one_of("mode", mode, "a plan's", PLAN_MODES)
     if number == 2:
@@ -187,6 +212,8 @@ def zone_words(number, size, zones, at):
         return cell_words("cell", asked)
     if number == 13:
         return not_one_of("slots", slots, "a zone's", PLAN_SLOTS)
+    if number == 17:
+        return mask_words("mask", asked)
     return order_words(size, zones, at)
 
 
@@ -199,7 +226,7 @@ def places_words(count, zones):
 
 
 def plan_words(number, count, size, zones):
-    """Of a plan's own questions: 12, 2, and for each zone 1, 2, 3, 13, 14."""
+    """Of a plan's own questions: 12, 2, and for each zone 1, 2, 3, 13, 17, 14."""
     if number == 12:
         return not_one_of("count", count, "a plan's", PLAN_COUNTS) or places_words(count, zones) or QUESTIONS[number]
     if number == 2 and size not in SIZES:
@@ -218,8 +245,10 @@ def value_length(value):
 
 def value_name(at):
     """What the value of a plan at this place is."""
-    zone, part = divmod(at - 2, 3)
-    return ("the count", "the size")[at] if at < 2 else "zone %d's %s" % (zone + 1, ("mode", "cell", "slots")[part])
+    if at < 2:
+        return ("the count", "the size")[at]
+    zone, part = divmod(at - 2, 4)
+    return "zone %d's %s" % (zone + 1, ("mode", "cell", "slots", "mask")[part])
 
 
 def values_of(data):
@@ -250,9 +279,9 @@ def read_words(number, data, length):
     if number in (10, 11):
         return value_words(number, data)
     values, _ = values_of(data)
-    zones = [tuple(values[at : at + 3]) for at in range(2, len(values) - 2, 3)]
+    zones = [tuple(values[at : at + 4]) for at in range(2, len(values) - 3, 4)]
     if number == 15:
-        used = sum(value_length(value) for value in values[: 2 + 3 * values[0]])
+        used = sum(value_length(value) for value in values[: 2 + 4 * values[0]])
         return "%d bytes are given, and the plan ends after %d" % (length, used)
     return plan_words(number, values[0], values[1] if values[1:] else 0, zones)
 

@@ -1,4 +1,4 @@
-"""Fails where the header's table of ranges and lengths is not what the reference has.
+"""Fails where the header's table of ranges and lengths, or the groups that it has beside it, are not the reference's.
 
     python3 tests/capi/header_table.py
 """
@@ -16,15 +16,27 @@ HEADER = os.path.join(os.path.dirname(TESTS), "include", "bellpulsar.h")
 NAMES = ["PUSC downlink", "PUSC uplink", "optional FUSC", *("AMC %dx%d" % shape for shape in ref.SHAPES.values())]
 
 
+def ends(numbers):
+    """The first and the last, or the only one."""
+    return "%d..%d" % (numbers[0], numbers[-1]) if len(numbers) > 1 else str(numbers[0])
+
+
+def groups():
+    """The subchannels of each major group of PUSC downlink, as the header tells them."""
+    *first, last = (ends(ref.lit_subchannels(ref.PUSC_DL, 2048, 1 << group)) for group in range(6))
+    return "%s and %s, group after group" % (", ".join(first), last)
+
+
 def row(mode, size):
     """A line of the table, its words apart by one space."""
-    last = [
-        ref.cells(mode, size) - 1,
-        ref.subchannels(mode, size) - 1,
-        ref.SLOTS - 1,
-        ref.SLOTS * ref.SLOT_LENGTH[mode] - 1,
+    fields = [
+        range(ref.cells(mode, size)),
+        ref.masks(mode),
+        range(ref.subchannels(mode, size)),
+        range(ref.SLOTS),
+        range(ref.SLOTS * ref.SLOT_LENGTH[mode]),
     ]
-    ranges = " ".join("0..%d" % number for number in last)
+    ranges = " ".join(map(ends, fields))
     lengths = (96 * ref.subchannels(mode, size), ref.grid_floats(mode, size))
     return "* %d %s %d %s %d %d" % ((mode, NAMES[mode], size, ranges) + lengths)
 
@@ -36,6 +48,10 @@ def main():
     wanted = [row(mode, size) for mode in ref.MODES for size in ref.sizes(mode)]
     if stated != wanted:
         sys.exit("the header's table has\n%s\nand the reference\n%s" % ("\n".join(stated), "\n".join(wanted)))
+    if groups() not in " ".join(line.removeprefix("* ") for line in lines):
+        sys.exit("the header does not have the reference's groups: %s" % groups())
+    if "#define BP_ALL_GROUPS %d" % ref.full_mask(ref.PUSC_DL) not in lines:
+        sys.exit("the header's BP_ALL_GROUPS is not the reference's full mask")
     print("capi: the header's ranges are the reference's")
 
 

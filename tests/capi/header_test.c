@@ -5,8 +5,8 @@
 
 #include <stdio.h>
 
-#if BP_VERSION != 3
-#error "written for version 3 of the header"
+#if BP_VERSION != 4
+#error "written for version 4 of the header"
 #endif
 
 #ifdef __cplusplus
@@ -17,16 +17,22 @@ typedef std::complex<float> complex_float;
 typedef float complex complex_float;
 #endif
 
-static complex_float points[192], back[192], grid[256];
+static complex_float points[192], back[192], grid[256], sector[960], sector_back[960], sector_grid[4096];
 
 static float *floats(complex_float *numbers) { return (float *)numbers; }
 
-/* The calls that have a carrier, by their whole types: a compiler takes no other, so the carrier is signed in each. */
+/* The calls that have a carrier or a mask, by their whole types: a compiler takes no other. */
 static uint32_t (*const place)(uint32_t, uint32_t, uint32_t, uint32_t, uint32_t, uint32_t, uint32_t *, int32_t *) = bp_place;
 static uint32_t (*const locate)(uint32_t, uint32_t, uint32_t, uint32_t, int32_t, uint32_t *, uint32_t *, uint32_t *,
                                 uint32_t *) = bp_locate;
-static uint32_t (*const look)(uint32_t, uint32_t, uint32_t, uint32_t, const float *, size_t, int32_t, uint32_t *, float *,
-                              uint32_t *, uint32_t *, uint32_t *) = bp_look;
+static size_t (*const lit_points_len)(uint32_t, uint32_t, uint32_t) = bp_lit_points_len;
+static uint32_t (*const ground)(uint32_t, uint32_t, uint32_t, uint32_t, uint32_t, const float *, float *, size_t) = bp_ground;
+static uint32_t (*const lay)(uint32_t, uint32_t, uint32_t, uint32_t, uint32_t, uint32_t, const float *, size_t, float *,
+                             size_t) = bp_lay;
+static uint32_t (*const empty)(uint32_t, uint32_t, uint32_t, uint32_t, uint32_t, const float *, size_t, float *,
+                               size_t) = bp_empty;
+static uint32_t (*const look)(uint32_t, uint32_t, uint32_t, uint32_t, uint32_t, const float *, size_t, int32_t, uint32_t *,
+                              float *, uint32_t *, uint32_t *, uint32_t *) = bp_look;
 
 static int map_is_right(void)
 {
@@ -64,7 +70,7 @@ static int ground_is_right(void)
     int pilots = 0, zeros = 0;
     for (int n = 0; n < 512; n++)
         floats(grid)[n] = 7;
-    if (bp_ground(BP_OFUSC, 256, 5, 0, pilot, floats(grid), 512) != BP_ACCEPTED)
+    if (ground(BP_OFUSC, 256, 5, 0, 0, pilot, floats(grid), 512) != BP_ACCEPTED)
         return 0;
     for (int n = 0; n < 512; n += 2) {
         pilots += floats(grid)[n] == -1 && floats(grid)[n + 1] == 0;
@@ -87,31 +93,79 @@ static int grid_is_right(void)
     for (int n = 0; n < 384; n++)
         floats(points)[n] = (float)n;
     for (uint32_t s = 0; s < 4; s++)
-        if (bp_lay(BP_OFUSC, 256, 5, 0, s, floats(points) + 96 * s, 96, floats(grid), grid_len) != BP_ACCEPTED)
+        if (lay(BP_OFUSC, 256, 5, 0, 0, s, floats(points) + 96 * s, 96, floats(grid), grid_len) != BP_ACCEPTED)
             return 0;
-    if (bp_empty(BP_OFUSC, 256, 5, 0, floats(grid), grid_len, floats(back), points_len) != BP_ACCEPTED)
+    if (empty(BP_OFUSC, 256, 5, 0, 0, floats(grid), grid_len, floats(back), points_len) != BP_ACCEPTED)
         return 0;
     for (int n = 0; n < 192; n++)
         if (back[n] != points[n])
             return 0;
-    if (look(BP_OFUSC, 256, 5, 0, floats(grid), grid_len, 0, &kind, point, &slot, &subchannel, &index) != BP_ACCEPTED ||
+    if (look(BP_OFUSC, 256, 5, 0, 0, floats(grid), grid_len, 0, &kind, point, &slot, &subchannel, &index) != BP_ACCEPTED ||
         kind != BP_NOTHING || bp_place(BP_OFUSC, 256, 5, 0, 1, 2, &symbol, &carrier) != BP_ACCEPTED)
         return 0;
     return grid[128 + carrier] == points[48 + 2] &&
-           look(BP_OFUSC, 256, 5, symbol, floats(grid), grid_len, carrier, &kind, point, &slot, &subchannel, &index) ==
+           look(BP_OFUSC, 256, 5, 0, symbol, floats(grid), grid_len, carrier, &kind, point, &slot, &subchannel, &index) ==
                BP_ACCEPTED &&
            kind == BP_DATA && point[0] == 100 && point[1] == 101 && slot == 0 && subchannel == 1 && index == 2;
+}
+
+/* A sector that lights groups 1 and 2, subchannels 12 to 31, filled as the header says. Its 40 clusters have four pilots in a
+   slot. Subchannels 0 and 59 are unlit, whatever the grid holds where they belong, and the sector's points come back. */
+static int sector_is_right(void)
+{
+    const float pilot[2] = {-1, 0};
+    const uint32_t mode = BP_PUSC_DL, size = 2048, cell = 5, mask = 6, slot = 3;
+    const size_t grid_len = bp_grid_len(mode, size);
+    float *own = floats(sector), *all = floats(sector_grid), point[2] = {7, 7};
+    uint32_t of[4], symbol;
+    int32_t carrier, pilots = 0;
+    if (lit_points_len(mode, size, mask) != 1920 || lit_points_len(mode, size, BP_ALL_GROUPS) != bp_points_len(mode, size) ||
+        lit_points_len(mode, size, 64) != 0 || lit_points_len(mode, size, 0) != 0 || lit_points_len(BP_OFUSC, 256, 0) != 384 ||
+        lit_points_len(BP_OFUSC, 256, BP_ALL_GROUPS) != 0 || lit_points_len(mode, 1024, mask) != 0)
+        return 0;
+    for (int n = 0; n < 1920; n++)
+        own[n] = (float)(n + 1);
+
+    if (ground(mode, size, cell, mask, slot, pilot, all, grid_len) != BP_ACCEPTED)
+        return 0;
+    for (size_t n = 0; n < grid_len; n += 2)
+        pilots += all[n] == -1;
+    for (uint32_t s = 0, laid = 0; laid < lit_points_len(mode, size, mask); s++)
+        if (lay(mode, size, cell, mask, slot, s, own + laid, 96, all, grid_len) != BP_REFUSED_SUBCHANNEL)
+            laid += 96;
+
+    for (uint32_t s = 0; s < 60; s += 59) {
+        of[0] = 9;
+        if (lay(mode, size, cell, mask, slot, s, own, 96, all, grid_len) != BP_REFUSED_SUBCHANNEL ||
+            place(mode, size, cell, slot, s, 0, &symbol, &carrier) != BP_ACCEPTED ||
+            all[2 * ((symbol % 2) * 2048 + 1024 + carrier)] != 0)
+            return 0;
+        all[2 * ((symbol % 2) * 2048 + 1024 + carrier)] = 9;
+        if (look(mode, size, cell, mask, symbol, all, grid_len, carrier, &of[0], point, &of[1], &of[2], &of[3]) !=
+                BP_ACCEPTED ||
+            of[0] != BP_NOTHING || point[0] != 7)
+            return 0;
+    }
+    if (empty(mode, size, cell, mask, slot, all, grid_len, floats(sector_back), 1920) != BP_ACCEPTED)
+        return 0;
+    for (int n = 0; n < 960; n++)
+        if (sector_back[n] != sector[n])
+            return 0;
+    return pilots == 160 && place(mode, size, cell, slot, 13, 2, &symbol, &carrier) == BP_ACCEPTED &&
+           look(mode, size, cell, mask, symbol, all, grid_len, carrier, &of[0], point, &of[1], &of[2], &of[3]) ==
+               BP_ACCEPTED &&
+           of[0] == BP_DATA && point[0] == 101 && of[1] == slot && of[2] == 13 && of[3] == 2;
 }
 
 /* Each refusal of a field, of a length and of a plan, in the order of their numbers. */
 static int refusals_are_right(void)
 {
-    uint32_t u[4], zones[24] = {2, 0, 1};
+    uint32_t u[4], zones[32] = {2, 0, 1, 0};
     int32_t carrier;
     float pilot[2] = {0, 0};
-    uint8_t none[1] = {0x80}, form[2] = {0x81, 0}, count[1] = {9}, slots[6] = {1, 0x80, 8, 2, 0, 0};
-    uint8_t order[6] = {1, 0x80, 0x10, 2, 0, 1}, over[7] = {1, 0x80, 8, 2, 0, 1, 0};
-    const uint32_t met[17] = {
+    uint8_t none[1] = {0x80}, form[2] = {0x81, 0}, count[1] = {9}, slots[7] = {1, 0x80, 8, 2, 0, 0, 0};
+    uint8_t order[7] = {1, 0x80, 0x10, 2, 0, 1, 0}, over[8] = {1, 0x80, 8, 2, 0, 1, 0, 0};
+    const uint32_t met[18] = {
         bp_place(BP_AMC, 256, 2351, 511, 3, 47, &u[0], &carrier),
         bp_place(7, 256, 0, 0, 0, 0, &u[0], &carrier),
         bp_place(BP_PUSC_DL, 256, 0, 0, 0, 0, &u[0], &carrier),
@@ -120,23 +174,24 @@ static int refusals_are_right(void)
         bp_place(BP_AMC, 256, 0, 0, 4, 0, &u[0], &carrier),
         bp_place(BP_AMC, 256, 0, 0, 0, 48, &u[0], &carrier),
         bp_locate(BP_AMC, 256, 0, 0, 128, &u[0], &u[1], &u[2], &u[3]),
-        bp_lay(BP_OFUSC, 256, 0, 0, 0, floats(points), 384, floats(grid), 512),
-        bp_ground(BP_OFUSC, 256, 0, 0, pilot, floats(grid), 511),
-        bp_plan_read(none, 1, &u[0], &u[1], zones),
-        bp_plan_read(form, 2, &u[0], &u[1], zones),
-        bp_plan_read(count, 1, &u[0], &u[1], zones),
-        bp_plan_read(slots, 6, &u[0], &u[1], zones),
-        bp_plan_read(order, 6, &u[0], &u[1], zones),
-        bp_plan_read(over, 7, &u[0], &u[1], zones),
-        bp_plan_write(1, 256, zones, none, 1, &u[0]),
+        lay(BP_OFUSC, 256, 0, 0, 0, 0, floats(points), 384, floats(grid), 512),
+        ground(BP_OFUSC, 256, 0, 0, 0, pilot, floats(grid), 511),
+        bp_zone_plan_read(none, 1, &u[0], &u[1], zones),
+        bp_zone_plan_read(form, 2, &u[0], &u[1], zones),
+        bp_zone_plan_read(count, 1, &u[0], &u[1], zones),
+        bp_zone_plan_read(slots, 7, &u[0], &u[1], zones),
+        bp_zone_plan_read(order, 7, &u[0], &u[1], zones),
+        bp_zone_plan_read(over, 8, &u[0], &u[1], zones),
+        bp_zone_plan_write(1, 256, zones, none, 1, &u[0]),
+        ground(BP_OFUSC, 256, 0, BP_ALL_GROUPS, 512, pilot, floats(grid), 511),
     };
-    const uint32_t named[17] = {
+    const uint32_t named[18] = {
         BP_ACCEPTED,           BP_REFUSED_MODE,       BP_REFUSED_SIZE,     BP_REFUSED_CELL,      BP_REFUSED_SLOT,
         BP_REFUSED_SUBCHANNEL, BP_REFUSED_INDEX,      BP_REFUSED_CARRIER,  BP_REFUSED_POINTS_LEN, BP_REFUSED_GRID_LEN,
         BP_REFUSED_CUT_SHORT,  BP_REFUSED_FORM,       BP_REFUSED_COUNT,    BP_REFUSED_ZONE_SLOTS, BP_REFUSED_ORDER,
-        BP_REFUSED_LEFT_OVER,  BP_REFUSED_DEST_LEN,
+        BP_REFUSED_LEFT_OVER,  BP_REFUSED_DEST_LEN,   BP_REFUSED_MASK,
     };
-    for (uint32_t n = 0; n < 17; n++)
+    for (uint32_t n = 0; n < 18; n++)
         if (met[n] != n || named[n] != n)
             return 0;
     return 1;
@@ -153,14 +208,15 @@ static int collisions_are_right(void)
 
 static int plan_is_right(void)
 {
-    const uint8_t bytes[6] = {0x01, 0x80, 0x10, 0x00, 0x05, 0x0C};
-    uint8_t again[6] = {0, 0, 0, 0, 0, 0};
-    uint32_t count, size, zones[24], written;
-    if (bp_plan_read(bytes, 6, &count, &size, zones) != 0 || count != 1 || size != 2048 || zones[1] != 5)
+    const uint8_t bytes[7] = {0x01, 0x80, 0x10, 0x00, 0x05, 0x0C, 0x3F};
+    uint8_t again[7] = {0, 0, 0, 0, 0, 0, 0};
+    uint32_t count, size, zones[32], written;
+    if (bp_zone_plan_read(bytes, 7, &count, &size, zones) != 0 || count != 1 || size != 2048 || zones[1] != 5 ||
+        zones[3] != BP_ALL_GROUPS)
         return 0;
-    if (bp_plan_write(count, size, zones, again, 6, &written) != 0 || written != 6)
+    if (bp_zone_plan_write(count, size, zones, again, 7, &written) != 0 || written != 7)
         return 0;
-    for (int n = 0; n < 6; n++)
+    for (int n = 0; n < 7; n++)
         if (again[n] != bytes[n])
             return 0;
     return 1;
@@ -168,8 +224,8 @@ static int plan_is_right(void)
 
 int main(void)
 {
-    if (map_is_right() && shapes_are_right() && ground_is_right() && grid_is_right() && refusals_are_right() &&
-        collisions_are_right() && plan_is_right())
+    if (map_is_right() && shapes_are_right() && ground_is_right() && grid_is_right() && sector_is_right() &&
+        refusals_are_right() && collisions_are_right() && plan_is_right())
         return 0;
     puts("a call through the header gave a wrong answer");
     return 1;
