@@ -329,7 +329,7 @@ def collisions_requests():
 # --- plans ------------------------------------------------------------------------------------
 
 # A buffer of so many bytes, each of this value, of which the first are the destination.
-ROOM, BEFORE = 48, 238
+ROOM, BEFORE = 56, 238
 
 # Plans as (size, zones).
 PLANS = [

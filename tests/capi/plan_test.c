@@ -8,7 +8,7 @@
 
 #include "bellpulsar.h"
 
-enum { FIELDS = 128, PLACES = 32, ROOM = 48, BEFORE = 238 };
+enum { FIELDS = 128, PLACES = 32, ROOM = 56, BEFORE = 238 };
 
 /* The out parameters of a call between guard words. */
 struct outs {

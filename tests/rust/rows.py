@@ -17,7 +17,7 @@
     ofusc     size cell subchannel cell subchannel; refusal count hits(48)
     amc       cell cell; refusal count hits(48)
     read      length bytes; refusal count size zones(32)
-    write     length count size zones(32); refusal written, 48 bytes of which the first were lent
+    write     length count size zones(32); refusal written, 56 bytes of which the first were lent
 
 What is not given by an answer stands as 0. Only carriers may be negative.
 """

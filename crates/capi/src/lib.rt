@@ -15,7 +15,7 @@ ghost use Rattle.collision.specs.Collision.{ofuscOf, amcOf};
 ghost use Rattle.capi.specs.Map.{PlaceOut, placeOut, LocateOut, locateOut};
 ghost use Rattle.capi.specs.Collision.{CollisionOut, collisionOut};
 ghost use Rattle.grid.specs.Grid.{groundOf, layOf, emptyOf, lookOf};
-ghost use Rattle.lengths.specs.Length.{pointsLength, gridLength};
+ghost use Rattle.lengths.specs.Length.{pointsLength, litPointsLength, gridLength};
 ghost use Rattle.capi.specs.Grid.{pairPoint, lookOut};
 ghost use Rattle.plan.specs.Read.{planOf, answered};
 ghost use Rattle.plan.specs.Write.{writeOf};
@@ -171,6 +171,13 @@ pub extern "C" fn bp_points_len(mode: u32, size: u32) -> usize
 }
 
 #[no_mangle]
+pub extern "C" fn bp_lit_points_len(mode: u32, size: u32, mask: u32) -> usize
+    ensures { λ r. ⌜ r ≡ litPointsLength mode size mask ⌝ }
+{
+    lengths::lit_points_length(mode as usize, size as usize, mask as usize)
+}
+
+#[no_mangle]
 pub extern "C" fn bp_grid_len(mode: u32, size: u32) -> usize
     ensures { λ r. ⌜ r ≡ gridLength mode size ⌝ }
 {
@@ -182,17 +189,24 @@ pub extern "C" fn bp_ground(
     mode: u32,
     size: u32,
     cell: u32,
+    mask: u32,
     slot: u32,
     pilot: &[f32; 2],
     grid: &mut [f32],
 ) -> u32
-    ensures { λ r. ⌜ record { refusal = r; buffer = now (grid .exit) } ≡ groundOf (record { mode = mode; size = size; cell = cell }) slot (pairPoint (now (pilot .entry))) (now (grid .entry)) ⌝ }
+    ensures { λ r. ⌜ record { refusal = r; buffer = now (grid .exit) } ≡ groundOf (record { mode = mode; size = size; cell = cell }) mask slot (pairPoint (now (pilot .entry))) (now (grid .entry)) ⌝ }
 {
     let p = Point {
         i: pilot[0],
         q: pilot[1],
     };
-    let number = grid::ground(setup(mode, size, cell), slot as usize, p, grid);
+    let number = grid::ground(
+        setup(mode, size, cell),
+        mask as usize,
+        slot as usize,
+        p,
+        grid,
+    );
     number as u32
 }
 
@@ -201,15 +215,23 @@ pub extern "C" fn bp_lay(
     mode: u32,
     size: u32,
     cell: u32,
+    mask: u32,
     slot: u32,
     subchannel: u32,
     points: &[f32],
     grid: &mut [f32],
 ) -> u32
-    ensures { λ r. ⌜ record { refusal = r; buffer = now (grid .exit) } ≡ layOf (record { mode = mode; size = size; cell = cell }) slot subchannel (now (points .entry)) (now (grid .entry)) ⌝ }
+    ensures { λ r. ⌜ record { refusal = r; buffer = now (grid .exit) } ≡ layOf (record { mode = mode; size = size; cell = cell }) mask slot subchannel (now (points .entry)) (now (grid .entry)) ⌝ }
 {
     let of = setup(mode, size, cell);
-    let number = grid::lay(of, slot as usize, subchannel as usize, points, grid);
+    let number = grid::lay(
+        of,
+        mask as usize,
+        slot as usize,
+        subchannel as usize,
+        points,
+        grid,
+    );
     number as u32
 }
 
@@ -218,13 +240,20 @@ pub extern "C" fn bp_empty(
     mode: u32,
     size: u32,
     cell: u32,
+    mask: u32,
     slot: u32,
     grid: &[f32],
     points: &mut [f32],
 ) -> u32
-    ensures { λ r. ⌜ record { refusal = r; buffer = now (points .exit) } ≡ emptyOf (record { mode = mode; size = size; cell = cell }) slot (now (grid .entry)) (now (points .entry)) ⌝ }
+    ensures { λ r. ⌜ record { refusal = r; buffer = now (points .exit) } ≡ emptyOf (record { mode = mode; size = size; cell = cell }) mask slot (now (grid .entry)) (now (points .entry)) ⌝ }
 {
-    let number = grid::empty(setup(mode, size, cell), slot as usize, grid, points);
+    let number = grid::empty(
+        setup(mode, size, cell),
+        mask as usize,
+        slot as usize,
+        grid,
+        points,
+    );
     number as u32
 }
 
@@ -233,6 +262,7 @@ pub extern "C" fn bp_look(
     mode: u32,
     size: u32,
     cell: u32,
+    mask: u32,
     symbol: u32,
     grid: &[f32],
     carrier: i32,
@@ -242,9 +272,15 @@ pub extern "C" fn bp_look(
     subchannel: &mut u32,
     index: &mut u32,
 ) -> u32
-    ensures { λ r. ⌜ record { refusal = r; kind = now (kind .exit); point = now (point .exit); slot = now (slot .exit); subchannel = now (subchannel .exit); index = now (index .exit) } ≡ lookOut (lookOf (record { mode = mode; size = size; cell = cell }) symbol (now (grid .entry)) carrier) (now (kind .entry)) (now (point .entry)) (now (slot .entry)) (now (subchannel .entry)) (now (index .entry)) ⌝ }
+    ensures { λ r. ⌜ record { refusal = r; kind = now (kind .exit); point = now (point .exit); slot = now (slot .exit); subchannel = now (subchannel .exit); index = now (index .exit) } ≡ lookOut (lookOf (record { mode = mode; size = size; cell = cell }) mask symbol (now (grid .entry)) carrier) (now (kind .entry)) (now (point .entry)) (now (slot .entry)) (now (subchannel .entry)) (now (index .entry)) ⌝ }
 {
-    let answer = grid::look(setup(mode, size, cell), symbol as usize, grid, carrier);
+    let answer = grid::look(
+        setup(mode, size, cell),
+        mask as usize,
+        symbol as usize,
+        grid,
+        carrier,
+    );
     match answer {
         Seen::Nothing => {
             *kind = 0;

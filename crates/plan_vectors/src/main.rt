@@ -3,7 +3,7 @@
 //     r n byte ..                              reads the n bytes: the refusal, the count, the size, then
 //                                              mode, cell, slots and mask of each of the eight places
 //     w n count size mode cell slots mask ..   writes a plan of eight places to a destination of n bytes:
-//                                              the refusal, the bytes written, and a buffer of 48 bytes
+//                                              the refusal, the bytes written, and a buffer of 56 bytes
 //                                              whose start is the destination; every byte was 238 before
 //
 // Each line is written back with its answer behind a colon. The input and what must come out are
@@ -77,8 +77,8 @@ fn answer_write(f: [usize; 64]) {
         size: f[2],
         zones: zones,
     };
-    let mut dest = [238u8; 48];
-    let n = least(f[0], 48);
+    let mut dest = [238u8; 56];
+    let n = least(f[0], 56);
     let answer = plan::write(plan, &mut dest[..n]);
     print_written(answer);
     print_bytes(dest);
@@ -146,9 +146,9 @@ fn print_written(answer: Written) {
     }
 }
 
-fn print_bytes(bytes: [u8; 48]) {
+fn print_bytes(bytes: [u8; 56]) {
     let mut i = 0;
-    while i < 48 {
+    while i < 56 {
         print_number(b' ', bytes[i] as usize);
         i += 1;
     }

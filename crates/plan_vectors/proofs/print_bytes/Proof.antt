@@ -8,7 +8,7 @@ abbrev Inv-loop : tie.InvT-loop
 Inv-loop bytes i₀ i = Unit {0}
 
 abbrev μ-loop : tie.MeasureT-loop
-μ-loop bytes i₀ i = 48 - i
+μ-loop bytes i₀ i = 56 - i
 
 pub print-bytes-spec : {M : Type 1} → statement M
 print-bytes-spec =
