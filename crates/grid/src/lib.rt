@@ -14,7 +14,7 @@ ghost use Rattle.points.specs.Model.{putPoint};
 ghost use Rattle.lengths.specs.Length.{gridPoints};
 ghost use Rattle.grid.specs.Row.{position, usedPosition};
 ghost use Rattle.grid.specs.Grid.{grounded, groundOf, layOf, emptyOf, sight as sightOf, seen, lookOf};
-ghost use Rattle.grid.specs.Model.{pilotRow, taken, takenLit};
+ghost use Rattle.grid.specs.Model.{pilotRow, takenLit};
 
 // What `look` finds on a carrier, or the first refusal.
 pub enum Seen {
@@ -107,28 +107,8 @@ pub fn lay(
     0
 }
 
-// The points of one subchannel taken off the grid, to a place among the points.
+// The points of one subchannel taken off the grid, where it is lit, to the place of its rank; answers the rank of the next.
 fn take(
-    setup: Setup,
-    slot: usize,
-    subchannel: usize,
-    place: usize,
-    table: &[u16; 48],
-    grid: &[f32],
-    points: &mut [f32],
-)
-    requires { ⌜ Valid setup ⌝ }
-    requires { ⌜ (subchannel < subchannels setup) × (place < 192) × (96 * place + 96 ≤ length (now points)) × (length (now grid) ≡ 2 * gridPoints setup) ⌝ }
-    requires { ⌜ TableOf setup slot (now table) ⌝ }
-    ensures { λ _. ⌜ now (points .exit) ≡ taken setup slot (now (grid .entry)) subchannel place (now (points .entry)) ⌝ }
-{
-    let row = rows::carrier_row(setup, slot, subchannel, table);
-    let by = rows::shift(setup, subchannel);
-    points::take_row(&row, by, place * 48, grid, points);
-}
-
-// The same where the subchannel is lit, which has this rank; answers the rank of the next one.
-fn take_lit(
     setup: Setup,
     mask: usize,
     slot: usize,
@@ -146,7 +126,9 @@ fn take_lit(
     if !mask::is_lit(setup, mask, subchannel) {
         return rank;
     }
-    take(setup, slot, subchannel, rank, table, grid, points);
+    let by = rows::shift(setup, subchannel);
+    let row = rows::carrier_row(setup, slot, subchannel, table);
+    points::take_row(&row, by, rank * 48, grid, points);
     rank + 1
 }
 
@@ -163,7 +145,7 @@ pub fn empty(setup: Setup, mask: usize, slot: usize, grid: &[f32], points: &mut 
     let mut rank = 0;
     let mut subchannel = 0;
     while subchannel < n {
-        rank = take_lit(setup, mask, slot, subchannel, rank, &table, grid, points);
+        rank = take(setup, mask, slot, subchannel, rank, &table, grid, points);
         subchannel += 1;
     }
     0

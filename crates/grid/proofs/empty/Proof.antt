@@ -23,8 +23,8 @@ returns c = refused-leaves _ _ _ (empty-numbered _ _ _ _ _ _) _ _ (c .before .em
 loop-holds : tie.Need-loop-holds Inv-loop μ-loop
 loop-holds c = empty-start _ _ (empty-accepted _ _ _ _ _ _ (c .before .before .before .empty-refusal .ensures) (c .before .before .if1 .left)) _ (c .subchannels .ensures)
 
-take-lit-requires : tie.Need-take-lit-requires Inv-loop μ-loop
-take-lit-requires c κs =
+take-requires : tie.Need-take-requires Inv-loop μ-loop
+take-requires c κs =
     let turn = c .before .before .before .loop .inv in
     (turn .accepts .fits .lit .valid, ((rw (turn .n-is) at (c .before .before .loop-test .taken), turn .rank-is, empty-long turn ∙ turn .accepts .points-long, turn .accepts .fits .grid-long), c .before .before .before .before .before .table .ensures))
 
@@ -38,8 +38,8 @@ pub empty-spec : {M : Type 1} → statement M
 empty-spec =
     tie.close
     (tie.spec
-    Inv-loop μ-loop (λ c κs. search needs) returns (λ c κs. empty-accepted _ _ _ _ _ _ (c .before .empty-refusal .ensures) (c .if1 .left) .fits .lit .valid) (λ c κs. search needs) loop-holds take-lit-requires
+    Inv-loop μ-loop (λ c κs. search needs) returns (λ c κs. empty-accepted _ _ _ _ _ _ (c .before .empty-refusal .ensures) (c .if1 .left) .fits .lit .valid) (λ c κs. search needs) loop-holds take-requires
     (λ c. omega arith) (λ c. omega arith)
-    (λ c. empty-next (c .before .before .before .before .before .before .loop .inv) (c .before .before .before .before .before .loop-test .taken) _ _ (c .before .before .take-lit .ensures))
+    (λ c. empty-next (c .before .before .before .before .before .before .loop .inv) (c .before .before .before .before .before .loop-test .taken) _ _ (c .before .before .take .ensures))
     (λ c. empty-long (c .before .loop .inv))
     returns-2)
