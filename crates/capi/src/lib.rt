@@ -200,13 +200,9 @@ pub extern "C" fn bp_ground(
         i: pilot[0],
         q: pilot[1],
     };
-    let number = grid::ground(
-        setup(mode, size, cell),
-        mask as usize,
-        slot as usize,
-        p,
-        grid,
-    );
+    let of = setup(mode, size, cell);
+    let lit = mask as usize;
+    let number = grid::ground(of, lit, slot as usize, p, grid);
     number as u32
 }
 
@@ -224,14 +220,8 @@ pub extern "C" fn bp_lay(
     ensures { λ r. ⌜ record { refusal = r; buffer = now (grid .exit) } ≡ layOf (record { mode = mode; size = size; cell = cell }) mask slot subchannel (now (points .entry)) (now (grid .entry)) ⌝ }
 {
     let of = setup(mode, size, cell);
-    let number = grid::lay(
-        of,
-        mask as usize,
-        slot as usize,
-        subchannel as usize,
-        points,
-        grid,
-    );
+    let lit = mask as usize;
+    let number = grid::lay(of, lit, slot as usize, subchannel as usize, points, grid);
     number as u32
 }
 
@@ -247,13 +237,9 @@ pub extern "C" fn bp_empty(
 ) -> u32
     ensures { λ r. ⌜ record { refusal = r; buffer = now (points .exit) } ≡ emptyOf (record { mode = mode; size = size; cell = cell }) mask slot (now (grid .entry)) (now (points .entry)) ⌝ }
 {
-    let number = grid::empty(
-        setup(mode, size, cell),
-        mask as usize,
-        slot as usize,
-        grid,
-        points,
-    );
+    let of = setup(mode, size, cell);
+    let lit = mask as usize;
+    let number = grid::empty(of, lit, slot as usize, grid, points);
     number as u32
 }
 
@@ -274,13 +260,9 @@ pub extern "C" fn bp_look(
 ) -> u32
     ensures { λ r. ⌜ record { refusal = r; kind = now (kind .exit); point = now (point .exit); slot = now (slot .exit); subchannel = now (subchannel .exit); index = now (index .exit) } ≡ lookOut (lookOf (record { mode = mode; size = size; cell = cell }) mask symbol (now (grid .entry)) carrier) (now (kind .entry)) (now (point .entry)) (now (slot .entry)) (now (subchannel .entry)) (now (index .entry)) ⌝ }
 {
-    let answer = grid::look(
-        setup(mode, size, cell),
-        mask as usize,
-        symbol as usize,
-        grid,
-        carrier,
-    );
+    let of = setup(mode, size, cell);
+    let lit = mask as usize;
+    let answer = grid::look(of, lit, symbol as usize, grid, carrier);
     match answer {
         Seen::Nothing => {
             *kind = 0;
