@@ -6,7 +6,6 @@ use native.Mathlib.Nat.{not-suc-le-zero}
 use native.Mathlib.Omega.{arith}
 use lib.Dec.{eqb, ltb}
 use borrow.Author.Tests.{eqb-true, eqb-false, lt-ltb, le-ltb, ltb-true, ltb-false}
-use Rattle.base.specs.Choice.{pick}
 use Rattle.base.specs.Rank.{rank, unrank, RankLaw}
 use Rattle.base.proofs.Test.{cases}
 

@@ -22,7 +22,7 @@ pub record LookOut : Type 0 where
   pub subchannel : ℕ
   pub index : ℕ
 
--- kind: 0 nothing (guard or DC), 2 pilot, 3 data. The point is written at 2 and 3, the address at 3; else they are left alone.
+-- kind: 0 nothing (guard, DC, or what is not lit), 2 pilot, 3 data. The point is written at 2 and 3, the address at 3; else they are left alone.
 unfoldable pub lookOut : (answer : Answer Sight) (kind : ℕ) (point : List Float) (slot subchannel index : ℕ) → LookOut
 lookOut (accepted nothing) kind point slot subchannel index = record { refusal = 0; kind = 0; point = point; slot = slot; subchannel = subchannel; index = index }
 lookOut (accepted (pilot-with p)) kind point slot subchannel index = record { refusal = 0; kind = 2; point = pairOf p; slot = slot; subchannel = subchannel; index = index }

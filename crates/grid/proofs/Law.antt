@@ -5,38 +5,35 @@ use mathlib.Core.List.{List, [], _∷_}
 use Prim.Native.Nat.{ℕ, _+_, _*_, _/_, _%_, _<_}
 use native.Mathlib.Nat.{mod-lt, div-add-mod', div-lt-iff-lt-mul}
 use native.Mathlib.Omega.{arith}
-use lib.Arith.{digits-lt}
 use lib.ListN.{length}
 use lib.IntN.{ℤ}
 use lib.Ieee.{Float}
-use borrow.Author.Tests.{eq-eqb, ne-eqb, lt-ltb}
+use borrow.Author.Tests.{eq-eqb, ne-eqb}
 use Rattle.base.specs.Choice.{pick}
 use Rattle.base.specs.Answer.{accepted}
 use Rattle.base.proofs.Test.{cases}
-use Rattle.base.proofs.Chain.{yes-all}
 use Rattle.carriers.specs.Band.{carrierOf, usedOf}
 use Rattle.carriers.proofs.Guards.{carrier-lt, used-carrier}
-use Rattle.centre.specs.Centre.{fromDc, onRow}
+use Rattle.centre.specs.Centre.{onRow}
 use Rattle.map.specs.declared.Setup.{Setup}
 use Rattle.map.specs.Mode.{subchannels, symbols, band}
-use Rattle.map.specs.Model.{Valid}
 use Rattle.map.specs.Law.{Passes}
 use Rattle.map.specs.Place.{Place, Content, guard, dc, pilot, point, usedCarrier, placeOf, contentOf, locateOf}
 use Rattle.map.proofs.ByMode.{few}
 use Rattle.map.proofs.Slot.{band-law, centred}
 use Rattle.map.proofs.Law.{setup-asked, locating, locate-column, located-where-placed, in-own-slot}
-use Rattle.mask.specs.Mask.{isMask, isLit, isUsedLit, litContent, litSubchannels, litRank, ofLitRank, allLit}
+use Rattle.mask.specs.Mask.{isMask, isLit, isUsedLit, litContent, litSubchannels, litRank, ofLitRank}
 use Rattle.mask.proofs.Law.{mask-law}
 use Rattle.points.specs.declared.Point.{Point}
 use Rattle.points.specs.Points.{zeroPoint, pointAt}
 use Rattle.points.proofs.Points.{point-floats, by-points}
 use Rattle.lengths.specs.Length.{gridPoints, litPointsLength, gridLength}
-use Rattle.lengths.specs.Model.{gridRefusal, groundRefusal, layRefusal, lookRefusal}
+use Rattle.lengths.specs.Model.{gridRefusal, groundRefusal, layRefusal}
 use Rattle.lengths.proofs.Length.{lengths-listed, all-lit-length}
 use Rattle.lengths.proofs.Refusal.{MaskAccepted, GroundAccepted, LayAccepted, LookAccepted, ground-numbered, ground-accepted, ground-last, lay-numbered, lay-accepted, lay-unlit, lay-last, empty-numbered, empty-last, look-0, grid-0}
 use Rattle.grid.specs.Row.{carrierPosition}
-use Rattle.grid.specs.Grid.{contentAt, pointNumber, bare, grounded, groundOf, relaid, laid, layOf, held, filled, standsAt, emptied, emptyOf, nothing, data-with, sight, lookOf}
-use Rattle.grid.specs.Law.{Leaves, Lay, Lays, no-lay, lay-then, Never, none, another, LastLay, here, later, ownPoints, FilledGrid, GridLaw}
+use Rattle.grid.specs.Grid.{contentAt, pointNumber, bare, grounded, groundOf, relaid, laid, layOf, held, filled, standsAt, emptied, emptyOf, data-with, sight, lookOf}
+use Rattle.grid.specs.Law.{Leaves, Lay, Lays, no-lay, lay-then, Never, none, another, LastLay, here, later, ownPoints, carrierLit, FilledGrid, GridLaw}
 use Rattle.grid.proofs.Outcome.{left, refused-leaves, accepted-anew, accepted-number}
 use Rattle.grid.proofs.Slot.{floats-long, row-position, column-position, position-lt, stands-lt, lit-holds, point-stands}
 use Rattle.grid.proofs.Looked.{content-lit, look-done}
@@ -45,12 +42,9 @@ use Rattle.grid.proofs.Looked.{content-lit, look-done}
 abbrev there : (setup : Setup) (symbol : ℕ) (carrier : ℤ) → ℕ
 there setup symbol carrier = carrierPosition setup (symbol % symbols setup) carrier
 
--- whether it is lit, and what is there then of what it holds
-abbrev lit-there : (setup : Setup) (mask : ℕ) (carrier : ℤ) → Bool
-lit-there setup mask carrier = isUsedLit setup mask (usedOf (band setup) (onRow (setup .size) carrier))
-
+-- what is there of what it holds, where it is lit or not
 abbrev shown : (setup : Setup) (mask : ℕ) (carrier : ℤ) (w : Content) → Content
-shown setup mask carrier w = pick (lit-there setup mask carrier) w guard
+shown setup mask carrier w = pick (carrierLit setup mask carrier) w guard
 
 -- a carrier of a slot, where w is shown
 record OnGrid (setup : Setup) (mask slot : ℕ) (w : Content) (symbol : ℕ) (carrier : ℤ) : Type 0 where
@@ -78,7 +72,7 @@ module _ {setup : Setup} {mask : ℕ} (m : MaskAccepted setup mask) where
       }
 
   -- at the place of a point its subchannel tells whether it is lit
-  point-there : (slot s index : ℕ) (place : Place) → placeOf setup slot s index ≡ accepted place → lit-there setup mask (place .carrier) ≡ isLit setup mask s
+  point-there : (slot s index : ℕ) (place : Place) → placeOf setup slot s index ≡ accepted place → carrierLit setup mask (place .carrier) ≡ isLit setup mask s
   point-there slot s index place q =
       let l = locating setup (place .symbol) (place .carrier) (located-where-placed setup slot s index q) in
       content-lit setup (m .valid) mask (place .symbol) (onRow (setup .size) (place .carrier)) (l .symbol-lt) (l .column-lt) slot s index (l .content-is)
@@ -90,7 +84,7 @@ module _ {setup : Setup} {mask : ℕ} (m : MaskAccepted setup mask) where
       (on-grid slot (point slot s index) (place .symbol) (place .carrier) (in-own-slot setup slot s index q) (located-where-placed setup slot s index q))
 
   -- a used number's carrier by its number
-  used-there : (used : ℕ) → used < band setup .used → lit-there setup mask (usedCarrier setup used) ≡ isUsedLit setup mask used
+  used-there : (used : ℕ) → used < band setup .used → carrierLit setup mask (usedCarrier setup used) ≡ isUsedLit setup mask used
   unfolding usedCarrier
   used-there used h =
       ap (λ (k : ℕ). isUsedLit setup mask (usedOf (band setup) k)) (centred (m .valid) .0 .back (carrierOf (band setup) used))
@@ -125,7 +119,7 @@ module _ (setup : Setup) (mask slot s : ℕ) (points grid next : List Float) (e 
   unfolding laid
   lay-at n h = ap (λ (g : List Float). pointAt g n) (left-lay .1) ∙ point-floats (gridPoints setup) _ n h
 
-  -- what is seen then at the place of a point of the slot
+  -- what stands and is seen then at the place of a point of the slot
   module _ (t index : ℕ) (place : Place) (q : placeOf setup slot t index ≡ accepted place) where
     abbrev w : Content
     w = pick (isLit setup mask t) (point slot t index) guard
@@ -136,15 +130,18 @@ module _ (setup : Setup) (mask slot s : ℕ) (points grid next : List Float) (e 
     abbrev old : Point
     old = pointAt grid (there setup (place .symbol) (place .carrier))
 
+    stands-then : pointAt next (there setup (place .symbol) (place .carrier)) ≡ relaid s points old w
+    stands-then = lay-at (there setup (place .symbol) (place .carrier)) (k .there-lt) ∙ ap (relaid s points old) (k .there-holds)
+
     seen-then : lookOf setup mask (place .symbol) next (place .carrier) ≡ accepted (sight (relaid s points old w) w)
-    seen-then = k .looked next lay-long _ (lay-at (there setup (place .symbol) (place .carrier)) (k .there-lt) ∙ ap (relaid s points old) (k .there-holds))
+    seen-then = k .looked next lay-long _ stands-then
 
     other-stays : (t ≡ s → ⊥) → relaid s points old w ≡ old
     unfolding relaid
     other-stays ne = cases (isLit setup mask t) (λ b. rw (b, ne-eqb t s ne)) (λ b. rw b)
 
-    other-seen : (t ≡ s → ⊥) → lookOf setup mask (place .symbol) next (place .carrier) ≡ lookOf setup mask (place .symbol) grid (place .carrier)
-    other-seen ne = seen-then ∙ ap (λ (p : Point). accepted (sight p w)) (other-stays ne) ∙ sym (k .looked grid (lay-fits .fits .grid-long) _ refl)
+    other-stands : (t ≡ s → ⊥) → pointAt next (there setup (place .symbol) (place .carrier)) ≡ old
+    other-stands ne = stands-then ∙ other-stays ne
 
   own-seen : (index : ℕ) (place : Place) → placeOf setup slot s index ≡ accepted place
       → lookOf setup mask (place .symbol) next (place .carrier) ≡ accepted (data-with (pointAt points index) slot s index)
@@ -232,10 +229,7 @@ module _ (setup : Setup) (mask : ℕ) (m : MaskAccepted setup mask) (slot : ℕ)
   unfolding held
   zero-there w z symbol carrier own a =
       standing-there (on-grid m slot w symbol carrier own a)
-      ∙ cases (lit-there setup mask carrier) (λ t. rw t z) (λ t. rw t)
-
-  symbol-few : (symbol : ℕ) → symbol / symbols setup ≡ slot → symbol < 512 * symbols setup
-  symbol-few symbol own = div-lt-iff-lt-mul (few (m .valid) .symbols-pos) .0 (rw own hs)
+      ∙ cases (carrierLit setup mask carrier) (λ t. rw t z) (λ t. rw t)
 
   filled-grid : FilledGrid setup mask slot p points grid
   unfolding sight held
@@ -246,10 +240,9 @@ module _ (setup : Setup) (mask : ℕ) (m : MaskAccepted setup mask) (slot : ℕ)
         lengths-fit = (points-long ∙ long′ .0, long ∙ long′ .1);
         emptied-again = again;
         look-at-point = λ s index place lit h. rw lit at (seen-there (point-on-grid m slot s index place h));
-        look-at-pilot = λ symbol used own h lit a. rw (used-there m used h, lit) at (seen-there (on-grid m slot pilot symbol (usedCarrier setup used) own a));
+        look-at-pilot = λ symbol carrier own a lit. rw lit at (seen-there (on-grid m slot pilot symbol carrier own a));
         zero-on-guards = zero-there guard refl;
         zero-on-dc = zero-there dc refl;
-        zero-on-unlit = λ symbol used own h dark. standing-there (dark-on-grid m slot symbol used own (symbol-few symbol own) h dark);
       }
 
 -- the ground
@@ -269,23 +262,42 @@ module _ (setup : Setup) (mask slot : ℕ) (p : Point) (old ground : List Float)
   unfolding grounded
   ground-at n hn = ap (λ (g : List Float). pointAt g n) (left-ground .1) ∙ point-floats (gridPoints setup) _ n hn
 
--- and then lays in which every lit subchannel occurs
-module _ (setup : Setup) (mask slot : ℕ) (p : Point) (points old ground grid : List Float) (lays : List Lay) (e : Leaves (groundOf setup mask slot p old) ground)
-    (l : Lays setup mask slot ground lays grid) (every : (s : ℕ) → s < subchannels setup → isLit setup mask s ≡ true → LastLay s (ownPoints setup mask points s) lays) where
+-- and then lays
+module _ (setup : Setup) (mask slot : ℕ) (p : Point) (old ground grid : List Float) (lays : List Lay) (e : Leaves (groundOf setup mask slot p old) ground)
+    (l : Lays setup mask slot ground lays grid) where
   abbrev fits : GroundAccepted setup mask slot (length old)
   fits = ground-fits setup mask slot p old ground e
 
+  as-the-ground : (n : ℕ) → n < gridPoints setup → (w : Content) → contentAt setup mask slot n ≡ w → ((s : ℕ) (points : List Float) (old : Point) → relaid s points old w ≡ old)
+      → pointAt grid n ≡ bare p w
+  as-the-ground n hn w c h = stays n hn w c l (no-point w h lays) ∙ ground-at setup mask slot p old ground e n hn ∙ ap (bare p) c
+
+  dark-stays : (symbol used : ℕ) → symbol / symbols setup ≡ slot → used < band setup .used → isUsedLit setup mask used ≡ false
+      → pointAt grid (there setup symbol (usedCarrier setup used)) ≡ zeroPoint
+  unfolding bare relaid
+  dark-stays symbol used own h dark =
+      let m = fits .lit in
+      let few-symbols : symbol < 512 * symbols setup = div-lt-iff-lt-mul (few (m .valid) .symbols-pos) .0 (rw own (fits .slot-lt)) in
+      let k = dark-on-grid m slot symbol used own few-symbols h dark in
+      as-the-ground (there setup symbol (usedCarrier setup used)) (k .there-lt) guard (k .there-holds) (λ s x o. refl)
+
+-- in which every lit subchannel occurs
+module _ (setup : Setup) (mask slot : ℕ) (p : Point) (points old ground grid : List Float) (lays : List Lay) (e : Leaves (groundOf setup mask slot p old) ground)
+    (l : Lays setup mask slot ground lays grid) (every : (s : ℕ) → s < subchannels setup → isLit setup mask s ≡ true → LastLay s (ownPoints setup mask points s) lays) where
+  abbrev its : GroundAccepted setup mask slot (length old)
+  its = fits setup mask slot p old ground grid lays e l
+
   module _ (n : ℕ) (hn : n < gridPoints setup) where
-    as-the-ground : (w : Content) → contentAt setup mask slot n ≡ w → ((s : ℕ) (points : List Float) (old : Point) → relaid s points old w ≡ old) → pointAt grid n ≡ bare p w
-    as-the-ground w c h = stays n hn w c l (no-point w h lays) ∙ ground-at setup mask slot p old ground e n hn ∙ ap (bare p) c
+    abbrev bare-stays : (w : Content) → contentAt setup mask slot n ≡ w → ((s : ℕ) (points : List Float) (old : Point) → relaid s points old w ≡ old) → pointAt grid n ≡ bare p w
+    bare-stays = as-the-ground setup mask slot p old ground grid lays e l n hn
 
     in-the-end : (w : Content) → contentAt setup mask slot n ≡ w → pointAt grid n ≡ held setup mask p points w
     unfolding held bare relaid ownPoints
-    in-the-end guard c = as-the-ground guard c (λ s x o. refl)
-    in-the-end dc c = as-the-ground dc c (λ s x o. refl)
-    in-the-end pilot c = as-the-ground pilot c (λ s x o. refl)
+    in-the-end guard c = bare-stays guard c (λ s x o. refl)
+    in-the-end dc c = bare-stays dc c (λ s x o. refl)
+    in-the-end pilot c = bare-stays pilot c (λ s x o. refl)
     in-the-end (point a s i) c =
-        let q = point-stands setup (fits .lit .valid) slot (fits .slot-lt) n hn mask a s i c in
+        let q = point-stands setup (its .lit .valid) slot (its .slot-lt) n hn mask a s i c in
         last-counts n hn a s i c (every s (q .subchannel-lt) (q .subchannel-lit)) l ∙ point-floats 48 _ i (q .index-lt)
 
   is-filled : grid ≡ filled setup mask slot p points
@@ -296,8 +308,8 @@ module _ (setup : Setup) (mask slot : ℕ) (p : Point) (points old ground grid :
 
   both-moves : length points ≡ litPointsLength (setup .mode) (setup .size) mask → FilledGrid setup mask slot p points grid
   both-moves long =
-      let m = fits .lit in
-      filled-grid setup mask m slot (fits .slot-lt) p points grid (long ∙ sym (lengths-listed m .0)) is-filled
+      let m = its .lit in
+      filled-grid setup mask m slot (its .slot-lt) p points grid (long ∙ sym (lengths-listed m .0)) is-filled
 
 -- a setup and a mask that pass, and a grid of the length that is told, which passes the last question
 passed : {setup : Setup} {mask : ℕ} → Passes setup → isMask (setup .mode) mask ≡ true → MaskAccepted setup mask
@@ -315,7 +327,8 @@ grid-law =
     record {
       two-moves = λ setup mask slot p points old ground grid lays e l long every. both-moves setup mask slot p points old ground grid lays e l every long;
       laid-is-seen = own-seen;
-      others-stay = λ setup mask slot s points grid next e other index place ne q. other-seen setup mask slot s points grid next e other index place q ne;
+      others-stay = λ setup mask slot s points grid next e other index place ne q. other-stands setup mask slot s points grid next e other index place q ne;
+      zero-on-unlit = dark-stays;
       unlit-meets-5 = λ setup mask slot s points grid e k h l dark.
           sym (refused-leaves _ _ _ (lay-numbered setup mask slot s (length points) (length grid) _) grid 5
           (lay-unlit setup mask slot s (length points) (length grid) (passed e k) h (subchannels setup) refl l _ refl (ap not dark)) (λ z. omega arith));

@@ -9,12 +9,12 @@ use lib.IntN.{ℤ}
 use lib.Ieee.{Float}
 use Rattle.base.specs.Choice.{pick}
 use Rattle.base.specs.Answer.{Answer, accepted, refused}
-use Rattle.base.proofs.Chain.{same-accepted, numbered, yes-all, no-first, number-none}
+use Rattle.base.proofs.Chain.{same-accepted, yes-all, no-first, number-none}
 use Rattle.base.proofs.Test.{cases}
 use Rattle.carriers.specs.declared.Band.{Band}
 use Rattle.carriers.specs.Band.{carrierOf, usedOf}
 use Rattle.carriers.proofs.Guards.{used-carrier}
-use Rattle.centre.specs.Centre.{fromDc, inRange, onRow}
+use Rattle.centre.specs.Centre.{fromDc, onRow}
 use Rattle.centre.proofs.Law.{one-column}
 use Rattle.map.specs.declared.Setup.{Setup}
 use Rattle.map.specs.Mode.{symbols, band, spotOf}
@@ -27,10 +27,9 @@ use Rattle.mask.specs.Mask.{isLit, isUsedLit, litContent}
 use Rattle.mask.proofs.Law.{point-lit}
 use Rattle.points.specs.declared.Point.{Point}
 use Rattle.points.specs.Points.{pointAt}
-use Rattle.lengths.specs.Length.{gridPoints}
 use Rattle.lengths.specs.Model.{lookRefusal}
 use Rattle.lengths.proofs.Refusal.{LookAccepted, look-numbered, look-accepted}
-use Rattle.grid.specs.Row.{position, carrierPosition}
+use Rattle.grid.specs.Row.{position}
 use Rattle.grid.specs.Grid.{Sight, nothing, pilot-with, data-with, sight, lookOf}
 
 -- ---- a column of a symbol's row

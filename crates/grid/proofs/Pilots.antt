@@ -25,7 +25,7 @@ use Rattle.grid.specs.Row.{usedPosition, rowOf, columnOf}
 use Rattle.grid.specs.Grid.{contentAt, bare, grounded}
 use Rattle.points.specs.Model.{putPoint, puts}
 use Rattle.grid.specs.Model.{pilotPlace, runPoint, pilotRow}
-use Rattle.rows.specs.Model.{combOf, pilotNumber, LitRuns, runLit}
+use Rattle.rows.specs.Model.{combOf, pilotNumber, LitRuns, IsRun, runLit, RunFlags}
 use Rattle.points.proofs.Points.{length-puts, by-points, point-cleared, puts-miss, puts-hit}
 use Rattle.points.proofs.Copy.{Putting, putting-none, putting-long, putting-next, putting-done}
 use Rattle.rows.proofs.Pilots.{CombLaw, pilots-law, Small, comb-small, run-few, run-two, run-lit}
@@ -164,7 +164,7 @@ module _ {setup : Setup} {lit : List ℕ} {slot row : ℕ} {p : Point} {grid₀ 
   row-done h = putting-done (t .put) (omega arith) ∙ ap (λ (b : Comb). puts (pilotPlace setup row b) (λ i. runPoint setup lit p (i / 2)) (b .count * 2) grid₀) (t .comb-is)
 
   -- a turn of PUSC downlink is one of its clusters
-  pub turn-few : i < comb .count → setup .mode ≡ 0 → i < 120
+  pub turn-few : i < comb .count → IsRun setup i
   turn-few h e = run-few (t .valid) (slot * symbols setup + row) i (rw (t .comb-is) at h) e
 
   module _ (h : i < comb .count) (u : ℕ) (e : u ≡ pilotNumber comb (i * 2)) where
@@ -219,7 +219,7 @@ ground-start {setup = setup} v lit runs h floats l rows e grid q =
 
 module _ {setup : Setup} {mask : ℕ} {lit : List ℕ} {slot : ℕ} {p : Point} {rows : ℕ} {grid : List Float} {row : ℕ} (t : GroundTurn setup mask lit slot p rows grid row) where
   pub ground-asks : row < rows
-      → Valid setup × (((slot < 512) × (row < symbols setup) × (length grid ≡ 2 * gridPoints setup)) × ((i : ℕ) → (setup .mode ≡ 0 → i < 120) → runLit setup lit i < 2))
+      → Valid setup × (((slot < 512) × (row < symbols setup) × (length grid ≡ 2 * gridPoints setup)) × RunFlags setup lit)
   ground-asks h = (t .valid, ((t .slot-lt, rw (t .rows-are) at h, t .long), run-two setup mask lit (t .runs)))
 
   module _ (grid′ : List Float) (e : grid′ ≡ pilotRow setup lit slot p row grid) where

@@ -97,7 +97,7 @@ emptyOf setup mask slot grid points =
     (askEmpty setup mask slot (length points) (length grid) (accepted (emptied setup mask slot grid)))
     points
 
--- nothing (guard or DC), a pilot with its point, or data with its point, slot, subchannel and index
+-- nothing (guard, DC, or what is not lit), a pilot with its point, or data with its point, slot, subchannel and index
 pub data Sight : Type 0 where
   nothing : Sight
   pilot-with : Point → Sight

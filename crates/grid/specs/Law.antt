@@ -1,12 +1,14 @@
 -- What is claimed of grids: THE LAW OF THE GRID, `GridLaw` below. Its proof is `grid-law`.
 use mathlib.Core.Path.{_≡_}
-use mathlib.Core.Bool.{true, false}
+use mathlib.Core.Bool.{Bool, true, false}
 use mathlib.Core.List.{List, [], _∷_}
 use Prim.Native.Nat.{ℕ, _*_, _/_, _%_, _<_}
 use lib.ListN.{length}
 use lib.IntN.{ℤ}
 use lib.Ieee.{Float}
 use Rattle.base.specs.Answer.{accepted}
+use Rattle.carriers.specs.Band.{usedOf}
+use Rattle.centre.specs.Centre.{onRow}
 use Rattle.map.specs.declared.Setup.{Setup}
 use Rattle.map.specs.Mode.{subchannels, symbols, band}
 use Rattle.map.specs.Place.{Place, guard, dc, pilot, usedCarrier, placeOf, locateOf}
@@ -51,7 +53,11 @@ ownPoints setup mask points s = floatsOf 48 (λ index. pointAt points (pointNumb
 abbrev pub standing : (setup : Setup) (grid : List Float) (symbol : ℕ) (carrier : ℤ) → Point
 standing setup grid symbol carrier = pointAt grid (carrierPosition setup (symbol % symbols setup) carrier)
 
--- what holds of a grid that is filled with these points of a slot and the pilot point p
+-- whether a carrier is lit, by its used number
+abbrev pub carrierLit : (setup : Setup) (mask : ℕ) (carrier : ℤ) → Bool
+carrierLit setup mask carrier = isUsedLit setup mask (usedOf (band setup) (onRow (setup .size) carrier))
+
+-- what holds of a grid that is filled with these points of a slot's lit subchannels and the pilot point p
 pub record FilledGrid (setup : Setup) (mask slot : ℕ) (p : Point) (points grid : List Float) : Type 0 where
   -- It is the grid that document 01 defines, where only the mask's groups are lit.
   pub is-filled : grid ≡ filled setup mask slot p points
@@ -63,13 +69,11 @@ pub record FilledGrid (setup : Setup) (mask slot : ℕ) (p : Point) (points grid
   pub look-at-point : (subchannel index : ℕ) (place : Place) → isLit setup mask subchannel ≡ true → placeOf setup slot subchannel index ≡ accepted place
       → lookOf setup mask (place .symbol) grid (place .carrier) ≡ accepted (data-with (pointAt points (pointNumber (litRank setup mask subchannel) index)) slot subchannel index)
   -- Looking at a lit pilot, in a symbol of the slot, shows the pilot point.
-  pub look-at-pilot : (symbol used : ℕ) → symbol / symbols setup ≡ slot → used < band setup .used → isUsedLit setup mask used ≡ true
-      → locateOf setup symbol (usedCarrier setup used) ≡ accepted pilot → lookOf setup mask symbol grid (usedCarrier setup used) ≡ accepted (pilot-with p)
-  -- Guards, DC and what is not lit, in a symbol of the slot, hold 0.0.
+  pub look-at-pilot : (symbol : ℕ) (carrier : ℤ) → symbol / symbols setup ≡ slot → locateOf setup symbol carrier ≡ accepted pilot → carrierLit setup mask carrier ≡ true
+      → lookOf setup mask symbol grid carrier ≡ accepted (pilot-with p)
+  -- Guards and DC, in a symbol of the slot, hold 0.0.
   pub zero-on-guards : (symbol : ℕ) (carrier : ℤ) → symbol / symbols setup ≡ slot → locateOf setup symbol carrier ≡ accepted guard → standing setup grid symbol carrier ≡ zeroPoint
   pub zero-on-dc : (symbol : ℕ) (carrier : ℤ) → symbol / symbols setup ≡ slot → locateOf setup symbol carrier ≡ accepted dc → standing setup grid symbol carrier ≡ zeroPoint
-  pub zero-on-unlit : (symbol used : ℕ) → symbol / symbols setup ≡ slot → used < band setup .used → isUsedLit setup mask used ≡ false
-      → standing setup grid symbol (usedCarrier setup used) ≡ zeroPoint
 
 pub record GridLaw : Type 0 where
   -- Document 02, wishes 4 and 5: the ground, and then every lit subchannel in whichever order, gives the filled grid, whatever the buffer held and whatever the mask. The lays are any list in which every lit subchannel occurs, as often as one likes; of each subchannel the last lay counts.
@@ -82,11 +86,16 @@ pub record GridLaw : Type 0 where
   pub laid-is-seen : (setup : Setup) (mask slot s : ℕ) (points grid next : List Float) → Leaves (layOf setup mask slot s points grid) next
       → (index : ℕ) (place : Place) → placeOf setup slot s index ≡ accepted place
       → lookOf setup mask (place .symbol) next (place .carrier) ≡ accepted (data-with (pointAt points index) slot s index)
-  -- A lay of another subchannel changes none of a subchannel's points, laid before or not.
+  -- A lay of another subchannel changes none of a subchannel's points, laid before or not, lit or not.
   pub others-stay : (setup : Setup) (mask slot s : ℕ) (points grid next : List Float) → Leaves (layOf setup mask slot s points grid) next
       → (other index : ℕ) (place : Place) → (other ≡ s → ⊥) → placeOf setup slot other index ≡ accepted place
-      → lookOf setup mask (place .symbol) next (place .carrier) ≡ lookOf setup mask (place .symbol) grid (place .carrier)
-  -- Document 02, wish 5: laying an unlit subchannel meets 5,
+      → standing setup next (place .symbol) (place .carrier) ≡ standing setup grid (place .symbol) (place .carrier)
+  -- Document 02, wish 5: pilots and data of unlit groups hold zeros, after the ground and after any lays,
+  pub zero-on-unlit : (setup : Setup) (mask slot : ℕ) (p : Point) (old ground grid : List Float) (lays : List Lay)
+      → Leaves (groundOf setup mask slot p old) ground → Lays setup mask slot ground lays grid
+      → (symbol used : ℕ) → symbol / symbols setup ≡ slot → used < band setup .used → isUsedLit setup mask used ≡ false
+      → standing setup grid symbol (usedCarrier setup used) ≡ zeroPoint
+  -- laying an unlit subchannel meets 5,
   pub unlit-meets-5 : (setup : Setup) (mask slot s : ℕ) (points grid : List Float) → Passes setup → isMask (setup .mode) mask ≡ true → slot < 512
       → s < subchannels setup → isLit setup mask s ≡ false → layOf setup mask slot s points grid ≡ record { refusal = 5; buffer = grid }
   -- and look answers nothing on what is not lit, whatever the grid holds there.

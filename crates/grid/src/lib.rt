@@ -1,15 +1,16 @@
-// Grids: a slot's ground, a subchannel's points laid on it, all points taken off again, and a look at one carrier.
+// Grids: a slot's ground, a subchannel's points laid on it, the lit subchannels' points taken off again, and a look at one
+// carrier.
 use map::Located;
 use map::Setup;
 use points::Point;
 ghost use mathlib.Core.Path.{_≡_};
-ghost use Prim.Native.Nat.{ℕ, _+_, _*_, _%_, _<_, _≤_};
+ghost use Prim.Native.Nat.{_+_, _*_, _%_, _<_};
 ghost use lib.ListN.{length};
 ghost use Rattle.base.specs.Answer.{accepted};
 ghost use Rattle.map.specs.Mode.{symbols, subchannels, band};
 ghost use Rattle.map.specs.Model.{Valid};
 ghost use Rattle.mask.specs.Mask.{litContent, litSubchannels, litRank};
-ghost use Rattle.rows.specs.Model.{TableOf, runLit};
+ghost use Rattle.rows.specs.Model.{TableOf, RunFlags};
 ghost use Rattle.points.specs.Model.{putPoint};
 ghost use Rattle.lengths.specs.Length.{gridPoints};
 ghost use Rattle.grid.specs.Row.{position, usedPosition};
@@ -43,7 +44,7 @@ fn put_used(setup: Setup, row: usize, used: usize, p: Point, grid: &mut [f32])
 fn pilot_row(setup: Setup, lit: &[u8; 120], slot: usize, row: usize, p: Point, grid: &mut [f32])
     requires { ⌜ Valid setup ⌝ }
     requires { ⌜ (slot < 512) × (row < symbols setup) × (length (now grid) ≡ 2 * gridPoints setup) ⌝ }
-    requires { ⌜ ((i : ℕ) → (setup .mode ≡ 0 → i < 120) → runLit setup (now lit) i < 2) ⌝ }
+    requires { ⌜ RunFlags setup (now lit) ⌝ }
     ensures { λ _. ⌜ now (grid .exit) ≡ pilotRow setup (now (lit .entry)) slot p row (now (grid .entry)) ⌝ }
 {
     let comb = rows::pilot_comb(setup, slot * map::symbols(setup) + row);
@@ -85,7 +86,8 @@ pub fn ground(setup: Setup, mask: usize, slot: usize, pilot: Point, grid: &mut [
     0
 }
 
-// Lays a lit subchannel's 48 points on a slot's grid and leaves the rest of it; or the first refusal of 1, 2, 3, 17, 4, 5, 8, 9.
+// Lays a lit subchannel's 48 points on a slot's grid and leaves the rest of it; or the first refusal of 1, 2, 3, 17, 4, 5, 8,
+// 9.
 pub fn lay(
     setup: Setup,
     mask: usize,

@@ -1,5 +1,5 @@
 -- What the questions of ground, lay, empty and look come to.
-use mathlib.Core.Path.{_≡_, refl, sym, ap, _∙_, subst}
+use mathlib.Core.Path.{_≡_, refl, sym, ap, _∙_}
 use mathlib.Core.Bool.{Bool, true, false, not}
 use Prim.Native.Nat.{ℕ, _*_, _<_, _≤_}
 use native.Mathlib.Nat.{mul-le-mul}
@@ -22,7 +22,7 @@ use Rattle.map.proofs.ByMode.{few}
 use Rattle.mask.specs.Mask.{isMask, isLit, litSubchannels}
 use Rattle.mask.proofs.Law.{mask-small}
 use Rattle.lengths.specs.Length.{gridPoints}
-use Rattle.lengths.specs.Question.{isLaid, arePoints, areLaidPoints, isGrid, askMask, askSlot, askGround, askLay, askEmpty, askLook}
+use Rattle.lengths.specs.Question.{isLitSubchannel, arePoints, areLaidPoints, isGrid, askMask, askSlot, askGround, askLay, askEmpty, askLook}
 use Rattle.lengths.specs.Model.{maskRefusal, slotRefusal, gridRefusal, groundRefusal, layRefusal, emptyRefusal, lookRefusal}
 
 -- a slot's grid is small
@@ -182,31 +182,31 @@ pub record LayAccepted (setup : Setup) (mask slot subchannel points grid : ℕ) 
 module _ (setup : Setup) (mask slot subchannel points grid : ℕ) where
   module _ (a : MaskAccepted setup mask) (h : slot < 512) (n : ℕ) (e : n ≡ subchannels setup) where
     pub lay-5 : n ≤ subchannel → 5 ≡ layRefusal setup mask slot subchannel points grid
-    unfolding layRefusal isLaid isSubchannel
+    unfolding layRefusal isLitSubchannel isSubchannel
     lay-5 l = rw (← e, le-ltb subchannel n l) (sym (ap refusalOf (slot-passes setup mask slot a h)))
 
     module _ (l : subchannel < n) (t : Bool) (f : t ≡ isLit setup mask subchannel) where
       pub lay-unlit : not t ≡ true → 5 ≡ layRefusal setup mask slot subchannel points grid
-      unfolding layRefusal isLaid isSubchannel
+      unfolding layRefusal isLitSubchannel isSubchannel
       lay-unlit d = rw (← e, lt-ltb subchannel n l, sym f ∙ not-true t d) (sym (ap refusalOf (slot-passes setup mask slot a h)))
 
       module _ (d : not t ≡ false) where
         pub lay-8 : (points ≡ 96 → ⊥) → 8 ≡ layRefusal setup mask slot subchannel points grid
-        unfolding layRefusal isLaid isSubchannel areLaidPoints
+        unfolding layRefusal isLitSubchannel isSubchannel areLaidPoints
         lay-8 ne = rw (← e, lt-ltb subchannel n l, sym f ∙ not-false t d, ne-eqb points 96 ne) (sym (ap refusalOf (slot-passes setup mask slot a h)))
 
         pub lay-last : points ≡ 96 → (k : ℕ) → k ≡ gridRefusal setup grid → k ≡ layRefusal setup mask slot subchannel points grid
-        unfolding layRefusal gridRefusal isLaid isSubchannel areLaidPoints
+        unfolding layRefusal gridRefusal isLitSubchannel isSubchannel areLaidPoints
         lay-last p k q = q ∙ rw (← e, lt-ltb subchannel n l, sym f ∙ not-false t d, eq-eqb points 96 p) (sym (ap refusalOf (slot-passes setup mask slot a h)))
 
   pub lay-numbered : {A : Type 0} (rest : Answer A) → askLay setup mask slot subchannel points grid rest ≡ numbered (layRefusal setup mask slot subchannel points grid) rest
   unfolding layRefusal
   lay-numbered rest =
-      before setup mask slot (question (isLaid setup mask subchannel) 4 (question (areLaidPoints points) 7 (question (isGrid setup grid) 8 no-question))) .is
+      before setup mask slot (question (isLitSubchannel setup mask subchannel) 4 (question (areLaidPoints points) 7 (question (isGrid setup grid) 8 no-question))) .is
 
   -- a yes to 5: in range, and lit
-  laid-yes : isLaid setup mask subchannel ≡ true → (subchannel < subchannels setup) × (isLit setup mask subchannel ≡ true)
-  unfolding isLaid isSubchannel
+  laid-yes : isLitSubchannel setup mask subchannel ≡ true → (subchannel < subchannels setup) × (isLit setup mask subchannel ≡ true)
+  unfolding isLitSubchannel isSubchannel
   laid-yes e =
       cases (isSubchannel setup subchannel)
       (λ t. (ltb-true subchannel (subchannels setup) t, rw t at e))
@@ -216,7 +216,7 @@ module _ (setup : Setup) (mask slot subchannel points grid : ℕ) where
   unfolding layRefusal gridRefusal areLaidPoints
   lay-accepted k e z =
       let q = first-yes setup mask slot _ (sym e ∙ z) in
-      let q₅ = number-yes (isLaid setup mask subchannel) 4 _ (q .1) in
+      let q₅ = number-yes (isLitSubchannel setup mask subchannel) 4 _ (q .1) in
       let q₈ = number-yes (areLaidPoints points) 7 _ (q₅ .1) in
       let own = laid-yes (q₅ .0) in
       record {

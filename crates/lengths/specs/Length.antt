@@ -1,4 +1,4 @@
--- How long the lent buffers of a slot are. Document 01, "Grids": the points of all its subchannels, and a point a carrier for each of its symbols.
+-- How long the lent buffers of a slot are. Document 01, "Grids": the points of all its subchannels, or of the lit ones, and a point a carrier for each of its symbols.
 use Prim.Native.Nat.{ℕ, _*_}
 use Rattle.base.specs.Choice.{pick}
 use Rattle.map.specs.declared.Setup.{Setup}

@@ -11,8 +11,8 @@ use Rattle.mask.specs.Mask.{isMask, isLit, litSubchannels}
 use Rattle.lengths.specs.Length.{gridPoints}
 
 -- 5 Is the subchannel in range? Document 02, wish 5: laying an unlit subchannel meets 5.
-unfoldable pub isLaid : (setup : Setup) (mask subchannel : ℕ) → Bool
-isLaid setup mask subchannel = pick (isSubchannel setup subchannel) (isLit setup mask subchannel) false
+unfoldable pub isLitSubchannel : (setup : Setup) (mask subchannel : ℕ) → Bool
+isLitSubchannel setup mask subchannel = pick (isSubchannel setup subchannel) (isLit setup mask subchannel) false
 
 -- 8 Are the points just 96 floats for each subchannel? Document 02, wish 5: it counts only the lit ones.
 unfoldable pub arePoints : (setup : Setup) (mask floats : ℕ) → Bool
@@ -44,7 +44,7 @@ askGround setup mask slot grid rest =
 abbrev pub askLay : {A : Type 0} → (setup : Setup) (mask slot subchannel points grid : ℕ) (rest : Answer A) → Answer A
 askLay setup mask slot subchannel points grid rest =
     askSlot setup mask slot
-    (ask (isLaid setup mask subchannel) 5
+    (ask (isLitSubchannel setup mask subchannel) 5
     (ask (areLaidPoints points) 8
     (ask (isGrid setup grid) 9 rest)))
 

@@ -8,9 +8,9 @@ use lib.Arith.{digits-div, digits-lt}
 use lib.IntN.{ℤ}
 use lib.Signed.{mag}
 use borrow.Author.Tests.{lt-ltb, le-ltb, lt-leb, eq-eqb, ltb-true}
-use Rattle.base.specs.Answer.{Answer, accepted, refusalOf}
+use Rattle.base.specs.Answer.{Answer, accepted}
 use Rattle.base.proofs.Test.{cases}
-use Rattle.base.proofs.Chain.{ask-yes, same-accepted, numbered, no-question, question}
+use Rattle.base.proofs.Chain.{ask-yes, same-accepted}
 use Rattle.carriers.specs.declared.Spot.{Spot}
 use Rattle.carriers.specs.declared.Address.{Address}
 use Rattle.carriers.specs.Band.{carrierOf, usedOf, isGuard, isDc}
@@ -20,7 +20,7 @@ use Rattle.centre.specs.Centre.{fromDc, inRange, onRow}
 use Rattle.centre.proofs.Law.{in-range-mag}
 use Rattle.map.specs.declared.Setup.{Setup}
 use Rattle.map.specs.Mode.{subchannels, symbols, band, isPilot, spotOf, addressOf}
-use Rattle.map.specs.Question.{askSetup, isMode, isSize, isCell, isSlot, isSymbol, isSubchannel, isIndex, isCarrier, askCarrier}
+use Rattle.map.specs.Question.{askSetup, isMode, isSize, isCell, isSlot, isSymbol, isSubchannel, isIndex, isCarrier}
 use Rattle.map.specs.Place.{Place, Content, dc, pilot, point, usedCarrier, placeAt, placeOf, dataAt, contentOf, locateOf}
 use Rattle.map.specs.Model.{Valid}
 use Rattle.map.proofs.Accept.{valid, passes}
@@ -98,15 +98,6 @@ unfolding isCarrier
 locate-column c y column v h₄ h =
     let l = centred v .0 in
     locate-accepts c y (fromDc (c .size) column) v h₄ (l .in-range column h) ∙ ap (λ (k : ℕ). accepted (contentOf c y k)) (l .back column)
-
--- the questions of a symbol and a carrier as a number, whatever comes after them
-module _ (c : Setup) (y : ℕ) (k : ℤ) where
-  pub carrier-number : ℕ
-  carrier-number = refusalOf (askSetup {A = Unit {0}} c (askCarrier c y k (accepted tt)))
-
-  pub carrier-numbered : {A : Type 0} (rest : Answer A) → askSetup c (askCarrier c y k rest) ≡ numbered carrier-number rest
-  unfolding carrier-number
-  carrier-numbered rest = question (isMode c) 0 (question (isSize c) 1 (question (isCell c) 2 (question (isSymbol c y) 3 (question (isCarrier c k) 6 no-question)))) .is
 
 symbols-pos : {c : Setup} → Valid c → 0 < symbols c
 symbols-pos v = few v .symbols-pos

@@ -21,17 +21,17 @@ use Rattle.pusc_dl.proofs.Law.{point-group}
 use Rattle.pusc_dl.proofs.Lit.{all-groups}
 use Rattle.map.specs.declared.Setup.{Setup}
 use Rattle.map.specs.Mode.{setupWith, subchannels, band, spotOf}
-use Rattle.map.specs.Place.{Place, usedCarrier, placeAt}
+use Rattle.map.specs.Place.{Place, usedCarrier, placeAt, contentOf}
 use Rattle.map.specs.Law.{PlacedAt}
 use Rattle.map.specs.Model.{Valid, pusc-dl, pusc-ul, ofusc, amc}
 use Rattle.map.proofs.Choice.{amc-tests}
 use Rattle.map.proofs.ByMode.{few}
 use Rattle.map.proofs.Slot.{slot-law, band-law, centred}
 use Rattle.map.proofs.Law.{placing}
-use Rattle.mask.specs.Mask.{isMask, isLit, isUsedLit, litSubchannels, litRank, ofLitRank, allLit}
+use Rattle.mask.specs.Mask.{isMask, isLit, isUsedLit, litContent, litSubchannels, litRank, ofLitRank, allLit}
 use Rattle.mask.specs.Law.{MaskLaw}
 
--- THE LAW OF ITEM ONE, by the spot of a point: its used number is lit exactly when its subchannel is.
+-- A POINT'S USED NUMBER IS LIT EXACTLY WHEN ITS SUBCHANNEL IS, by its spot.
 pub point-lit : {setup : Setup} → Valid setup → (mask slot s m : ℕ) → s < subchannels setup → m < 48
     → isUsedLit setup mask (spotOf setup slot s m .used) ≡ isLit setup mask s
 unfolding isUsedLit isLit spotOf subchannels
@@ -67,6 +67,10 @@ all-used-lit : (setup : Setup) (used : ℕ) → isUsedLit setup (allLit (setup .
 unfolding isUsedLit allLit usedGroup
 all-used-lit setup used = cases (eqb (setup .mode) 0) (λ e. rw e (all-groups clusterStarts (logicalOf (setup .cell) used .0))) (λ e. rw e)
 
+all-content : (setup : Setup) (symbol column : ℕ) → litContent setup (allLit (setup .mode)) symbol column ≡ contentOf setup symbol column
+unfolding litContent
+all-content setup symbol column = rw (all-used-lit setup (usedOf (band setup) column))
+
 all-passes : (mode : ℕ) → isMask mode (allLit mode) ≡ true
 unfolding isMask allLit isUpTo
 all-passes mode = cases (eqb mode 0) (λ e. rw e) (λ e. rw e)
@@ -88,6 +92,7 @@ mask-law =
       all-passes = all-passes;
       all-lit = all-lit;
       all-used-lit = all-used-lit;
+      all-content = all-content;
       all-ranks = all-ranks;
       all-subchannels = λ setup. all-ranks setup (subchannels setup);
     }

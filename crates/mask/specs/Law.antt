@@ -7,9 +7,9 @@ use Rattle.pusc_dl.specs.Cluster.{renumber}
 use Rattle.pusc_dl.specs.Group.{clusterStarts, groupIn, hasGroup}
 use Rattle.map.specs.declared.Setup.{Setup}
 use Rattle.map.specs.Mode.{setupWith, subchannels, band}
-use Rattle.map.specs.Place.{usedCarrier}
-use Rattle.map.specs.Law.{Passes, PlacedAt}
-use Rattle.mask.specs.Mask.{isMask, isLit, isUsedLit, litSubchannels, litRank, ofLitRank, allLit}
+use Rattle.map.specs.Place.{usedCarrier, contentOf}
+use Rattle.map.specs.Law.{PlacedAt}
+use Rattle.mask.specs.Mask.{isMask, isLit, isUsedLit, litContent, litSubchannels, litRank, ofLitRank, allLit}
 
 pub record MaskLaw : Type 0 where
   -- A data carrier is lit exactly when its subchannel is.
@@ -25,9 +25,10 @@ pub record MaskLaw : Type 0 where
   pub rank-forth : (setup : Setup) (mask r : ℕ) → r < litSubchannels setup mask → litRank setup mask (ofLitRank setup mask r) ≡ r
   -- in rising order.
   pub rank-rises : (setup : Setup) (mask s t : ℕ) → s < t → isLit setup mask s ≡ true → litRank setup mask s < litRank setup mask t
-  -- The mask that lights all is a mask, and lights all; so a subchannel's rank is its number.
+  -- The mask that lights all is a mask, and lights all; so each column holds what it did before there were masks, and a subchannel's rank is its number.
   pub all-passes : (mode : ℕ) → isMask mode (allLit mode) ≡ true
   pub all-lit : (setup : Setup) (s : ℕ) → isLit setup (allLit (setup .mode)) s ≡ true
   pub all-used-lit : (setup : Setup) (used : ℕ) → isUsedLit setup (allLit (setup .mode)) used ≡ true
+  pub all-content : (setup : Setup) (symbol column : ℕ) → litContent setup (allLit (setup .mode)) symbol column ≡ contentOf setup symbol column
   pub all-ranks : (setup : Setup) (s : ℕ) → litRank setup (allLit (setup .mode)) s ≡ s
   pub all-subchannels : (setup : Setup) → litSubchannels setup (allLit (setup .mode)) ≡ subchannels setup

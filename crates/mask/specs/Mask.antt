@@ -27,14 +27,14 @@ isUsedLit setup mask used = pick (eqb (setup .mode) 0) (hasGroup mask (usedGroup
 unfoldable pub litContent : (setup : Setup) (mask symbol column : ℕ) → Content
 litContent setup mask symbol column = pick (isUsedLit setup mask (usedOf (band setup) column)) (contentOf setup symbol column) guard
 
--- The lit subchannels, rising: how many they are, the rank of one of them,
+-- The lit subchannels, rising: how many they are, and the rank of one of them.
 unfoldable pub litSubchannels : (setup : Setup) (mask : ℕ) → ℕ
 litSubchannels setup mask = rank (isLit setup mask) (subchannels setup)
 
 unfoldable pub litRank : (setup : Setup) (mask subchannel : ℕ) → ℕ
 litRank setup mask subchannel = rank (isLit setup mask) subchannel
 
--- and, the reverse, the one of a rank.
+-- The reverse: the lit subchannel of a rank.
 unfoldable pub ofLitRank : (setup : Setup) (mask r : ℕ) → ℕ
 ofLitRank setup mask r = unrank (isLit setup mask) (subchannels setup) r
 

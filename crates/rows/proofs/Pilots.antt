@@ -26,7 +26,7 @@ use Rattle.map.proofs.Choice.{amc-tests}
 use Rattle.mask.specs.Mask.{isUsedLit}
 use Rattle.mask.proofs.Law.{mask-law}
 use Rattle.rows.specs.declared.Comb.{Comb}
-use Rattle.rows.specs.Model.{combOf, pilotNumber, LitRuns, runLit}
+use Rattle.rows.specs.Model.{combOf, pilotNumber, LitRuns, IsRun, runLit, RunFlags}
 
 -- each number of a comb is a pilot, and each pilot is a number of the comb
 pub record CombLaw (b : Comb) (used : ℕ) (is-pilot : ℕ → Bool) : Type 0 where
@@ -154,7 +154,7 @@ comb-small (amc {n = n} q w h) y =
     rw (t .not-0, t .not-1, t .not-2, t .listed) record { first-lt = omega arith; second-lt = omega arith; step-lt = omega arith; count-le = omega (arith, size w .most) }
 
 -- a run of PUSC downlink's comb is a cluster
-pub run-few : {c : Setup} → Valid c → (y i : ℕ) → i < combOf c y .count → c .mode ≡ 0 → i < 120
+pub run-few : {c : Setup} → Valid c → (y i : ℕ) → i < combOf c y .count → IsRun c i
 unfolding combOf
 run-few (pusc-dl h) y i l e = l
 run-few (pusc-ul h) y i l e = absurd (omega arith)
@@ -162,7 +162,7 @@ run-few (ofusc w h) y i l e = absurd (omega arith)
 run-few (amc q w h) y i l e = absurd (omega arith)
 
 -- a run is lit or not
-pub run-two : (c : Setup) (mask : ℕ) (lit : List ℕ) → LitRuns c mask lit → (i : ℕ) → (c .mode ≡ 0 → i < 120) → runLit c lit i < 2
+pub run-two : (c : Setup) (mask : ℕ) (lit : List ℕ) → LitRuns c mask lit → RunFlags c lit
 unfolding runLit clusterLit
 run-two c mask lit t i h =
     cases (eqb (c .mode) 0)

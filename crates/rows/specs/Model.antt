@@ -1,7 +1,7 @@
 -- How a subchannel's carriers and a symbol's pilots are found fast. No reader needs this to know what the calls do.
 use mathlib.Core.Path.{_≡_}
 use mathlib.Core.List.{List}
-use Prim.Native.Nat.{ℕ, _+_, _*_, _/_, _%_}
+use Prim.Native.Nat.{ℕ, _+_, _*_, _/_, _%_, _<_}
 use lib.Dec.{eqb}
 use Rattle.base.specs.Choice.{pick}
 use Rattle.base.specs.Steps.{entry}
@@ -63,5 +63,13 @@ pilotNumber b j = j / 2 * b .step + pick (eqb (j % 2) 0) (b .first) (b .second)
 abbrev pub LitRuns : (setup : Setup) (mask : ℕ) (lit : List ℕ) → Type 0
 LitRuns setup mask lit = setup .mode ≡ 0 → lit ≡ tabulate 120 (clusterLit (setup .cell) mask)
 
+-- a run of the comb, by its number: PUSC downlink has 120
+abbrev pub IsRun : (setup : Setup) (i : ℕ) → Type 0
+IsRun setup i = setup .mode ≡ 0 → i < 120
+
 unfoldable pub runLit : (setup : Setup) (lit : List ℕ) (i : ℕ) → ℕ
 runLit setup lit i = pick (eqb (setup .mode) 0) (entry lit i) 1
+
+-- each of them is lit or not
+abbrev pub RunFlags : (setup : Setup) (lit : List ℕ) → Type 0
+RunFlags setup lit = (i : ℕ) → IsRun setup i → runLit setup lit i < 2

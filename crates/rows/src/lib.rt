@@ -7,7 +7,7 @@ ghost use Rattle.base.specs.Model.{Turned};
 ghost use Rattle.carriers.specs.Model.{spotNumber, carrierNumber};
 ghost use Rattle.map.specs.Mode.{subchannels, band, spotOf};
 ghost use Rattle.map.specs.Model.{Valid};
-ghost use Rattle.rows.specs.Model.{TableOf, shiftOf, combOf, tileComb, pilotNumber, LitRuns, runLit};
+ghost use Rattle.rows.specs.Model.{TableOf, shiftOf, combOf, tileComb, pilotNumber, LitRuns, IsRun, runLit};
 
 // The pilots of a symbol: in each of `count` runs of `step` used numbers the places `first` and `second`.
 pub struct Comb {
@@ -161,7 +161,7 @@ pub fn lit_runs(setup: Setup, mask: usize) -> [u8; 120]
 
 // 1 where run i is lit, else 0.
 pub fn run_lit(setup: Setup, lit: &[u8; 120], i: usize) -> usize
-    requires { ⌜ (setup .mode ≡ 0 → i < 120) ⌝ }
+    requires { ⌜ IsRun setup i ⌝ }
     ensures { λ r. ⌜ r ≡ runLit setup (now (lit .entry)) i ⌝ }
 {
     if setup.mode != 0 {

@@ -1,7 +1,7 @@
 -- `grid::sight` meets its contract.
 use mathlib.Core.Path.{_≡_, sym, ap, _∙_}
 use borrow.Author.Needs.{needs}
-use Rattle.base.specs.Answer.{Answer, accepted}
+use Rattle.base.specs.Answer.{accepted}
 use Rattle.map.specs.declared.Located.{Located}
 use Rattle.map.specs.Place.{Content, located}
 use Rattle.grid.proofs.Looked.{see-guard, see-dc, see-refused, pilot-left, pilot-below, see-pilot, see-no-pilot, see-point, see-no-point}

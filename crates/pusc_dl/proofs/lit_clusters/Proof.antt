@@ -1,7 +1,6 @@
 -- `pusc_dl::lit_clusters` meets its contract.
 use mathlib.Core.Path.{refl}
 use Prim.Native.Nat.{_-_}
-use native.Mathlib.Omega.{arith}
 use borrow.Author.Needs.{needs}
 use Rattle.base.proofs.Tabulate.{Written, written-none, written-next, written-all}
 use Rattle.base.specs.Tabulate.{tabulate}
