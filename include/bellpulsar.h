@@ -156,10 +156,12 @@ size_t bp_grid_len(uint32_t mode, uint32_t size);
 /* A slot is filled in two moves, with the same mode, size, cell, mask and slot: the ground once, then the points of each lit
  * subchannel, in any order, and again where they change. With all points of the slot, of which an unlit subchannel takes none:
  *
- *     bp_ground(mode, size, cell, mask, slot, pilot, grid, grid_len);
- *     for (uint32_t s = 0, laid = 0; laid < bp_lit_points_len(mode, size, mask); s++)
- *         if (bp_lay(mode, size, cell, mask, slot, s, points + laid, 96, grid, grid_len) != BP_REFUSED_SUBCHANNEL)
- *             laid += 96;
+ *     if (bp_ground(mode, size, cell, mask, slot, pilot, grid, grid_len) == BP_ACCEPTED)
+ *         for (uint32_t s = 0, laid = 0; laid < bp_lit_points_len(mode, size, mask); s++)
+ *             if (bp_lay(mode, size, cell, mask, slot, s, points + laid, 96, grid, grid_len) == BP_ACCEPTED)
+ *                 laid += 96;
+ *
+ * (Where the ground is accepted, a lay of 96 floats can only meet 5, and then the next subchannel has the points.)
  *
  * The grid then holds the point that was laid last on each lit data carrier, the pilot point on lit pilots, +0.0 on all else.
  * A ground serves every slot whose pilots are on the same carriers: all slots in modes 0, 1, 4 and 6, those that agree mod 3

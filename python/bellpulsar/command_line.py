@@ -34,8 +34,9 @@ SIZE is the FFT size, CELL the permutation base. SLOT is 0..511, INDEX 0..47.
 CARRIER is -SIZE/2..SIZE/2-1, by rising frequency, with DC at 0.
 SYMBOL counts in the zone: slot times symbols a slot, plus the offset in the slot.
 AMC has four slot shapes, bins x symbols; a bin is nine carriers in a row, of which one is a pilot.
-MASK says which major groups of mode 0 are lit: 1..63, bit g for group g. Groups 0 to 5 have the subchannels 0..11,
-12..19, 20..31, 32..39, 40..51 and 52..59. In the other modes all is lit and MASK is 0.
+MASK, of show, picture slot and a plan's zones, says which major groups of mode 0 are lit: 1..63, bit g for group g.
+Groups 0 to 5 have the subchannels 0..11, 12..19, 20..31, 32..39, 40..51 and 52..59. In the other modes all is lit and
+MASK is 0.
 Any number may be given: the engine refuses what is out of range."""
 
 PLAN_RULES = """\

@@ -235,7 +235,8 @@ def slot(mode, size, cell, slot, picked=None, mask=None):
     rows = [symbol_row(mode, size, cell, symbol, mask) for symbol in symbols]
     carriers = carriers_of(size)
     total = 1 + max(carrier.what.subchannel for carrier in rows[0] if carrier.what.kind is Kind.DATA)
-    unlit = {carrier.what.subchannel for row in rows for carrier in row if is_unlit(carrier)}
+    dark = [carrier.what for row in rows for carrier in row if is_unlit(carrier)]
+    unlit = {what.subchannel for what in dark if what.kind is Kind.DATA}
     style = styles(total, picked, unlit)
     height = SYMBOL * len(symbols) + GAP
     parts, y = [hatch()] if unlit else [], TOP
