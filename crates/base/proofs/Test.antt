@@ -1,9 +1,11 @@
 -- Tests that are computed, and facts from them.
-use mathlib.Core.Path.{_≡_, refl}
+use mathlib.Core.Path.{_≡_, refl, sym}
 use mathlib.Core.Bool.{Bool, true, false, not}
-use Prim.Native.Nat.{ℕ}
+use Prim.Native.Nat.{ℕ, _≤_}
 use native.Mathlib.Omega.{arith}
-use lib.Dec.{T}
+use lib.Dec.{T, ltb, leb}
+use borrow.Author.Tests.{leb-true}
+use Rattle.base.specs.Choice.{pick, isUpTo}
 
 abbrev pub both : Bool → Bool → Bool
 both true b = b
@@ -28,3 +30,13 @@ failed false t = refl
 
 pub true-false : true ≡ false → ⊥
 true-false e = let z : _≡_ {A = ℕ} 0 1 = cc in omega arith
+
+-- two tests in one
+pub both-true : (a b : Bool) → pick a b false ≡ true → (a ≡ true) × (b ≡ true)
+both-true true b e = (refl, e)
+both-true false b e = absurd (true-false (sym e))
+
+-- a number of 1, 2, .., most is at most that
+pub up-to : (most n : ℕ) → isUpTo most n ≡ true → n ≤ most
+unfolding isUpTo
+up-to most n e = leb-true n most (both-true (ltb 0 n) (leb n most) e .1)

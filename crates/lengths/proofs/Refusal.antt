@@ -10,7 +10,7 @@ use mir.Val.{SFits, toZ, ofZ}
 use mir.ValLaws.{toZ-ofZ}
 use borrow.Author.Tests.{lt-ltb, le-ltb, eq-eqb, ne-eqb, ltb-true, eqb-true, not-true, not-false}
 use Rattle.base.specs.Answer.{Answer, accepted, refusalOf}
-use Rattle.base.proofs.Test.{cases, true-false}
+use Rattle.base.proofs.Test.{both-true}
 use Rattle.base.proofs.Chain.{numbered, Numbered, no-question, question, no-before, number-yes}
 use Rattle.centre.specs.Centre.{inRange}
 use Rattle.map.specs.declared.Setup.{Setup}
@@ -208,9 +208,8 @@ module _ (setup : Setup) (mask slot subchannel points grid : ℕ) where
   laid-yes : isLitSubchannel setup mask subchannel ≡ true → (subchannel < subchannels setup) × (isLit setup mask subchannel ≡ true)
   unfolding isLitSubchannel isSubchannel
   laid-yes e =
-      cases (isSubchannel setup subchannel)
-      (λ t. (ltb-true subchannel (subchannels setup) t, rw t at e))
-      (λ t. absurd (let z = rw t at e in true-false (sym z)))
+      let q = both-true (isSubchannel setup subchannel) (isLit setup mask subchannel) e in
+      (ltb-true subchannel (subchannels setup) (q .0), q .1)
 
   pub lay-accepted : (k : ℕ) → k ≡ layRefusal setup mask slot subchannel points grid → k ≡ 0 → LayAccepted setup mask slot subchannel points grid
   unfolding layRefusal gridRefusal areLaidPoints

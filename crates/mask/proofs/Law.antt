@@ -4,11 +4,11 @@ use mathlib.Core.Bool.{true}
 use Prim.Native.Nat.{ℕ, _+_, _*_, _<_, _≤_}
 use native.Mathlib.Omega.{arith}
 use lib.Arith.{digits-div}
-use lib.Dec.{eqb, ltb}
-use borrow.Author.Tests.{eqb-true, leb-true, eq-eqb, ne-eqb}
+use lib.Dec.{eqb}
+use borrow.Author.Tests.{eqb-true, eq-eqb, ne-eqb}
 use Rattle.base.specs.Choice.{isUpTo}
 use Rattle.base.specs.Rank.{rank}
-use Rattle.base.proofs.Test.{cases, true-false}
+use Rattle.base.proofs.Test.{cases, up-to}
 use Rattle.base.proofs.Rank.{rank-law, rank-most, rank-all, rank-as}
 use Rattle.carriers.specs.Band.{carrierOf, usedOf}
 use Rattle.carriers.proofs.Guards.{used-carrier}
@@ -99,10 +99,10 @@ mask-law =
 
 -- an accepted mask is small
 pub mask-small : (mode mask : ℕ) → isMask mode mask ≡ true → mask < 64
-unfolding isMask isUpTo
+unfolding isMask
 mask-small mode mask e =
     cases (eqb mode 0)
-    (λ t. cases (ltb 0 mask) (λ p. omega (arith, leb-true mask 63 (rw (t, p) at e))) (λ p. absurd (let z = rw (t, p) at e in true-false (sym z))))
+    (λ t. omega (arith, up-to 63 mask (rw t at e)))
     (λ t. omega (arith, eqb-true mask 0 (rw t at e)))
 
 -- how many subchannels are lit: all, but in mode 0

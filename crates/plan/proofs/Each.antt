@@ -7,7 +7,7 @@ use native.Mathlib.Numerals.{add-one}
 use lib.ListN.{length, take, getD}
 use lib.Seq.{take-suc, take-all}
 use Rattle.text.specs.Text.{Put}
-use Rattle.text.proofs.Laws.{put-none, put-then, put-three}
+use Rattle.text.proofs.Laws.{put-none, put-then}
 use Rattle.plan.specs.declared.Zone.{Zone}
 use Rattle.plan.specs.Zone.{unused, each}
 
@@ -25,11 +25,6 @@ unfolding each
 each-more part zones k h =
     rw (add-one, take-suc zones k unused h)
     (each-append part (take k zones) (getD zones k unused ∷ []) ∙ ap (λ l. each part (take k zones) ++ l) (append-nil (part (getD zones k unused))))
-
--- what the four values of a zone give, one behind the other
-pub put-four : {d d₁ d₂ d₃ d₄ : List ℕ} {at p q r next : ℕ} (a b c e : List ℕ) → at ≤ length d → Put d at a p d₁ → Put d₁ p b q d₂ → Put d₂ q c r d₃ → Put d₃ r e next d₄
-    → Put d at (a ++ (b ++ (c ++ e))) next d₄
-put-four a b c e h w x y z = rw (← append-assoc a b (c ++ e)) (put-three (a ++ b) c e h (put-then a b h w x) y z)
 
 -- While it is put: what the first k zones give stands in the buffer.
 pub record Putting (part : Zone → List ℕ) (d : List ℕ) (count : ℕ) (zones : List Zone) (at : ℕ) (dest : List ℕ) (next k : ℕ) : Type 0 where

@@ -5,19 +5,19 @@ use mathlib.Core.List.{List, [], _∷_}
 use Prim.Native.Nat.{ℕ, zero, suc, _+_, _-_, _*_, _/_, _<_, _≤_}
 use native.Mathlib.Nat.{mul-le-mul}
 use native.Mathlib.Omega.{arith}
-use lib.Dec.{eqb, ltb, leb}
+use lib.Dec.{eqb, ltb}
 use lib.ListN.{length, drop, getD}
 use lib.Seq.{getD-take, getD-drop, length-take-le}
-use borrow.Author.Tests.{eqb-true, ltb-true, ltb-false, leb-true}
-use Rattle.base.specs.Choice.{isUpTo}
+use borrow.Author.Tests.{eqb-true, ltb-true, ltb-false}
 use Rattle.base.specs.Answer.{Answer, accepted}
 use Rattle.base.proofs.Chain.{ask-yes, yes-all}
-use Rattle.base.proofs.Test.{cases}
+use Rattle.base.proofs.Test.{cases, both-true, up-to}
 use Rattle.map.specs.declared.Setup.{Setup}
 use Rattle.map.specs.Mode.{cells, width}
 use Rattle.map.specs.Question.{isFourSizes, isSize, isCell}
 use Rattle.map.proofs.Accept.{size-most}
 use Rattle.mask.specs.Mask.{isMask}
+use Rattle.mask.proofs.Law.{mask-small}
 use Rattle.plan.specs.declared.Zone.{Zone}
 use Rattle.plan.specs.declared.Plan.{Plan}
 use Rattle.plan.specs.declared.Before.{Before}
@@ -25,7 +25,7 @@ use Rattle.plan.specs.declared.Before.the-variants.{First, After}
 use Rattle.plan.specs.Zone.{isCount, isZoneMode, setupOf, isSlots, isOrder, askZone, unused}
 use Rattle.plan.specs.Write.{isUnused, areUnused, usedZones, askZones, askPlan}
 use Rattle.plan.specs.Model.{planRefusal, Small}
-use Rattle.plan.proofs.Places.{both-true, unused-is}
+use Rattle.plan.proofs.Places.{unused-is}
 use Rattle.plan.proofs.Number.{plan-numbered}
 
 -- a zone that every question lets pass
@@ -93,17 +93,6 @@ cells-small setup h =
     square : setup .size / 64 * (setup .size / 64) ≤ 32 * 32
     square = mul-le-mul {n₂ = 32} {m₂ = 32} (omega arith) (omega arith)
 
-up-to : (most n : ℕ) → isUpTo most n ≡ true → n ≤ most
-unfolding isUpTo
-up-to most n e = leb-true n most (both-true (ltb 0 n) (leb n most) e .1)
-
-mask-small : (mode mask : ℕ) → isMask mode mask ≡ true → mask ≤ 63
-unfolding isMask
-mask-small mode mask e =
-    cases (eqb mode 0)
-    (λ t. up-to 63 mask (rw t at e))
-    (λ f. omega (arith, eqb-true mask 0 (rw f at e)))
-
 pub small : {size : ℕ} {before : Before} {z : Zone} → Passed size before z → Small z
 unfolding isCell
 small {size} {before} {z} p =
@@ -111,7 +100,7 @@ small {size} {before} {z} p =
       mode-most = mode-small (z .mode) (p .mode-is);
       cell-most = omega (arith, ltb-true (z .cell) (cells (setupOf size z)) (p .cell-is), cells-small (setupOf size z) (size-most (setupOf size z) (p .size-is)));
       slots-most = up-to 512 (z .slots) (p .slots-are);
-      mask-most = mask-small (z .mode) (z .mask) (p .mask-is);
+      mask-most = omega (arith, mask-small (z .mode) (z .mask) (p .mask-is));
     }
 
 zones-small : {size : ℕ} {before : Before} (zones : List Zone) (k : ℕ) → Judged size before zones → k < length zones → Small (getD zones k unused)

@@ -10,6 +10,7 @@ use lib.ListN.{length, take, drop, getD, set, length-map, drop-of-length-le}
 use lib.Seq.{drop-cons, getD-take, length-take-le}
 use borrow.Author.Tests.{eqb-true}
 use Rattle.base.specs.Choice.{pick}
+use Rattle.base.proofs.Test.{both-true}
 use Rattle.plan.specs.declared.Zone.{Zone}
 use Rattle.plan.specs.Zone.{unused, inPlaces}
 use Rattle.plan.specs.Write.{isUnused, areUnused}
@@ -53,11 +54,6 @@ drop-places zero [] h = refl
 drop-places (suc n) [] h = drop-places n [] (omega arith)
 drop-places zero (z ∷ zones) h = absurd (omega arith)
 drop-places (suc n) (z ∷ zones) h = drop-places n zones (omega arith)
-
--- a conjunction of tests
-pub both-true : (a b : Bool) → pick a b false ≡ true → (a ≡ true) × (b ≡ true)
-both-true true b e = (refl, e)
-both-true false b e = absurd (let z : _≡_ {A = ℕ} 0 1 = cc in omega arith)
 
 pub unused-is : (z : Zone) → isUnused z ≡ true → unused ≡ z
 unfolding isUnused

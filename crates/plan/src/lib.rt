@@ -210,10 +210,7 @@ pub fn read(bytes: &[u8]) -> ReadPlan
             value: count,
             size: at,
         } => {
-            if count == 0 {
-                return refused(12);
-            }
-            if 8 < count {
+            if !base::is_up_to(8, count) {
                 return refused(12);
             }
             match value::read(bytes, at) {

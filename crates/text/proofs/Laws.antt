@@ -117,13 +117,17 @@ put-put dest at a b h =
 
 -- ---- what the `put_` functions answer
 
--- a second text behind a first, and a third
+-- a second text behind a first, a third and a fourth
 pub put-then : {d d₁ d₂ : List ℕ} {at q r : ℕ} (a b : List ℕ) → at ≤ length d → Put d at a q d₁ → Put d₁ q b r d₂ → Put d at (a ++ b) r d₂
 put-then {d} {at = at} a b h x y =
     record { next-is = omega (arith, x .next-is, y .next-is, length-append a b); after-is = y .after-is ∙ rw (x .after-is, x .next-is) (put-put d at a b h) }
 
 pub put-three : {d d₁ d₂ d₃ : List ℕ} {at p q r : ℕ} (a b c : List ℕ) → at ≤ length d → Put d at a p d₁ → Put d₁ p b q d₂ → Put d₂ q c r d₃ → Put d at (a ++ (b ++ c)) r d₃
 put-three a b c h x y z = rw (← append-assoc a b c) (put-then (a ++ b) c h (put-then a b h x y) z)
+
+pub put-four : {d d₁ d₂ d₃ d₄ : List ℕ} {at p q r next : ℕ} (a b c e : List ℕ) → at ≤ length d → Put d at a p d₁ → Put d₁ p b q d₂ → Put d₂ q c r d₃ → Put d₃ r e next d₄
+    → Put d at (a ++ (b ++ (c ++ e))) next d₄
+put-four a b c e h w x y z = rw (← append-assoc a b (c ++ e)) (put-three (a ++ b) c e h (put-then a b h w x) y z)
 
 pub one-byte : (dest : List ℕ) (at byte : ℕ) → at < length dest → Put dest at (byte ∷ []) (at + 1) (set dest at byte)
 unfolding put

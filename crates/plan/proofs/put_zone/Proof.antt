@@ -3,7 +3,7 @@ use mathlib.Core.Path.{_∙_}
 use native.Mathlib.Omega.{arith}
 use Rattle.plan.specs.Write.{zoneBytes}
 use Rattle.plan.proofs.Bytes.{six}
-use Rattle.plan.proofs.Each.{put-four}
+use Rattle.text.proofs.Laws.{put-four}
 use Rattle.plan.proofs.put_zone.Statement.{statement}
 use Rattle.plan.proofs.put_zone.Tie as tie
 

@@ -2,7 +2,7 @@
 use mathlib.Core.Path.{_∙_}
 use native.Mathlib.Omega.{arith}
 use borrow.Author.Needs.{needs}
-use Rattle.plan.proofs.Each.{put-four}
+use Rattle.text.proofs.Laws.{put-four}
 use Rattle.plan_text.specs.Lines.{lineOf}
 use Rattle.plan_text.proofs.put_line.Statement.{statement}
 use Rattle.plan_text.proofs.put_line.Tie as tie
