@@ -50,12 +50,12 @@ lit-taken setup mask slot s h lit grid l =
     (λ j k.
     let rank : (r * 48 + j) / 48 ≡ r = omega arith in
     let index : (r * 48 + j) % 48 ≡ j = omega arith in
-    rw (rank, index, mask-law .rank-back setup mask s h lit))
+    rw (rank, index, mask-law .ranks setup mask (subchannels setup) .back s h lit))
 
 -- a turn of a subchannel that has this rank, lit or not
 module _ (setup : Setup) (mask slot s r : ℕ) (e : r ≡ litRank setup mask s) (t : Bool) (q : t ≡ isLit setup mask s) (grid points : List Float) where
   pub left-out : not t ≡ true → (r ≡ litRank setup mask (s + 1)) × (points ≡ takenLit setup mask slot grid s points)
-  unfolding litRank takenLit
+  unfolding takenLit
   left-out n =
       let dark = sym q ∙ not-true t n in
       (e ∙ sym (ap (rank (isLit setup mask)) (add-one s) ∙ rank-no (isLit setup mask) s dark), rw dark)
@@ -66,12 +66,12 @@ module _ (setup : Setup) (mask slot s r : ℕ) (e : r ≡ litRank setup mask s) 
 
     pub rank-room : Valid setup → s < subchannels setup → (floats : ℕ) → floats ≡ 96 * litSubchannels setup mask → (r < 192) × (96 * r + 96 ≤ floats)
     rank-room v h floats l =
-        let below = mask-law .rank-lt setup mask s h its in
+        let below = mask-law .ranks setup mask (subchannels setup) .rank-lt s h its in
         let few = lit-few v mask _ refl in
         omega arith
 
     pub taken-off : (points′ : List Float) → points′ ≡ taken setup slot grid s r points → (r + 1 ≡ litRank setup mask (s + 1)) × (points′ ≡ takenLit setup mask slot grid s points)
-    unfolding litRank takenLit
+    unfolding takenLit
     taken-off points′ f =
         (ap (λ (x : ℕ). x + 1) e ∙ sym (ap (rank (isLit setup mask)) (add-one s) ∙ rank-yes (isLit setup mask) s its), rw its (f ∙ ap (λ (x : ℕ). taken setup slot grid s x points) e))
 
@@ -86,7 +86,7 @@ pub record EmptyTurn (setup : Setup) (mask slot : ℕ) (grid points₀ : List Fl
 
 pub empty-start : {setup : Setup} {mask slot : ℕ} (grid points₀ : List Float) → EmptyAccepted setup mask slot (length points₀) (length grid)
     → (n : ℕ) → n ≡ subchannels setup → EmptyTurn setup mask slot grid points₀ n points₀ 0 0
-unfolding litRank rank
+unfolding rank
 empty-start grid points₀ a n e = record { accepts = a; n-is = e; few = rw e (few (a .fits .lit .valid) .subchannels-few); within = omega arith; rank-is = refl; put = putting-none _ _ _ _ }
 
 module _ {setup : Setup} {mask slot : ℕ} {grid points₀ : List Float} {n : ℕ} {points : List Float} {r s : ℕ} (t : EmptyTurn setup mask slot grid points₀ n points r s) where
@@ -95,7 +95,7 @@ module _ {setup : Setup} {mask slot : ℕ} {grid points₀ : List Float} {n : �
 
   pub empty-next : s < n → (r′ : ℕ) (points′ : List Float) → (r′ ≡ litRank setup mask (s + 1)) × (points′ ≡ takenLit setup mask slot grid s points)
       → EmptyTurn setup mask slot grid points₀ n points′ r′ (s + 1)
-  unfolding takenLit litRank litSubchannels
+  unfolding takenLit
   empty-next h r′ points′ e =
       let hs : s < subchannels setup = rw (t .n-is) at h in
       record {
@@ -108,7 +108,7 @@ module _ {setup : Setup} {mask slot : ℕ} {grid points₀ : List Float} {n : �
             cases (isLit setup mask s)
             (λ lit.
             let one : r′ ≡ r + 1 = e .0 ∙ ap (rank (isLit setup mask)) (add-one s) ∙ rank-yes (isLit setup mask) s lit ∙ ap (λ (x : ℕ). x + 1) (sym (t .rank-is)) in
-            let lt = mask-law .rank-lt setup mask s hs lit in
+            let lt = mask-law .ranks setup mask (subchannels setup) .rank-lt s hs lit in
             let own = (rw lit at (e .1)) ∙ lit-taken setup mask slot s hs lit grid points in
             subst (Putting (λ k. k) (source setup mask slot grid) (litSubchannels setup mask * 48) points₀ points′) (omega arith)
             (putting-run (t .put) 48 (omega (arith, t .rank-is)) points′ (rw (← t .rank-is) at own)))
@@ -118,7 +118,6 @@ module _ {setup : Setup} {mask slot : ℕ} {grid points₀ : List Float} {n : �
       }
 
   pub empty-done : n ≤ s → points ≡ emptied setup mask slot grid
-  unfolding litRank litSubchannels
   empty-done h =
       let last : s ≡ subchannels setup = let l = t .within in let e = t .n-is in omega arith in
       let all : r ≡ litSubchannels setup mask = t .rank-is ∙ ap (rank (isLit setup mask)) last in

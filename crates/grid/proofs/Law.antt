@@ -1,6 +1,6 @@
 -- THE LAW OF THE GRID: it rests on the laws of the map and of the mask, and on no mode's text.
 use mathlib.Core.Path.{_≡_, refl, sym, ap, _∙_}
-use mathlib.Core.Bool.{Bool, true, false, not}
+use mathlib.Core.Bool.{true, false, not}
 use mathlib.Core.List.{List, [], _∷_}
 use Prim.Native.Nat.{ℕ, _+_, _*_, _/_, _%_, _<_}
 use native.Mathlib.Nat.{mod-lt, div-add-mod', div-lt-iff-lt-mul}
@@ -12,18 +12,18 @@ use borrow.Author.Tests.{eq-eqb, ne-eqb}
 use Rattle.base.specs.Choice.{pick}
 use Rattle.base.specs.Answer.{accepted}
 use Rattle.base.proofs.Test.{cases}
-use Rattle.carriers.specs.Band.{carrierOf, usedOf}
-use Rattle.carriers.proofs.Guards.{carrier-lt, used-carrier}
+use Rattle.carriers.specs.Band.{carrierOf}
+use Rattle.carriers.proofs.Guards.{carrier-lt}
 use Rattle.centre.specs.Centre.{onRow}
 use Rattle.map.specs.declared.Setup.{Setup}
 use Rattle.map.specs.Mode.{subchannels, symbols, band}
 use Rattle.map.specs.Law.{Passes}
 use Rattle.map.specs.Place.{Place, Content, guard, dc, pilot, point, usedCarrier, placeOf, contentOf, locateOf}
 use Rattle.map.proofs.ByMode.{few}
-use Rattle.map.proofs.Slot.{band-law, centred}
+use Rattle.map.proofs.Slot.{band-law}
 use Rattle.map.proofs.Law.{setup-asked, locating, locate-column, located-where-placed, in-own-slot}
 use Rattle.mask.specs.Mask.{isMask, isLit, isUsedLit, litContent, litSubchannels, litRank, ofLitRank}
-use Rattle.mask.proofs.Law.{mask-law}
+use Rattle.mask.proofs.Law.{mask-law, used-on-row, placed-lit}
 use Rattle.points.specs.declared.Point.{Point}
 use Rattle.points.specs.Points.{zeroPoint, pointAt}
 use Rattle.points.proofs.Points.{point-floats, by-points}
@@ -36,7 +36,7 @@ use Rattle.grid.specs.Grid.{contentAt, pointNumber, bare, grounded, grou
 use Rattle.grid.specs.Law.{Leaves, Lay, Lays, no-lay, lay-then, Never, none, another, LastLay, here, later, ownPoints, carrierLit, FilledGrid, GridLaw}
 use Rattle.grid.proofs.Outcome.{left, refused-leaves, accepted-anew, accepted-number}
 use Rattle.grid.proofs.Slot.{floats-long, row-position, column-position, position-lt, stands-lt, lit-holds, point-stands}
-use Rattle.grid.proofs.Looked.{content-lit, look-done}
+use Rattle.grid.proofs.Looked.{look-done}
 
 -- where a carrier of a zone's symbol stands in its slot's grid
 abbrev there : (setup : Setup) (symbol : ℕ) (carrier : ℤ) → ℕ
@@ -73,9 +73,7 @@ module _ {setup : Setup} {mask : ℕ} (m : MaskAccepted setup mask) where
 
   -- at the place of a point its subchannel tells whether it is lit
   point-there : (slot s index : ℕ) (place : Place) → placeOf setup slot s index ≡ accepted place → carrierLit setup mask (place .carrier) ≡ isLit setup mask s
-  point-there slot s index place q =
-      let l = locating setup (place .symbol) (place .carrier) (located-where-placed setup slot s index q) in
-      content-lit setup (m .valid) mask (place .symbol) (onRow (setup .size) (place .carrier)) (l .symbol-lt) (l .column-lt) slot s index (l .content-is)
+  point-there slot s index place q = placed-lit setup mask slot s index (place .symbol) (place .carrier) q
 
   point-on-grid : (slot s index : ℕ) (place : Place) → placeOf setup slot s index ≡ accepted place
       → OnGrid setup mask slot (pick (isLit setup mask s) (point slot s index) guard) (place .symbol) (place .carrier)
@@ -85,10 +83,7 @@ module _ {setup : Setup} {mask : ℕ} (m : MaskAccepted setup mask) where
 
   -- a used number's carrier by its number
   used-there : (used : ℕ) → used < band setup .used → carrierLit setup mask (usedCarrier setup used) ≡ isUsedLit setup mask used
-  unfolding usedCarrier
-  used-there used h =
-      ap (λ (k : ℕ). isUsedLit setup mask (usedOf (band setup) k)) (centred (m .valid) .0 .back (carrierOf (band setup) used))
-      ∙ ap (isUsedLit setup mask) (used-carrier (band setup) (setup .size) (band-law (m .valid)) used h)
+  used-there used h = ap (isUsedLit setup mask) (used-on-row (m .valid) used h)
 
   used-located : (symbol used : ℕ) → symbol < 512 * symbols setup → used < band setup .used
       → locateOf setup symbol (usedCarrier setup used) ≡ accepted (contentOf setup symbol (carrierOf (band setup) used))
@@ -201,12 +196,13 @@ module _ (setup : Setup) (mask : ℕ) (m : MaskAccepted setup mask) (slot : ℕ)
   back k h =
       let s = ofLitRank setup mask (k / 48) in
       let r : k / 48 < litSubchannels setup mask = omega arith in
-      let q = mask-law .of-rank-lit setup mask (k / 48) r in
+      let law = mask-law .ranks setup mask (subchannels setup) in
+      let lt = law .unrank-lt (k / 48) r in
       let i : k % 48 < 48 = omega arith in
       let same : pointNumber (k / 48) (k % 48) ≡ k = omega arith in
-      let number : pointNumber (litRank setup mask s) (k % 48) ≡ k = ap (λ (x : ℕ). pointNumber x (k % 48)) (mask-law .rank-forth setup mask (k / 48) r) ∙ same in
-      sym (holds (standsAt setup slot s (k % 48)) (stands-lt setup (m .valid) slot s (k % 48) (q .0) i)
-      ∙ ap (held setup mask p points) (lit-holds setup (m .valid) slot s (k % 48) (q .0) i mask (q .1)) ∙ ap (pointAt points) number)
+      let number : pointNumber (litRank setup mask s) (k % 48) ≡ k = ap (λ (x : ℕ). pointNumber x (k % 48)) (law .forth (k / 48) r) ∙ same in
+      sym (holds (standsAt setup slot s (k % 48)) (stands-lt setup (m .valid) slot s (k % 48) lt i)
+      ∙ ap (held setup mask p points) (lit-holds setup (m .valid) slot s (k % 48) lt i mask (law .unrank-passes (k / 48) r)) ∙ ap (pointAt points) number)
 
   again : (before : List Float) → length before ≡ length points → Leaves (emptyOf setup mask slot grid before) points
   unfolding emptyOf emptied

@@ -13,24 +13,22 @@ use Rattle.base.proofs.Chain.{same-accepted, yes-all, no-first, number-none}
 use Rattle.base.proofs.Test.{cases}
 use Rattle.carriers.specs.declared.Band.{Band}
 use Rattle.carriers.specs.Band.{carrierOf, usedOf}
-use Rattle.carriers.proofs.Guards.{used-carrier}
 use Rattle.centre.specs.Centre.{fromDc, onRow}
-use Rattle.centre.proofs.Law.{one-column}
 use Rattle.map.specs.declared.Setup.{Setup}
-use Rattle.map.specs.Mode.{symbols, band, spotOf}
+use Rattle.map.specs.Mode.{symbols, band}
 use Rattle.map.specs.Question.{isCarrier}
-use Rattle.map.specs.Place.{Place, Content, guard, dc, pilot, point, usedCarrier, placeAt, contentOf, locateOf}
+use Rattle.map.specs.Place.{Content, guard, dc, pilot, point, contentOf, locateOf}
 use Rattle.map.specs.Model.{Valid}
-use Rattle.map.proofs.Slot.{slot-law, band-law, centred}
-use Rattle.map.proofs.Law.{placing, placed-where-located, locate-column, locate-accepts, pilot-at}
+use Rattle.map.proofs.Slot.{centred}
+use Rattle.map.proofs.Law.{placed-where-located, locate-column, locate-accepts, pilot-at}
 use Rattle.mask.specs.Mask.{isLit, isUsedLit, litContent}
-use Rattle.mask.proofs.Law.{point-lit}
+use Rattle.mask.proofs.Law.{placed-lit}
 use Rattle.points.specs.declared.Point.{Point}
 use Rattle.points.specs.Points.{pointAt}
 use Rattle.lengths.specs.Model.{lookRefusal}
 use Rattle.lengths.proofs.Refusal.{LookAccepted, look-numbered, look-accepted}
 use Rattle.grid.specs.Row.{position}
-use Rattle.grid.specs.Grid.{Sight, nothing, pilot-with, data-with, sight, lookOf}
+use Rattle.grid.specs.Grid.{Sight, nothing, data-with, sight, lookOf}
 
 -- ---- a column of a symbol's row
 
@@ -39,16 +37,12 @@ module _ (setup : Setup) (v : Valid setup) (mask symbol column : ℕ) (hy : symb
   used = usedOf (band setup) column
 
   -- a column that holds a point is lit exactly when the point's subchannel is
-  pub content-lit : (a s m : ℕ) → contentOf setup symbol column ≡ point a s m → isUsedLit setup mask used ≡ isLit setup mask s
-  unfolding placeAt usedCarrier
+  content-lit : (a s m : ℕ) → contentOf setup symbol column ≡ point a s m → isUsedLit setup mask used ≡ isLit setup mask s
   content-lit a s m e =
+      let carrier = fromDc (setup .size) column in
       let l = locate-column setup symbol column v hy hc in
-      let q = placing setup a s m (placed-where-located setup symbol (fromDc (setup .size) column) a s m (l ∙ ap accepted e)) in
-      let u = spotOf setup a s m .used in
-      let lies = slot-law v a .lies s m (q .subchannel-lt) (q .index-lt) in
-      let k : carrierOf (band setup) u ≡ column = one-column (centred v .0) _ _ (ap (λ (p : Place). p .carrier) (q .place-is)) in
-      let same : used ≡ u = ap (usedOf (band setup)) (sym k) ∙ used-carrier (band setup) (setup .size) (band-law v) u (lies .used-lt) in
-      ap (isUsedLit setup mask) same ∙ point-lit v mask a s m (q .subchannel-lt) (q .index-lt)
+      ap (λ (k : ℕ). isUsedLit setup mask (usedOf (band setup) k)) (sym (centred v .0 .back column))
+      ∙ placed-lit setup mask a s m symbol carrier (placed-where-located setup symbol carrier a s m (l ∙ ap accepted e))
 
   -- what is seen, by what the column holds
   module _ (p : Point) where
@@ -59,20 +53,12 @@ module _ (setup : Setup) (v : Valid setup) (mask symbol column : ℕ) (hy : symb
     unfolding litContent
     lit-or-not w e t q = rw (q, sym (same-accepted e))
 
-    both-nothing : (w : Content) → sight p w ≡ nothing → accepted w ≡ accepted (contentOf setup symbol column) → accepted nothing ≡ seen-there
+    pub see-nothing : (w : Content) → sight p w ≡ nothing → accepted w ≡ accepted (contentOf setup symbol column) → accepted nothing ≡ seen-there
     unfolding sight
-    both-nothing w z e =
+    see-nothing w z e =
         cases (isUsedLit setup mask used)
         (λ t. ap accepted (sym z) ∙ lit-or-not w e true t)
         (λ t. lit-or-not w e false t)
-
-    pub see-guard : accepted guard ≡ accepted (contentOf setup symbol column) → accepted nothing ≡ seen-there
-    unfolding sight
-    see-guard e = both-nothing guard refl e
-
-    pub see-dc : accepted dc ≡ accepted (contentOf setup symbol column) → accepted nothing ≡ seen-there
-    unfolding sight
-    see-dc e = both-nothing dc refl e
 
     -- it holds something
     pub see-refused : (number : ℕ) → refused number ≡ accepted (contentOf setup symbol column) → refused number ≡ seen-there
@@ -90,23 +76,12 @@ module _ (setup : Setup) (v : Valid setup) (mask symbol column : ℕ) (hy : symb
         pub pilot-below : u < band setup .used
         pilot-below = rw own-used (pilot-at setup v symbol column (sym (same-accepted e)) .used-below)
 
-        module _ (t : Bool) (q : t ≡ isUsedLit setup mask u) where
-          pub see-pilot : t ≡ true → accepted (pilot-with p) ≡ seen-there
-          unfolding sight
-          see-pilot z = lit-or-not pilot e true (ap (isUsedLit setup mask) (sym own-used) ∙ sym q ∙ z)
+        pub see-pilot : (t b : Bool) → t ≡ isUsedLit setup mask u → t ≡ b → accepted (sight p (pick b pilot guard)) ≡ seen-there
+        see-pilot t b q z = lit-or-not pilot e b (ap (isUsedLit setup mask) (sym own-used) ∙ sym q ∙ z)
 
-          pub see-no-pilot : t ≡ false → accepted nothing ≡ seen-there
-          unfolding sight
-          see-no-pilot z = lit-or-not pilot e false (ap (isUsedLit setup mask) (sym own-used) ∙ sym q ∙ z)
-
-    module _ (a s m : ℕ) (e : accepted (point a s m) ≡ accepted (contentOf setup symbol column)) (t : Bool) (q : t ≡ isLit setup mask s) where
-      pub see-point : t ≡ true → accepted (data-with p a s m) ≡ seen-there
-      unfolding sight
-      see-point z = lit-or-not (point a s m) e true (content-lit a s m (sym (same-accepted e)) ∙ sym q ∙ z)
-
-      pub see-no-point : t ≡ false → accepted nothing ≡ seen-there
-      unfolding sight
-      see-no-point z = lit-or-not (point a s m) e false (content-lit a s m (sym (same-accepted e)) ∙ sym q ∙ z)
+    pub see-point : (a s m : ℕ) → accepted (point a s m) ≡ accepted (contentOf setup symbol column) → (t b : Bool) → t ≡ isLit setup mask s → t ≡ b
+        → accepted (sight p (pick b (point a s m) guard)) ≡ seen-there
+    see-point a s m e t b q z = lit-or-not (point a s m) e b (content-lit a s m (sym (same-accepted e)) ∙ sym q ∙ z)
 
 -- ---- the whole call, whose questions are asked about k, which is the carrier
 

@@ -173,19 +173,16 @@ module _ {setup : Setup} {lit : List ℕ} {slot row : ℕ} {p : Point} {grid₀ 
 
     module _ (own : Point) (f : own ≡ runPoint setup lit p i) (grid₁ : List Float) (q : grid₁ ≡ putPoint grid (usedPosition setup row u) own)
         (u′ : ℕ) (e′ : u′ ≡ pilotNumber comb (i * 2 + 1)) where
-      first-own : own ≡ runPoint setup lit p (i * 2 / 2)
-      first-own = f ∙ ap (runPoint setup lit p) (omega arith)
-
-      second-own : own ≡ runPoint setup lit p ((i * 2 + 1) / 2)
-      second-own = f ∙ ap (runPoint setup lit p) (omega arith)
+      own-at : (j : ℕ) → i ≡ j / 2 → own ≡ runPoint setup lit p (j / 2)
+      own-at j e = f ∙ ap (runPoint setup lit p) e
 
       pub second-asks : Valid setup × ((row < symbols setup) × (u′ < band setup .used) × (length grid₁ ≡ 2 * gridPoints setup))
-      second-asks = turn-asks (turn-next t (omega arith) u e own first-own grid₁ q) (omega arith) u′ e′
+      second-asks = turn-asks (turn-next t (omega arith) u e own (own-at (i * 2) (omega arith)) grid₁ q) (omega arith) u′ e′
 
       pub two-more : (grid₂ : List Float) → grid₂ ≡ putPoint grid₁ (usedPosition setup row u′) own → RowTurn setup lit slot row p grid₀ comb grid₂ ((i + 1) * 2)
       two-more grid₂ q′ =
           subst (RowTurn setup lit slot row p grid₀ comb grid₂) (omega arith)
-          (turn-next (turn-next t (omega arith) u e own first-own grid₁ q) (omega arith) u′ e′ own second-own grid₂ q′)
+          (turn-next (turn-next t (omega arith) u e own (own-at (i * 2) (omega arith)) grid₁ q) (omega arith) u′ e′ own (own-at (i * 2 + 1) (omega arith)) grid₂ q′)
 
 -- the point that a turn puts, out of 0.0 and the pilot point
 pub own-point : (setup : Setup) (lit : List ℕ) (i : ℕ) (p d : Point) (r : ℕ) → r ≡ runLit setup lit i → r < 2 → getD (zeroPoint ∷ p ∷ []) r d ≡ runPoint setup lit p i

@@ -96,7 +96,7 @@ same-size setup = refl
 -- the lengths of an accepted setup and mask, whatever the cell
 pub lengths-listed : {setup : Setup} {mask : ℕ} → MaskAccepted setup mask
     → (96 * litSubchannels setup mask ≡ litPointsLength (setup .mode) (setup .size) mask) × (2 * gridPoints setup ≡ gridLength (setup .mode) (setup .size))
-unfolding litPointsLength gridLength litSubchannels isLit subchannels gridPoints symbols width
+unfolding litPointsLength gridLength isLit subchannels gridPoints symbols width
 lengths-listed {setup} m =
     let q₁ = ask-yes (isMode setup) 1 _ (passes {A = Unit {0}} {rest = accepted tt} (m .valid)) in
     let q₂ = ask-yes (isSize setup) 2 _ (q₁ .1) in

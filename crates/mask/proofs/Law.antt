@@ -4,6 +4,7 @@ use mathlib.Core.Bool.{true}
 use Prim.Native.Nat.{ℕ, _+_, _*_, _<_, _≤_}
 use native.Mathlib.Omega.{arith}
 use lib.Arith.{digits-div}
+use lib.IntN.{ℤ}
 use lib.Dec.{eqb}
 use borrow.Author.Tests.{eqb-true, eq-eqb, ne-eqb}
 use Rattle.base.specs.Choice.{isUpTo}
@@ -12,7 +13,7 @@ use Rattle.base.proofs.Test.{cases, up-to}
 use Rattle.base.proofs.Rank.{rank-law, rank-most, rank-all, rank-as}
 use Rattle.carriers.specs.Band.{carrierOf, usedOf}
 use Rattle.carriers.proofs.Guards.{used-carrier}
-use Rattle.centre.proofs.Law.{one-column}
+use Rattle.centre.specs.Centre.{onRow}
 use Rattle.pusc_dl.specs.declared.Physical.{Physical}
 use Rattle.pusc_dl.specs.Cluster.{renumber}
 use Rattle.pusc_dl.specs.Group.{clusterStarts, subchannelStarts, groupIn, hasGroup}
@@ -28,7 +29,7 @@ use Rattle.map.proofs.Choice.{amc-tests}
 use Rattle.map.proofs.ByMode.{few}
 use Rattle.map.proofs.Slot.{slot-law, band-law, centred}
 use Rattle.map.proofs.Law.{placing}
-use Rattle.mask.specs.Mask.{isMask, isLit, isUsedLit, litContent, litSubchannels, litRank, ofLitRank, allLit}
+use Rattle.mask.specs.Mask.{isMask, isLit, isUsedLit, litContent, litSubchannels, allLit}
 use Rattle.mask.specs.Law.{MaskLaw}
 
 -- A POINT'S USED NUMBER IS LIT EXACTLY WHEN ITS SUBCHANNEL IS, by its spot.
@@ -40,18 +41,28 @@ point-lit (pusc-ul h) mask slot s m hs hm = refl
 point-lit (ofusc w h) mask slot s m hs hm = refl
 point-lit (amc q w h) mask slot s m hs hm = rw (amc-tests q .not-0)
 
+-- a used number's carrier is that number's
+pub used-on-row : {setup : Setup} → Valid setup → (used : ℕ) → used < band setup .used → usedOf (band setup) (onRow (setup .size) (usedCarrier setup used)) ≡ used
+unfolding usedCarrier
+used-on-row {setup} v used h =
+    ap (usedOf (band setup)) (centred v .0 .back (carrierOf (band setup) used)) ∙ used-carrier (band setup) (setup .size) (band-law v) used h
+
+-- so the carrier where a point is placed is lit exactly when the point's subchannel is
+pub placed-lit : (setup : Setup) (mask slot s m symbol : ℕ) (carrier : ℤ) → PlacedAt setup slot s m symbol carrier
+    → isUsedLit setup mask (usedOf (band setup) (onRow (setup .size) carrier)) ≡ isLit setup mask s
+unfolding placeAt
+placed-lit setup mask slot s m symbol carrier e =
+    let q = placing setup slot s m e in
+    let own = slot-law (q .is-valid) slot .lies s m (q .subchannel-lt) (q .index-lt) .used-lt in
+    let there = ap (λ (p : Place). usedOf (band setup) (onRow (setup .size) (p .carrier))) (sym (q .place-is)) in
+    ap (isUsedLit setup mask) (there ∙ used-on-row (q .is-valid) (spotOf setup slot s m .used) own)
+    ∙ point-lit (q .is-valid) mask slot s m (q .subchannel-lt) (q .index-lt)
+
 data-lit : (setup : Setup) (mask slot s m symbol used : ℕ) → used < band setup .used → PlacedAt setup slot s m symbol (usedCarrier setup used)
     → isUsedLit setup mask used ≡ isLit setup mask s
-unfolding placeAt usedCarrier
 data-lit setup mask slot s m symbol used h e =
-    let q = placing setup slot s m e in
-    let v = q .is-valid in
-    let u = spotOf setup slot s m .used in
-    let own = slot-law v slot .lies s m (q .subchannel-lt) (q .index-lt) .used-lt in
-    let column : carrierOf (band setup) u ≡ carrierOf (band setup) used = one-column (centred v .0) _ _ (ap (λ (p : Place). p .carrier) (q .place-is)) in
-    let same : u ≡ used =
-    sym (used-carrier (band setup) (setup .size) (band-law v) u own) ∙ ap (usedOf (band setup)) column ∙ used-carrier (band setup) (setup .size) (band-law v) used h in
-    ap (isUsedLit setup mask) (sym same) ∙ point-lit v mask slot s m (q .subchannel-lt) (q .index-lt)
+    ap (isUsedLit setup mask) (sym (used-on-row (placing setup slot s m e .is-valid) used h))
+    ∙ placed-lit setup mask slot s m symbol (usedCarrier setup used) e
 
 cluster-lit : (cell mask place : ℕ) (p : Physical) → place < 14
     → isUsedLit (setupWith 0 2048 cell) mask (p .0 * 14 + place) ≡ hasGroup mask (groupIn clusterStarts (renumber cell p .0))
@@ -79,16 +90,11 @@ all-ranks : (setup : Setup) (n : ℕ) → rank (isLit setup (allLit (setup .mode
 all-ranks setup n = rank-all (isLit setup (allLit (setup .mode))) n (λ s h. all-lit setup s)
 
 pub mask-law : MaskLaw
-unfolding litSubchannels litRank ofLitRank
 mask-law =
     record {
       data-lit = data-lit;
       cluster-lit = cluster-lit;
-      rank-lt = λ setup mask s. rank-law (isLit setup mask) (subchannels setup) .rank-lt s;
-      rank-back = λ setup mask s. rank-law (isLit setup mask) (subchannels setup) .back s;
-      of-rank-lit = λ setup mask r h. let l = rank-law (isLit setup mask) (subchannels setup) in (l .unrank-lt r h, l .unrank-passes r h);
-      rank-forth = λ setup mask r. rank-law (isLit setup mask) (subchannels setup) .forth r;
-      rank-rises = λ setup mask s t. rank-law (isLit setup mask) t .rank-lt s;
+      ranks = λ setup mask. rank-law (isLit setup mask);
       all-passes = all-passes;
       all-lit = all-lit;
       all-used-lit = all-used-lit;
@@ -107,14 +113,13 @@ mask-small mode mask e =
 
 -- how many subchannels are lit: all, but in mode 0
 pub others-count : (setup : Setup) (mask : ℕ) → (setup .mode ≡ 0 → ⊥) → litSubchannels setup mask ≡ subchannels setup
-unfolding litSubchannels isLit
+unfolding isLit
 others-count setup mask ne = rank-all (isLit setup mask) (subchannels setup) (λ s h. rw (ne-eqb (setup .mode) 0 ne))
 
 pub groups-count : (setup : Setup) (mask : ℕ) → setup .mode ≡ 0 → (n : ℕ) → n ≡ rank (λ s. hasGroup mask (groupIn subchannelStarts s)) 60 → n ≡ litSubchannels setup mask
-unfolding litSubchannels isLit subchannels
+unfolding isLit subchannels
 groups-count setup mask e n q =
     rw (eq-eqb (setup .mode) 0 e) (q ∙ rank-as _ (isLit setup mask) 60 (λ s. rw (eq-eqb (setup .mode) 0 e)))
 
 pub lit-few : {setup : Setup} → Valid setup → (mask n : ℕ) → n ≡ litSubchannels setup mask → n ≤ 192
-unfolding litSubchannels
 lit-few {setup} v mask n e = omega (arith, rank-most (isLit setup mask) (subchannels setup), few v .subchannels-few)

@@ -2,6 +2,7 @@
 use mathlib.Core.Path.{_≡_}
 use mathlib.Core.Bool.{true}
 use Prim.Native.Nat.{ℕ, _+_, _*_, _<_}
+use Rattle.base.specs.Rank.{RankLaw}
 use Rattle.pusc_dl.specs.declared.Physical.{Physical}
 use Rattle.pusc_dl.specs.Cluster.{renumber}
 use Rattle.pusc_dl.specs.Group.{clusterStarts, groupIn, hasGroup}
@@ -9,7 +10,7 @@ use Rattle.map.specs.declared.Setup.{Setup}
 use Rattle.map.specs.Mode.{setupWith, subchannels, band}
 use Rattle.map.specs.Place.{usedCarrier, contentOf}
 use Rattle.map.specs.Law.{PlacedAt}
-use Rattle.mask.specs.Mask.{isMask, isLit, isUsedLit, litContent, litSubchannels, litRank, ofLitRank, allLit}
+use Rattle.mask.specs.Mask.{isMask, isLit, isUsedLit, litContent, litSubchannels, litRank, allLit}
 
 pub record MaskLaw : Type 0 where
   -- A data carrier is lit exactly when its subchannel is.
@@ -18,13 +19,8 @@ pub record MaskLaw : Type 0 where
   -- All of a cluster, its pilots too, goes by the group of its logical number.
   pub cluster-lit : (cell mask place : ℕ) (p : Physical) → place < 14
       → isUsedLit (setupWith 0 2048 cell) mask (p .0 * 14 + place) ≡ hasGroup mask (groupIn clusterStarts (renumber cell p .0))
-  -- The lit subchannels and the ranks below their number are the same, one for one,
-  pub rank-lt : (setup : Setup) (mask s : ℕ) → s < subchannels setup → isLit setup mask s ≡ true → litRank setup mask s < litSubchannels setup mask
-  pub rank-back : (setup : Setup) (mask s : ℕ) → s < subchannels setup → isLit setup mask s ≡ true → ofLitRank setup mask (litRank setup mask s) ≡ s
-  pub of-rank-lit : (setup : Setup) (mask r : ℕ) → r < litSubchannels setup mask → (ofLitRank setup mask r < subchannels setup) × (isLit setup mask (ofLitRank setup mask r) ≡ true)
-  pub rank-forth : (setup : Setup) (mask r : ℕ) → r < litSubchannels setup mask → litRank setup mask (ofLitRank setup mask r) ≡ r
-  -- in rising order.
-  pub rank-rises : (setup : Setup) (mask s t : ℕ) → s < t → isLit setup mask s ≡ true → litRank setup mask s < litRank setup mask t
+  -- The lit ones among the first n subchannels, and the ranks below their count, are the same, one for one; so with one n after another in rising order. Of all subchannels the count is `litSubchannels`.
+  pub ranks : (setup : Setup) (mask n : ℕ) → RankLaw (isLit setup mask) n
   -- The mask that lights all is a mask, and lights all; so each column holds what it did before there were masks, and a subchannel's rank is its number.
   pub all-passes : (mode : ℕ) → isMask mode (allLit mode) ≡ true
   pub all-lit : (setup : Setup) (s : ℕ) → isLit setup (allLit (setup .mode)) s ≡ true

@@ -28,14 +28,14 @@ unfoldable pub litContent : (setup : Setup) (mask symbol column : ℕ) → Conte
 litContent setup mask symbol column = pick (isUsedLit setup mask (usedOf (band setup) column)) (contentOf setup symbol column) guard
 
 -- The lit subchannels, rising: how many they are, and the rank of one of them.
-unfoldable pub litSubchannels : (setup : Setup) (mask : ℕ) → ℕ
+abbrev pub litSubchannels : (setup : Setup) (mask : ℕ) → ℕ
 litSubchannels setup mask = rank (isLit setup mask) (subchannels setup)
 
-unfoldable pub litRank : (setup : Setup) (mask subchannel : ℕ) → ℕ
+abbrev pub litRank : (setup : Setup) (mask subchannel : ℕ) → ℕ
 litRank setup mask subchannel = rank (isLit setup mask) subchannel
 
 -- The reverse: the lit subchannel of a rank.
-unfoldable pub ofLitRank : (setup : Setup) (mask r : ℕ) → ℕ
+abbrev pub ofLitRank : (setup : Setup) (mask r : ℕ) → ℕ
 ofLitRank setup mask r = unrank (isLit setup mask) (subchannels setup) r
 
 -- the mask that lights all
