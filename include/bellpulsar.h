@@ -40,8 +40,9 @@
  *   index: 0..47, the points of one subchannel in one slot. carrier: -size/2..size/2-1, by rising frequency, DC at 0.
  *   mask: the major groups of PUSC downlink that are lit, bit g for group g; BP_ALL_GROUPS lights all six. Their subchannels
  *   are 0..11, 12..19, 20..31, 32..39, 40..51 and 52..59, group after group. In every other mode all is lit and the mask is 0.
- *   points_len: all points of a slot where all is lit, for bp_empty; bp_lit_points_len has it for any mask. bp_lay has the
- *   points of one subchannel, and its points_len is 96 in every mode.
+ *   points_len: all points of a slot where all is lit, for bp_empty and bp_empty_first; bp_lit_points_len has it for any mask.
+ *   bp_lay has the points of one subchannel, and its points_len is 96 in every mode.
+ *   carriers, of bp_empty_first: any number. It is a count and has no range, so no question is put about it.
  *
  * size is the FFT size, cell the permutation base. symbol is the symbol's number in the zone: the slot times the slot's
  * length (2 symbols in mode 0, 3 in mode 1, 1 in mode 2; 1, 3, 2 and 6 in modes 3 to 6) plus the offset in the slot.
@@ -75,7 +76,9 @@ extern "C" {
  * libbellpulsar.so.4. Version 4 has the mask: after the cell in bp_ground, bp_lay, bp_empty and bp_look, and as the fourth
  * number of a plan's place, so that bp_zone_plan_read and bp_zone_plan_write with zones[32] are in place of bp_plan_read and
  * bp_plan_write with zones[24]. Since version 3 a slot is filled in two moves, bp_ground and bp_lay, and there is no bp_fill.
- * Since version 2 carriers are signed and count from DC; before that they were 0..size-1. A caller can hold itself to it:
+ * Since version 2 carriers are signed and count from DC; before that they were 0..size-1. bp_empty_first was added to version 4
+ * and changed no other call, so the version stayed 4: a program that calls it needs a library that has it, and all others run
+ * with either. A caller can hold itself to it:
  *
  *     #if BP_VERSION != 4
  *     #error "this program is written for version 4 of bellpulsar.h"
@@ -145,8 +148,8 @@ uint32_t bp_locate(uint32_t mode, uint32_t size, uint32_t cell, uint32_t symbol,
 /* The floats of a slot's points where all is lit, 96 for each subchannel; 0 for a mode and size that the map does not have. */
 size_t bp_points_len(uint32_t mode, uint32_t size);
 
-/* The floats of a slot's points under a mask, 96 for each lit subchannel: what bp_empty writes. 0 for a mode and size that the
- * map does not have, and for a mask that is not of that mode. */
+/* The floats of a slot's points under a mask, 96 for each lit subchannel: the points of bp_empty and bp_empty_first. 0 for a
+ * mode and size that the map does not have, and for a mask that is not of that mode. */
 size_t bp_lit_points_len(uint32_t mode, uint32_t size, uint32_t mask);
 
 /* The floats of a slot's grid, 2 for each carrier of each symbol of a slot; 0 for a mode and size that the map does not
@@ -192,6 +195,22 @@ uint32_t bp_lay(uint32_t mode, uint32_t size, uint32_t cell, uint32_t mask, uint
  * Refusals, in this order: 1 mode, 2 size, 3 cell, 17 mask, 4 slot, 8 points_len, 9 grid_len. */
 uint32_t bp_empty(uint32_t mode, uint32_t size, uint32_t cell, uint32_t mask, uint32_t slot,
                   const float *grid, size_t grid_len, float *points, size_t points_len);
+
+/* Takes the points off the first carriers of a slot's grid alone: bp_empty for a grid of which only the start is there yet.
+ *
+ * A capture delivers a slot's carriers in the order in which the grid stands, symbol after symbol, each by rising carrier. As
+ * more of them arrive, call it again on the same grid and points with a larger count: points then holds what the last call
+ * alone would have given, and after a count of all carriers what bp_empty gives.
+ *
+ * carriers: how many have arrived, guards, DC and pilots counted too. 0 writes nothing; any number from symbols a slot * size
+ * (grid_len / 2) on is all of them.
+ * grid: grid_len floats, the whole slot's; only lit data carriers among the first `carriers` are read, all others may hold
+ * anything.
+ * Written where it is accepted: the points that stand on these carriers, each where bp_empty puts it. Every other float of
+ * points keeps its contents.
+ * Refusals, in this order: 1 mode, 2 size, 3 cell, 17 mask, 4 slot, 8 points_len, 9 grid_len. None is about carriers. */
+uint32_t bp_empty_first(uint32_t mode, uint32_t size, uint32_t cell, uint32_t mask, uint32_t slot, uint32_t carriers,
+                        const float *grid, size_t grid_len, float *points, size_t points_len);
 
 /* The point on a carrier in a symbol of the zone, and whose it is.
  *

@@ -42,6 +42,10 @@ mod c {
             mode: u32, size: u32, cell: u32, mask: u32, slot: u32,
             grid: *const f32, grid_len: usize, points: *mut f32, points_len: usize,
         ) -> u32;
+        pub fn bp_empty_first(
+            mode: u32, size: u32, cell: u32, mask: u32, slot: u32, carriers: u32,
+            grid: *const f32, grid_len: usize, points: *mut f32, points_len: usize,
+        ) -> u32;
         pub fn bp_look(
             mode: u32, size: u32, cell: u32, mask: u32, symbol: u32,
             grid: *const f32, grid_len: usize, carrier: i32,
@@ -318,6 +322,36 @@ pub fn empty(
             cell,
             mask,
             slot,
+            grid.as_ptr(),
+            grid.len(),
+            points.as_mut_ptr(),
+            points.len(),
+        )
+    })
+}
+
+/// Takes the points off the first carriers of a slot's grid alone, each to where `empty` puts it; every other float of
+/// `points` stays. Carriers count from the grid's start, symbol after symbol, each by rising carrier, guards, DC and pilots
+/// too; any count is accepted, and one past the grid's end means all. Call it again with a larger count as a capture
+/// delivers more.
+pub fn empty_first(
+    setup: Setup,
+    mask: u32,
+    slot: u32,
+    carriers: u32,
+    grid: &[f32],
+    points: &mut [f32],
+) -> Result<(), Refusal> {
+    let Setup { mode, size, cell } = setup;
+    // Safety: as in `ground`.
+    done(unsafe {
+        c::bp_empty_first(
+            mode,
+            size,
+            cell,
+            mask,
+            slot,
+            carriers,
             grid.as_ptr(),
             grid.len(),
             points.as_mut_ptr(),

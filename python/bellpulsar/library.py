@@ -31,6 +31,7 @@ _PROTOTYPES = {
     "bp_ground": [uint] * 5 + [Pair, _address, _length],
     "bp_lay": [uint] * 6 + [_address, _length, _address, _length],
     "bp_empty": [uint] * 5 + [_address, _length, _address, _length],
+    "bp_empty_first": [uint] * 6 + [_address, _length, _address, _length],
     "bp_look": [uint] * 5 + [_address, _length, int32, _out, Pair] + [_out] * 3,
     "bp_ofusc_collisions": [uint] * 5 + [Hits, _out],
     "bp_amc_collisions": [uint] * 2 + [Hits, _out],
@@ -111,3 +112,12 @@ def numbers(*values):
 def signed(value):
     """A carrier as the engine takes it: what 32 bits do not hold becomes the nearest that they do, which is refused."""
     return max(-(2**31), min(operator.index(value), 2**31 - 1))
+
+
+def counted(value):
+    """A count of carriers as the engine takes it, which puts no question about it: what 32 bits do not hold becomes
+    their largest, which is past every grid's end. A negative number is no count, and nothing would refuse it there."""
+    value = operator.index(value)
+    if value < 0:
+        raise ValueError("carriers: a count is needed, 0 or more, not a negative number")
+    return min(value, _MOST)
