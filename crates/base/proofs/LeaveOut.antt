@@ -3,10 +3,10 @@ use mathlib.Core.Path.{_≡_, refl, ap, _∙_}
 use mathlib.Core.Bool.{Bool, true, false}
 use Prim.Native.Nat.{ℕ, _+_, _-_, _<_, _≤_}
 use native.Mathlib.Omega.{arith}
-use lib.Dec.{leb}
+use lib.Dec.{ltb, leb}
 use mir.Syntax.{w16}
 use mir.Val.{Fits, boolByte}
-use borrow.Author.Tests.{leb-true, leb-false, le-ltb, lt-ltb, le-leb, lt-leb}
+use borrow.Author.Tests.{ltb-true, ltb-false, leb-true, leb-false, le-ltb, lt-ltb, le-leb, lt-leb}
 use Rattle.base.specs.Choice.{pick}
 use Rattle.base.specs.Steps.{skip, unskip}
 use Rattle.base.proofs.Test.{cases}
@@ -29,7 +29,7 @@ unfolding unskip
 unskip-above p w h = rw (lt-ltb p w h)
 
 -- two cases of r against p
-split : {A : Type 0} (p r : ℕ) → (r < p → A) → (p ≤ r → A) → A
+pub split : {A : Type 0} (p r : ℕ) → (r < p → A) → (p ≤ r → A) → A
 split p r f g = cases (leb p r) (λ e. g (leb-true p r e)) (λ e. f (leb-false p r e))
 
 pub unskip-skip : (p r : ℕ) → unskip p (skip p r) ≡ r
@@ -62,6 +62,26 @@ unskip-lt p w le ne h =
     split p w
     (λ l. let v = unskip-below p w (omega arith) in omega arith)
     (λ l. let v = unskip-above p w (omega arith) in omega arith)
+
+-- a counted place lies below w exactly when its number is below that of w
+pub skip-before : (p r w : ℕ) → skip p r < w → r < unskip p w
+unfolding skip unskip
+skip-before p r w h =
+    cases (leb p r)
+    (λ e. let l = leb-true p r e in let h′ : r + 1 < w = rw e at h in rw (lt-ltb p w (omega arith)) (omega arith))
+    (λ e. let l = leb-false p r e in
+    cases (ltb p w)
+    (λ t. let k = ltb-true p w t in rw t (omega arith))
+    (λ t. let h′ : r + 0 < w = rw e at h in rw t (omega arith)))
+
+pub before-skip : (p r w : ℕ) → r < unskip p w → skip p r < w
+unfolding skip unskip
+before-skip p r w h =
+    cases (ltb p w)
+    (λ t. let k = ltb-true p w t in let h′ : r < w - 1 = rw t at h in
+    cases (leb p r) (λ e. rw e (omega arith)) (λ e. rw e (omega arith)))
+    (λ t. let k = ltb-false p w t in let h′ : r < w - 0 = rw t at h in
+    rw (lt-leb p r (omega arith)) (omega arith))
 
 -- whatever is left out, a number moves by one at most
 pub skip-le : (p r : ℕ) → skip p r ≤ r + 1

@@ -2,7 +2,7 @@
 use mathlib.Core.Path.{_≡_, refl, ap, _∙_}
 use mathlib.Core.Bool.{Bool, true, false}
 use Prim.Native.Nat.{ℕ, zero, suc, _+_, _<_, _≤_}
-use native.Mathlib.Nat.{not-suc-le-zero}
+use native.Mathlib.Nat.{not-suc-le-zero, add-suc}
 use native.Mathlib.Omega.{arith}
 use lib.Dec.{eqb, ltb}
 use borrow.Author.Tests.{eqb-true, eqb-false, lt-ltb, le-ltb, ltb-true, ltb-false}
@@ -79,6 +79,13 @@ module _ (test : ℕ → Bool) where
   unfolding rank
   rank-all zero every = refl
   rank-all (suc n) every = rank-yes n (every n (omega arith)) ∙ omega (arith, rank-all n (λ s h. every s (omega arith)))
+
+  -- and from a number on, as long as all pass, ranks go up by one
+  pub rank-run : (a n : ℕ) → ((k : ℕ) → k < n → test (a + k) ≡ true) → rank test (a + n) ≡ rank test a + n
+  rank-run a zero every = let e : a + 0 ≡ a = omega arith in rw e (omega arith)
+  rank-run a (suc n) every =
+      ap (rank test) (add-suc a n) ∙ rank-yes (a + n) (every n (omega arith))
+      ∙ omega (arith, rank-run a n (λ k h. every k (omega arith)))
 
 -- ranks go by what the test says
 pub rank-as : (f g : ℕ → Bool) (n : ℕ) → ((s : ℕ) → f s ≡ g s) → rank f n ≡ rank g n

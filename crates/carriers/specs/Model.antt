@@ -4,6 +4,7 @@ use lib.Dec.{leb}
 use Rattle.base.specs.Choice.{pick}
 use Rattle.carriers.specs.declared.Band.{Band}
 use Rattle.carriers.specs.declared.Spot.{Spot}
+use Rattle.carriers.specs.declared.Address.{Address}
 use Rattle.carriers.specs.Band.{carrierOf}
 
 -- 2048 for each symbol of the slot, since no size is larger
@@ -17,3 +18,7 @@ carrierNumber size b x = x .offset * size + carrierOf b (x .used)
 -- from the one to the other, at size 2048, by sums of steps
 unfoldable pub carrierStep : (b : Band) (x : ℕ) → ℕ
 carrierStep b x = x + b .left + pick (leb (b .half) (x % 2048)) 1 0
+
+-- the number of a point among those of subchannels one after another, 48 a subchannel
+abbrev pub addressNumber : (a : Address) → ℕ
+addressNumber a = a .subchannel * 48 + a .index
