@@ -1,13 +1,16 @@
--- How a row of spots is found fast. No reader needs this to know what the calls do.
+-- How a row of spots, and the points of a cluster, are found fast. No reader needs this to know what the calls do.
 use mathlib.Core.List.{List, _++_}
-use Prim.Native.Nat.{ℕ, _+_, _*_, _/_, _%_, _^_}
+use Prim.Native.Nat.{ℕ, _+_, _-_, _*_, _/_, _%_, _^_}
+use lib.Dec.{ltb}
 use Rattle.base.specs.Choice.{pick}
-use Rattle.base.specs.Steps.{entry}
+use Rattle.base.specs.Steps.{entry, unrotate}
 use Rattle.base.specs.Tabulate.{tabulate}
+use Rattle.base.specs.Rank.{rank}
 use Rattle.pusc_dl.specs.Table.{renumbering, base12, base8}
-use Rattle.pusc_dl.specs.Cluster.{unrenumber}
-use Rattle.pusc_dl.specs.Group.{clusterStarts, groupIn, groupSize, baseOf, groupData, hasGroup}
-use Rattle.pusc_dl.specs.Map.{groupUsed, usedGroup}
+use Rattle.pusc_dl.specs.Cluster.{renumber, unrenumber, clusterPlace}
+use Rattle.pusc_dl.specs.Group.{clusterStarts, subchannelStarts, groupIn, groupSize, baseOf, baseInverse, groupData, groupSubchannel, groupIndex, hasGroup}
+use Rattle.pusc_dl.specs.Map.{groupUsed, usedGroup, addressOf}
+use Rattle.pusc_dl.specs.declared.Physical.{Physical}
 use Rattle.pusc_dl.specs.declared.Logical.{Logical}
 
 -- the bases on past M, so that s + n needs no reduction
@@ -38,3 +41,41 @@ groupBits = tabulate 240 (λ j. 2 ^ groupIn clusterStarts (entry renumbering (j 
 -- 1 where a mask lights physical cluster p, whose used numbers are 14p to 14p+13
 unfoldable pub clusterLit : (cell mask p : ℕ) → ℕ
 clusterLit cell mask p = pick (hasGroup mask (usedGroup cell (p * 14))) 1 0
+
+-- The reverse: where in B of a size a place stands, turned back by the cell; x is the place, counted on past the size.
+unfoldable pub turnedInverse : (size cell x : ℕ) → ℕ
+turnedInverse size cell x = baseInverse size (unrotate size cell (x % size))
+
+-- both in one row: the base of 12 twice over, then that of 8 three times, so that twelve in a row need no reduction
+unfoldable pub inverseEntry : (cell x : ℕ) → ℕ
+inverseEntry cell x = pick (ltb x 24) (turnedInverse 12 cell x) (turnedInverse 8 cell x)
+
+-- the number of the point of a group's data number, 48 a subchannel of the group
+unfoldable pub groupNumber : (size cell d : ℕ) → ℕ
+groupNumber size cell d = groupSubchannel size cell d * 48 + groupIndex size cell d
+
+-- how many subchannels below s a mask lights
+abbrev pub subchannelRank : (mask s : ℕ) → ℕ
+subchannelRank mask s = rank (λ x. hasGroup mask (groupIn subchannelStarts x)) s
+
+-- the first numbers of a mask's groups
+abbrev pub groupRank : (mask g : ℕ) → ℕ
+groupRank mask g = subchannelRank mask (entry subchannelStarts g)
+
+-- a logical cluster as one number: the rank of its group's first subchannel, whether the group is an odd one, and the cluster's place in it
+unfoldable pub logicalEntry : (mask l : ℕ) → ℕ
+logicalEntry mask l =
+    let g = groupIn clusterStarts l in
+    groupRank mask g * 64 + (g % 2 * 32 + (l - entry clusterStarts g))
+
+-- and physical cluster p
+unfoldable pub clusterEntry : (cell mask p : ℕ) → ℕ
+clusterEntry cell mask p =
+    let physical : Physical = record { 0 = p } in
+    logicalEntry mask (renumber cell physical .0)
+
+-- the number of the point on data place r of physical cluster p, among those of the subchannels that a mask lights
+unfoldable pub clusterNumber : (cell mask offset p r : ℕ) → ℕ
+clusterNumber cell mask offset p r =
+    let a = addressOf cell offset (p * 14 + clusterPlace offset r) in
+    subchannelRank mask (a .subchannel) * 48 + a .index

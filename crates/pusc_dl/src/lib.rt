@@ -10,18 +10,19 @@ use base::wide16;
 use carriers::Address;
 use carriers::Spot;
 ghost use mathlib.Core.Path.{_≡_};
-ghost use mathlib.Core.Bool.{false};
+ghost use mathlib.Core.Bool.{true, false};
 ghost use Prim.Native.Nat.{_+_, _*_, _/_, _%_, _<_};
 ghost use Rattle.base.specs.Steps.{entry, unrotate as Unrotate};
 ghost use Rattle.base.specs.Tabulate.{tabulate};
 ghost use Rattle.base.specs.Rank.{rank};
 ghost use Rattle.base.specs.Model.{Starts};
 ghost use Rattle.carriers.specs.Model.{spotNumber};
+ghost use Rattle.pusc_dl.specs.Table.{base12Inverse, base8Inverse};
 ghost use Rattle.pusc_dl.specs.Cluster as cluster;
 ghost use Rattle.pusc_dl.specs.Cluster.{firstPilot, secondPilot, isClusterPilot, clusterPlace, clusterData};
 ghost use Rattle.pusc_dl.specs.Group.{clusterStarts, subchannelStarts, groupIn, groupSize, ofSize, groupData, groupSubchannel, groupIndex, hasGroup};
 ghost use Rattle.pusc_dl.specs.Map.{groupUsed, usedGroup, usedData, spotOf, addressOf};
-ghost use Rattle.pusc_dl.specs.Model.{base12Thrice, base8FourTimes, turnedBase, groupCluster, groupSpot, clusterLit};
+ghost use Rattle.pusc_dl.specs.Model.{base12Thrice, base8FourTimes, turnedBase, groupCluster, groupSpot, clusterLit, turnedInverse, inverseEntry, groupNumber, groupRank, logicalEntry, clusterEntry, clusterNumber};
 
 // A cluster's number in the order of the carriers, and its number after the renumbering. They are never added or compared.
 pub struct Physical(pub usize);
@@ -358,6 +359,9 @@ const BASE_8_INVERSE: [u8; 8] = [2, 4, 3, 6, 1, 5, 7, 0];
 const CLUSTER_STARTS: [usize; 6] = [0, 24, 40, 64, 80, 104];
 
 const SUBCHANNEL_STARTS: [usize; 6] = [0, 12, 20, 32, 40, 52];
+
+// The bits of the groups below each.
+const LOWER_GROUPS: [usize; 6] = [0, 1, 3, 7, 15, 31];
 
 // The bit of each major group, by the places of R, twice over so that no sum is reduced.
 const GROUP_BITS: [u8; 240] = [
@@ -981,4 +985,140 @@ pub fn lit_clusters(cell: usize, mask: usize) -> [u8; 120]
         p += 1;
     }
     lit
+}
+
+// The inverses of both bases turned by the cell, that of 12 twice over and then that of 8 three times.
+pub fn inverses(cell: usize) -> [u16; 48]
+    requires { ⌜ cell < 32 ⌝ }
+    ensures { λ r. ⌜ Starts 48 (inverseEntry cell) r ⌝ }
+{
+    let twelve = BASE_12_INVERSE;
+    let eight = BASE_8_INVERSE;
+    let mut inverses = [0; 48];
+    let mut x = 0;
+    while x < 48 {
+        inverses[x] = inverse_entry(&twelve, &eight, cell, x);
+        x += 1;
+    }
+    inverses
+}
+
+// Entry x of these.
+fn inverse_entry(twelve: &[u8; 12], eight: &[u8; 8], cell: usize, x: usize) -> u16
+    requires { ⌜ (now twelve ≡ base12Inverse) × (now eight ≡ base8Inverse) × (cell < 32) × (x < 48) ⌝ }
+    ensures { λ r. ⌜ r ≡ inverseEntry cell x ⌝ }
+{
+    if x < 24 {
+        let i = unrotate(12, cell, x % 12);
+        twelve[i] as u16
+    } else {
+        let i = unrotate(8, cell, x % 8);
+        eight[i] as u16
+    }
+}
+
+// The rank of each group's first subchannel among those that a mask lights.
+fn group_ranks(mask: usize) -> [u16; 6]
+    requires { ⌜ mask < 64 ⌝ }
+    ensures { λ r. ⌜ r ≡ tabulate 6 (groupRank mask) ⌝ }
+{
+    let lower = LOWER_GROUPS;
+    let mut ranks = [0; 6];
+    let mut g = 0;
+    while g < 6 {
+        ranks[g] = lit_subchannels(mask & lower[g]) as u16;
+        g += 1;
+    }
+    ranks
+}
+
+// What a cluster's points need of it, by the ranks of the groups' first subchannels.
+fn logical_entry(ranks: &[u16; 6], mask: usize, l: usize) -> u16
+    requires { ⌜ (now ranks ≡ tabulate 6 (groupRank mask)) × (l < 120) ⌝ }
+    ensures { λ r. ⌜ r ≡ logicalEntry mask l ⌝ }
+{
+    let g = group_in(CLUSTER_STARTS, l);
+    ranks[g] * 64 + (g % 2 * 32 + (l - cluster_start(g))) as u16
+}
+
+// The same for each physical cluster.
+pub fn clusters(cell: usize, mask: usize) -> [u16; 120]
+    requires { ⌜ (cell < 32) × (mask < 64) ⌝ }
+    ensures { λ r. ⌜ Starts 120 (clusterEntry cell mask) r ⌝ }
+{
+    let renumbering = RENUMBERING;
+    let ranks = group_ranks(mask);
+    let turn = 13 * cell % 120;
+    let mut clusters = [0; 120];
+    let mut p = 0;
+    while p < 120 {
+        let i = reduce(120, p + turn);
+        clusters[p] = logical_entry(&ranks, mask, wide(renumbering[i]));
+        p += 1;
+    }
+    clusters
+}
+
+// The number of a point of a group, counted from `first` on: n is the quotient of its data number by the group's size, m the
+// remainder of n by it, and b where in B its place stands.
+fn group_number(size: u16, first: u16, n: u16, m: u16, b: u16) -> u16
+    requires { ⌜ (0 < size) × (size < 13) × (first < 4096) × (n < 24) × (m ≡ n % size) × (b < size) ⌝ }
+    ensures { λ r. ⌜ r ≡ first + (Unrotate size n b * 48 + Unrotate 24 (13 * Unrotate size n b) n) ⌝ }
+{
+    let s = reduce16(size, b + (size - m));
+    first + (s * 48 + (n + 11 * s) % 24)
+}
+
+// The numbers of the points of cluster i of a group of 12 subchannels, from `first` on.
+fn twelve_numbers(cell: usize, first: u16, i: u16, inverses: &[u16; 48]) -> [u16; 12]
+    requires { ⌜ (first < 4096) × (i < 24) × Starts 48 (inverseEntry cell) (now inverses) ⌝ }
+    ensures { λ r. ⌜ r ≡ tabulate 12 (λ r. first + groupNumber 12 cell (i * 12 + r)) ⌝ }
+{
+    let m = reduce16(12, i);
+    let mut numbers = [0; 12];
+    let mut r = 0;
+    while r < 12 {
+        numbers[r] = group_number(12, first, i, m, inverses[r]);
+        r += 1;
+    }
+    numbers
+}
+
+// The same in a group of 8: its twelve data numbers have two quotients.
+fn eight_numbers(cell: usize, first: u16, i: u16, inverses: &[u16; 48]) -> [u16; 12]
+    requires { ⌜ (first < 4096) × (i < 16) × Starts 48 (inverseEntry cell) (now inverses) ⌝ }
+    ensures { λ r. ⌜ r ≡ tabulate 12 (λ r. first + groupNumber 8 cell (i * 12 + r)) ⌝ }
+{
+    let from = 24 + wide16(i) * 12 % 8;
+    let mut numbers = [0; 12];
+    let mut r = 0;
+    while r < 12 {
+        let n = (i * 12 + r as u16) / 8;
+        numbers[r] = group_number(8, first, n, n % 8, inverses[from + r]);
+        r += 1;
+    }
+    numbers
+}
+
+// The numbers of the points of physical cluster p in a symbol of the slot, by rising carrier, where it is lit.
+pub fn cluster_points(
+    cell: usize,
+    mask: usize,
+    offset: usize,
+    p: usize,
+    clusters: &[u16; 120],
+    inverses: &[u16; 48],
+) -> [u16; 12]
+    requires { ⌜ (offset < 2) × (p < 120) ⌝ }
+    requires { ⌜ Starts 120 (clusterEntry cell mask) (now clusters) × Starts 48 (inverseEntry cell) (now inverses) ⌝ }
+    ensures { λ r. ⌜ (hasGroup mask (usedGroup cell (p * 14)) ≡ true → Starts 12 (clusterNumber cell mask offset p) r) ⌝ }
+{
+    let entry = clusters[p];
+    let first = entry / 64 * 48 + offset as u16 * 24;
+    let i = entry % 32;
+    if entry / 32 % 2 == 0 {
+        twelve_numbers(cell, first, i, inverses)
+    } else {
+        eight_numbers(cell, first, i, inverses)
+    }
 }
