@@ -45,7 +45,7 @@ module _ (cell : ℕ) where
     tile-back = ap₂ unturned tile-block (digits-mod t (turn t .to-lt s hs)) ∙ turn t .back s hs
 
   module _ (p : ℕ) where
-    subchannel-lt : tileSubchannel cell p < 70
+    pub subchannel-lt : tileSubchannel cell p < 70
     unfolding tileSubchannel
     subchannel-lt = turn (p / 70) .from-lt (p % 70) (omega arith)
 

@@ -1,11 +1,16 @@
--- How a row of carriers is found fast. No reader needs this to know what the calls do.
+-- How a row of carriers, and the points of a symbol, are found fast. No reader needs this to know what the calls do.
+use mathlib.Core.Path.{_≡_}
 use mathlib.Core.List.{List}
-use Prim.Native.Nat.{ℕ, _+_, _*_, _%_}
+use Prim.Native.Nat.{ℕ, _+_, _*_, _/_, _%_, _<_}
+use lib.Dec.{eqb}
 use lib.ListN.{set}
+use Rattle.base.specs.Choice.{pick}
 use Rattle.base.specs.Steps.{entry}
 use Rattle.carriers.specs.Band.{puscBand, carrierOf}
+use Rattle.carriers.specs.Model.{addressNumber}
 use Rattle.pusc_ul.specs.Table.{tilePermutation}
 use Rattle.pusc_ul.specs.Tile.{tileOf, placeSymbol, placeTile, placeCarrier}
+use Rattle.pusc_ul.specs.Map.{addressOf}
 
 -- tile t of a subchannel, counted from 70t
 unfoldable pub tileOfSeventy : (cell subchannel t : ℕ) → ℕ
@@ -22,3 +27,19 @@ tileStart cell subchannel t = tileOfSeventy cell subchannel t * 4 + carrierOf pu
 -- a row with x and the next number as pair j
 unfoldable pub putTwo : (row : List ℕ) (j x : ℕ) → List ℕ
 putTwo row j x = set (set row (j * 2) x) (j * 2 + 1) (x + 1)
+
+-- the data carriers of a tile in a symbol of the slot: all four in the middle one, else the inner two
+unfoldable pub tilePlace : (offset j : ℕ) → ℕ
+tilePlace offset j = pick (eqb offset 1) j (j + 1)
+
+-- how many they are
+unfoldable pub tilePoints : (offset : ℕ) → ℕ
+tilePoints offset = pick (eqb offset 1) 4 2
+
+-- the numbers of a row's points, point j of tile p at place j * 420 + p
+abbrev pub TileRow : (cell offset : ℕ) (row : List ℕ) → Type 0
+TileRow cell offset row = (p j : ℕ) → p < 420 → j < tilePoints offset → entry row (j * 420 + p) ≡ addressNumber (addressOf cell offset (p * 4 + tilePlace offset j))
+
+-- the number at place k of it
+unfoldable pub rowNumber : (cell offset k : ℕ) → ℕ
+rowNumber cell offset k = addressNumber (addressOf cell offset (k % 420 * 4 + tilePlace offset (k / 420)))

@@ -11,6 +11,6 @@ address-spec =
     tie.close
     (tie.spec
     (λ c κs. search needs)
-    (λ c κs. (search needs, search needs, search needs, rw pilot-carrier at (c .before .pre .3)))
+    (λ c κs. (search needs, search needs, search needs, rw pilot-carrier at (c .before .before .pre .3)))
     (λ c. search needs) (λ c. search needs) (λ c. search needs)
     (λ c. rw (c .data-place .ensures .0, c .before .tile-subchannel .ensures .0)))
