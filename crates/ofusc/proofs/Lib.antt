@@ -3,3 +3,4 @@ pub mod Sequence
 pub mod Tables
 pub mod Law
 pub mod Row
+pub mod Points

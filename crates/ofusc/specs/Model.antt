@@ -1,6 +1,7 @@
--- How a row of data numbers is found fast. No reader needs this to know what the calls do.
+-- How a row of data numbers, and the points of a bin, are found fast. No reader needs this to know what the calls do.
 use Prim.Native.Nat.{ℕ, _+_, _*_}
 use lib.Bits.{bitXor}
+use Rattle.base.specs.Steps.{unrotate}
 use Rattle.ofusc.specs.Map.{mask}
 
 -- what the cell alone fixes of the data number in group k: N·k and the terms of both sequences
@@ -10,3 +11,7 @@ cellNumber n cell k = k * n + mask n cell k
 -- the data number of subchannel s in group k
 unfoldable pub groupNumber : (n cell s k : ℕ) → ℕ
 groupNumber n cell s k = k * n + bitXor s (mask n cell k)
+
+-- the number of the point of subchannel s in group k
+unfoldable pub pointNumber : (s k : ℕ) → ℕ
+pointNumber s k = s * 48 + unrotate 48 (23 * s) k

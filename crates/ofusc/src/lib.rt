@@ -5,12 +5,16 @@ use base::wide;
 use carriers::Address;
 ghost use mathlib.Core.Path.{_≡_};
 ghost use Prim.Native.Nat.{_+_, _*_, _-_, _/_, _%_, _<_};
+ghost use lib.Bits.{bitXor};
+ghost use lib.Dec.{ltb};
+ghost use Rattle.base.specs.Choice.{pick};
 ghost use Rattle.base.specs.Steps.{entry};
 ghost use Rattle.base.specs.Tabulate.{tabulate};
 ghost use Rattle.base.specs.Model.{Starts};
+ghost use Rattle.carriers.specs.Model.{addressNumber};
 ghost use Rattle.ofusc.specs.Width.{Width};
 ghost use Rattle.ofusc.specs.Map.{groupOf, term as Term, mask as Mask, dataNumber, addressOf};
-ghost use Rattle.ofusc.specs.Model.{cellNumber, groupNumber};
+ghost use Rattle.ofusc.specs.Model.{cellNumber, groupNumber, pointNumber};
 
 // The basic permutation sequences of document 002, table 6. The row of N, which has N-1 entries, starts at place N.
 const SEQUENCE_1: [u8; 63] = [
@@ -309,4 +313,47 @@ pub fn numbers(n: usize, cell: usize, subchannel: usize, table: &[u16; 48]) -> [
         k += 1;
     }
     row
+}
+
+// What holds of the first four data numbers of a bin, or of its last four. (A group has four or more.)
+fn by_half(j: usize, first: u16, last: u16) -> u16
+    ensures { λ r. ⌜ r ≡ pick (ltb j 4) first last ⌝ }
+{
+    if j < 4 { first } else { last }
+}
+
+// The number of the point on data number d of group k, by what the cell fixes of the numbers of the group. The index is
+// (k+25s) mod 48, since 25 and 23 make 48.
+fn point(fixed: u16, k: u16, d: u16) -> u16
+    requires { ⌜ (bitXor d fixed < 32) × (k < 48) ⌝ }
+    ensures { λ r. ⌜ r ≡ pointNumber (bitXor d fixed) k ⌝ }
+{
+    let s = d ^ fixed;
+    s * 48 + (k + 25 * s) % 48
+}
+
+// The numbers of the eight points of bin i, by rising carrier.
+pub fn bin_points(n: usize, cell: usize, i: usize, table: &[u16; 48]) -> [u16; 12]
+    requires { ⌜ Width n ⌝ }
+    requires { ⌜ (i < 6 * n) × Starts 48 (cellNumber n cell) (now table) ⌝ }
+    ensures { λ r. ⌜ Starts 8 (λ j. addressNumber (addressOf n cell (i * 8 + j))) r ⌝ }
+{
+    let p = parts(n, i * 8);
+    let q = parts(n, i * 8 + 4);
+    let k = p.quotient;
+    let l = q.quotient;
+    let first = table[k];
+    let last = table[l];
+    let d = (i * 8) as u16;
+    let mut points = [0; 12];
+    let mut j = 0;
+    while j < 8 {
+        points[j] = point(
+            by_half(j, first, last),
+            by_half(j, k as u16, l as u16),
+            d + j as u16,
+        );
+        j += 1;
+    }
+    points
 }

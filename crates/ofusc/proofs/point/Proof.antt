@@ -1,0 +1,12 @@
+-- `ofusc::point` meets its contract.
+use borrow.Author.Needs.{needs}
+use Rattle.ofusc.specs.Model.{pointNumber}
+use Rattle.ofusc.proofs.point.Statement.{statement}
+use Rattle.ofusc.proofs.point.Tie as tie
+
+pub point-spec : {M : Type 1} → statement M
+unfolding pointNumber
+point-spec =
+    tie.close
+    (tie.spec
+    (λ c. search needs) (λ c. search needs) (λ c. search needs) (λ c. search needs) (λ c. search needs))
