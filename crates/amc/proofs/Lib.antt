@@ -5,3 +5,4 @@ pub mod ZeroRule
 pub mod Parts
 pub mod Law
 pub mod Row
+pub mod Points

@@ -1,4 +1,5 @@
 // AMC: pairs of base-seven digits, the sequence P, the zero rule; the slot's shape.
+use base::reduce16;
 use base::unrotate;
 use base::wide;
 use base::wide16;
@@ -7,6 +8,7 @@ use carriers::DataNumber;
 ghost use mathlib.Core.Path.{_≡_};
 ghost use Prim.Native.Nat.{_+_, _*_, _/_, _%_, _<_, _≤_};
 ghost use Rattle.base.specs.Model.{Starts};
+ghost use Rattle.carriers.specs.Model.{addressNumber};
 ghost use Rattle.amc.specs.Table.{sequenceDigits};
 ghost use Rattle.amc.specs.Element.{element, baseSeven, twoDigits, subtract};
 ghost use Rattle.amc.specs.Map.{sumOf, traffic as Traffic, indexOf, dataNumber, addressOf};
@@ -298,4 +300,46 @@ pub fn carrier_row(
         i += 1;
     }
     row
+}
+
+// The index of each v, once for all bins of a slot: of v of entry i of P it is i moved back by the cell.
+pub fn indices(cell: usize) -> [u16; 48]
+    requires { ⌜ cell < 2352 ⌝ }
+    ensures { λ r. ⌜ Starts 48 (indexOf cell) r ⌝ }
+{
+    let places = places(cell);
+    let back = (48 - cell % 48) as u16;
+    let mut indices = [0; 48];
+    let mut i = 0;
+    while i < 48 {
+        let v = wide16(places[i]);
+        indices[v] = reduce16(48, i as u16 + back);
+        i += 1;
+    }
+    indices
+}
+
+// The numbers of the eight points of bin i in a symbol of the slot, by rising carrier.
+pub fn bin_points(
+    shape: Shape,
+    cell: usize,
+    offset: usize,
+    i: usize,
+    indices: &[u16; 48],
+) -> [u16; 12]
+    requires { ⌜ IsShape shape × (offset < shape .symbols) × (i < 192) ⌝ }
+    requires { ⌜ Starts 48 (indexOf cell) (now indices) ⌝ }
+    ensures { λ r. ⌜ Starts 8 (λ j. addressNumber (addressOf shape cell offset (i * 8 + j))) r ⌝ }
+{
+    let subchannel = i * shape.symbols / 6;
+    let bin = i - subchannel * shape.bins;
+    let start = subchannel as u16 * 48;
+    let first = (offset * shape.bins + bin) * 8;
+    let mut points = [0; 12];
+    let mut j = 0;
+    while j < 8 {
+        points[j] = start + indices[first + j];
+        j += 1;
+    }
+    points
 }
