@@ -5,6 +5,7 @@ use mathlib.Core.List.{List, [], _∷_}
 use Prim.Native.Nat.{ℕ, _+_, _*_, _/_, _%_, _<_}
 use native.Mathlib.Nat.{mod-lt, div-add-mod', div-lt-iff-lt-mul}
 use native.Mathlib.Omega.{arith}
+use lib.Dec.{ltb}
 use lib.ListN.{length}
 use lib.IntN.{ℤ}
 use lib.Ieee.{Float}
@@ -21,7 +22,7 @@ use Rattle.map.specs.Law.{Passes}
 use Rattle.map.specs.Place.{Place, Content, guard, dc, pilot, point, usedCarrier, placeOf, contentOf, locateOf}
 use Rattle.map.proofs.ByMode.{few}
 use Rattle.map.proofs.Slot.{band-law}
-use Rattle.map.proofs.Law.{setup-asked, locating, locate-column, located-where-placed, in-own-slot}
+use Rattle.map.proofs.Law.{setup-asked, placing, locating, locate-column, located-where-placed, in-own-slot}
 use Rattle.mask.specs.Mask.{isMask, isLit, isUsedLit, litContent, litSubchannels, litRank, ofLitRank}
 use Rattle.mask.proofs.Law.{mask-law, used-on-row, placed-lit}
 use Rattle.points.specs.declared.Point.{Point}
@@ -32,10 +33,11 @@ use Rattle.lengths.specs.Model.{gridRefusal, groundRefusal, layRefusal}
 use Rattle.lengths.proofs.Length.{lengths-listed, all-lit-length}
 use Rattle.lengths.proofs.Refusal.{MaskAccepted, GroundAccepted, LayAccepted, LookAccepted, ground-numbered, ground-accepted, ground-last, lay-numbered, lay-accepted, lay-unlit, lay-last, empty-numbered, empty-last, look-0, grid-0}
 use Rattle.grid.specs.Row.{carrierPosition}
-use Rattle.grid.specs.Grid.{contentAt, pointNumber, bare, grounded, groundOf, relaid, laid, layOf, held, filled, standsAt, emptied, emptyOf, data-with, sight, lookOf}
+use Rattle.grid.specs.Grid.{contentAt, pointNumber, bare, grounded, groundOf, relaid, laid, layOf, held, filled, standsAt, emptied, emptyOf, emptyFirstOf, data-with, sight, lookOf}
 use Rattle.grid.specs.Law.{Leaves, Lay, Lays, no-lay, lay-then, Never, none, another, LastLay, here, later, ownPoints, carrierLit, FilledGrid, GridLaw}
 use Rattle.grid.proofs.Outcome.{left, refused-leaves, accepted-anew, accepted-number}
 use Rattle.grid.proofs.Slot.{floats-long, row-position, column-position, position-lt, stands-lt, lit-holds, point-stands}
+use Rattle.grid.proofs.First.{refused-alike, of-all, of-none, then-more, first-fits, left-at}
 use Rattle.grid.proofs.Looked.{look-done}
 
 -- where a carrier of a zone's symbol stands in its slot's grid
@@ -307,6 +309,37 @@ module _ (setup : Setup) (mask slot : ℕ) (p : Point) (points old ground grid :
       let m = its .lit in
       filled-grid setup mask m slot (its .slot-lt) p points grid (long ∙ sym (lengths-listed m .0)) is-filled
 
+-- ---- empty by carrier
+
+-- a lit subchannel's point, by where it is placed
+module _ (setup : Setup) (mask slot carriers : ℕ) (grid points next : List Float) (e : Leaves (emptyFirstOf setup mask slot carriers grid points) next)
+    (s index : ℕ) (place : Place) (lit : isLit setup mask s ≡ true) (q : placeOf setup slot s index ≡ accepted place) where
+  -- its number among the points, and where it stands
+  abbrev n : ℕ
+  n = pointNumber (litRank setup mask s) index
+
+  abbrev stood : ℕ
+  stood = there setup (place .symbol) (place .carrier)
+
+  stands-there : standsAt setup slot s index ≡ stood
+  stands-there =
+      let f = first-fits setup mask slot grid points carriers next e .fits in
+      let k = point-on-grid (f .lit) slot s index place q in
+      point-stands setup (f .lit .valid) slot (f .slot-lt) stood (k .there-lt) mask slot s index (rw lit at (k .there-holds)) .stands
+
+  first-writes : pointAt next n ≡ pick (ltb stood carriers) (pointAt grid stood) (pointAt points n)
+  first-writes =
+      let law = mask-law .ranks setup mask (subchannels setup) in
+      let w = placing setup slot s index q in
+      let s-lt = w .subchannel-lt in
+      let i = w .index-lt in
+      let r = law .rank-lt s s-lt lit in
+      let rank : n / 48 ≡ litRank setup mask s = omega arith in
+      let own : n % 48 ≡ index = omega arith in
+      let at : standsAt setup slot (ofLitRank setup mask (n / 48)) (n % 48) ≡ stood =
+      rw (rank, own, law .back s s-lt lit) stands-there in
+      left-at setup mask slot grid points carriers next e n (omega arith) ∙ rw at
+
 -- a setup and a mask that pass, and a grid of the length that is told, which passes the last question
 passed : {setup : Setup} {mask : ℕ} → Passes setup → isMask (setup .mode) mask ≡ true → MaskAccepted setup mask
 passed {setup} e k = record { valid = setup-asked setup _ e .0; mask-is = k }
@@ -331,6 +364,11 @@ grid-law =
       unlit-is-nothing = λ setup mask symbol used grid e k hy h dark g.
           let m = passed e k in
           dark-on-grid m (symbol / symbols setup) symbol used refl hy h dark .looked grid (told-long m (length grid) g) _ refl;
+      first-writes = first-writes;
+      first-of-all = λ setup mask slot carriers grid points. of-all setup mask slot grid points carriers;
+      first-then-more = λ setup mask slot fewer more earlier grid points e. then-more setup mask slot earlier grid points e fewer more;
+      first-of-none = of-none;
+      first-refused-alike = λ setup mask slot carriers grid points. refused-alike setup mask slot grid points carriers;
       ground-keeps-length = λ setup mask slot p old ground e. ground-long setup mask slot p old ground e ∙ sym (ground-fits setup mask slot p old ground e .grid-long);
       lay-keeps-length = λ setup mask slot s points grid next e. lay-long setup mask slot s points grid next e ∙ sym (lay-fits setup mask slot s points grid next e .fits .grid-long);
       ground-accepts = λ setup mask slot p old e k h g.

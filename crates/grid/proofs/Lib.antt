@@ -3,6 +3,8 @@ pub mod Slot
 pub mod Outcome
 pub mod Pilots
 pub mod Laid
-pub mod Emptied
+pub mod Walked
+pub mod Dropped
+pub mod First
 pub mod Looked
 pub mod Law

@@ -31,7 +31,6 @@ use Rattle.mask.proofs.Law.{point-lit}
 use Rattle.lengths.specs.Length.{gridPoints}
 use Rattle.grid.specs.Row.{position, usedPosition, rowOf, columnOf}
 use Rattle.grid.specs.Grid.{contentAt, standsAt}
-use Rattle.grid.specs.Model.{taken}
 use Rattle.points.specs.declared.Point.{Point}
 use Rattle.points.specs.Points.{pointAt, floatsOf}
 use Rattle.points.specs.Model.{puts, turned, Within}
@@ -200,6 +199,3 @@ module _ {setup : Setup} (v : Valid setup) (slot s : ℕ) (hs : s < subchannels 
 
   pub row-laid : (points l l′ : List Float) → l′ ≡ puts (turned row by) (pointAt points) 48 l → l′ ≡ puts (standsAt setup slot s) (pointAt points) 48 l
   row-laid points l l′ q = q ∙ puts-as _ _ _ _ 48 l row-at (λ m h. refl)
-
-  pub row-taken : (place : ℕ) (grid l l′ : List Float) → l′ ≡ puts (λ m. place * 48 + m) (λ m. pointAt grid (turned row by m)) 48 l → l′ ≡ taken setup slot grid s place l
-  row-taken place grid l l′ q = q ∙ puts-as _ _ _ _ 48 l (λ m h. refl) (λ m h. ap (pointAt grid) (row-at m h))

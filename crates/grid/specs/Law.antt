@@ -2,10 +2,12 @@
 use mathlib.Core.Path.{_≡_}
 use mathlib.Core.Bool.{Bool, true, false}
 use mathlib.Core.List.{List, [], _∷_}
-use Prim.Native.Nat.{ℕ, _*_, _/_, _%_, _<_}
+use Prim.Native.Nat.{ℕ, _*_, _/_, _%_, _<_, _≤_}
+use lib.Dec.{ltb}
 use lib.ListN.{length}
 use lib.IntN.{ℤ}
 use lib.Ieee.{Float}
+use Rattle.base.specs.Choice.{pick}
 use Rattle.base.specs.Answer.{accepted}
 use Rattle.carriers.specs.Band.{usedOf}
 use Rattle.centre.specs.Centre.{onRow}
@@ -16,9 +18,9 @@ use Rattle.map.specs.Law.{Passes}
 use Rattle.mask.specs.Mask.{isMask, isLit, isUsedLit, litRank, allLit}
 use Rattle.points.specs.declared.Point.{Point}
 use Rattle.points.specs.Points.{zeroPoint, pointAt, floatsOf}
-use Rattle.lengths.specs.Length.{pointsLength, litPointsLength, gridLength}
+use Rattle.lengths.specs.Length.{gridPoints, pointsLength, litPointsLength, gridLength}
 use Rattle.grid.specs.Row.{carrierPosition}
-use Rattle.grid.specs.Grid.{Outcome, pointNumber, groundOf, layOf, filled, emptyOf, lookOf, nothing, pilot-with, data-with}
+use Rattle.grid.specs.Grid.{Outcome, pointNumber, groundOf, layOf, filled, emptyOf, emptyFirstOf, lookOf, nothing, pilot-with, data-with}
 
 -- a call that is accepted, and the buffer that it leaves
 abbrev pub Leaves : (o : Outcome) (buffer : List Float) → Type 0
@@ -102,6 +104,23 @@ pub record GridLaw : Type 0 where
   pub unlit-is-nothing : (setup : Setup) (mask symbol used : ℕ) (grid : List Float) → Passes setup → isMask (setup .mode) mask ≡ true → symbol < 512 * symbols setup
       → used < band setup .used → isUsedLit setup mask used ≡ false → length grid ≡ gridLength (setup .mode) (setup .size)
       → lookOf setup mask symbol grid (usedCarrier setup used) ≡ accepted nothing
+  -- Document 02, wish 6: emptying only the first carriers of the grid writes the points that stand on these and no other float. A lit subchannel's point whose carrier is among them is what the grid holds there; any other is as it was.
+  pub first-writes : (setup : Setup) (mask slot carriers : ℕ) (grid points next : List Float) → Leaves (emptyFirstOf setup mask slot carriers grid points) next
+      → (s index : ℕ) (place : Place) → isLit setup mask s ≡ true → placeOf setup slot s index ≡ accepted place
+      → pointAt next (pointNumber (litRank setup mask s) index)
+      ≡ pick (ltb (carrierPosition setup (place .symbol % symbols setup) (place .carrier)) carriers) (standing setup grid (place .symbol) (place .carrier))
+      (pointAt points (pointNumber (litRank setup mask s) index))
+  -- Document 02, wish 6: with a count of all carriers, or more, it is empty,
+  pub first-of-all : (setup : Setup) (mask slot carriers : ℕ) (grid points : List Float) → gridPoints setup ≤ carriers
+      → emptyFirstOf setup mask slot carriers grid points ≡ emptyOf setup mask slot grid points
+  -- a first count and then a larger one is the larger one alone, also where more has come into the grid since,
+  pub first-then-more : (setup : Setup) (mask slot fewer more : ℕ) (earlier grid points : List Float) → length earlier ≡ length grid → fewer ≤ more
+      → emptyFirstOf setup mask slot more grid (emptyFirstOf setup mask slot fewer earlier points .buffer) ≡ emptyFirstOf setup mask slot more grid points
+  -- and with a count of none nothing is written.
+  pub first-of-none : (setup : Setup) (mask slot : ℕ) (grid points : List Float) → emptyFirstOf setup mask slot 0 grid points .buffer ≡ points
+  -- Document 02, wish 6: there is no question about the count. It is refused where empty is, with the same number.
+  pub first-refused-alike : (setup : Setup) (mask slot carriers : ℕ) (grid points : List Float)
+      → emptyFirstOf setup mask slot carriers grid points .refusal ≡ emptyOf setup mask slot grid points .refusal
   -- An accepted move leaves the grid as long as it was.
   pub ground-keeps-length : (setup : Setup) (mask slot : ℕ) (p : Point) (old ground : List Float) → Leaves (groundOf setup mask slot p old) ground → length ground ≡ length old
   pub lay-keeps-length : (setup : Setup) (mask slot s : ℕ) (points grid next : List Float) → Leaves (layOf setup mask slot s points grid) next → length next ≡ length grid

@@ -1,21 +1,24 @@
-// Grids: a slot's ground, a subchannel's points laid on it, the lit subchannels' points taken off again, and a look at one
-// carrier.
+// Grids: a slot's ground, a subchannel's points laid on it, the lit subchannels' points taken off again by rising carrier, and
+// a look at one carrier.
 use map::Located;
 use map::Setup;
 use points::Point;
+use rows::Runs;
+use rows::Strides;
 ghost use mathlib.Core.Path.{_≡_};
-ghost use Prim.Native.Nat.{_+_, _*_, _%_, _<_};
+ghost use Prim.Native.Nat.{_+_, _*_, _%_, _<_, _≤_};
 ghost use lib.ListN.{length};
+ghost use Rattle.base.specs.Tabulate.{tabulate};
 ghost use Rattle.base.specs.Answer.{accepted};
-ghost use Rattle.map.specs.Mode.{symbols, subchannels, band};
+ghost use Rattle.map.specs.Mode.{symbols, band};
 ghost use Rattle.map.specs.Model.{Valid};
-ghost use Rattle.mask.specs.Mask.{litContent, litSubchannels, litRank};
-ghost use Rattle.rows.specs.Model.{TableOf, RunFlags};
+ghost use Rattle.mask.specs.Mask.{litContent, litSubchannels};
+ghost use Rattle.rows.specs.Model.{RunFlags, LitRuns, runCount, runsOf, runPlace, runPoints, runStride, pointStride, RowNumbers, RunTable, PlaceTable};
 ghost use Rattle.points.specs.Model.{putPoint};
 ghost use Rattle.lengths.specs.Length.{gridPoints};
 ghost use Rattle.grid.specs.Row.{position, usedPosition};
-ghost use Rattle.grid.specs.Grid.{grounded, groundOf, layOf, emptyOf, sight as sightOf, seen, lookOf};
-ghost use Rattle.grid.specs.Model.{pilotRow, takenLit};
+ghost use Rattle.grid.specs.Grid.{grounded, groundOf, layOf, emptiedFirst, emptyOf, emptyFirstOf, sight as sightOf, seen, lookOf};
+ghost use Rattle.grid.specs.Model.{pilotRow, RowWalked, runStart, dropped};
 
 // What `look` finds on a carrier, or the first refusal.
 pub enum Seen {
@@ -109,29 +112,135 @@ pub fn lay(
     0
 }
 
-// The points of one subchannel taken off the grid, where it is lit, to the place of its rank; answers the rank of the next.
-fn take(
+// The points on run i of a row, those among the first `carriers` of the grid, dropped at their numbers; none where it is not
+// lit.
+fn drop_run(
     setup: Setup,
     mask: usize,
     slot: usize,
-    subchannel: usize,
-    rank: usize,
-    table: &[u16; 48],
+    row: usize,
+    i: usize,
+    start: usize,
+    carriers: usize,
+    shape: Runs,
+    all: usize,
+    its_places: &[u16; 12],
+    lit: &[u8; 120],
+    strides: Strides,
+    numbers: &[u16; 1680],
     grid: &[f32],
     points: &mut [f32],
-) -> usize
+)
     requires { ⌜ Valid setup ⌝ }
-    requires { ⌜ (subchannel < subchannels setup) × (rank ≡ litRank setup mask subchannel) × (length (now points) ≡ 96 * litSubchannels setup mask) × (length (now grid) ≡ 2 * gridPoints setup) ⌝ }
-    requires { ⌜ TableOf setup slot (now table) ⌝ }
-    ensures { λ r. ⌜ (r ≡ litRank setup mask (subchannel + 1)) × (now (points .exit) ≡ takenLit setup mask slot (now (grid .entry)) subchannel (now (points .entry))) ⌝ }
+    requires { ⌜ (row < symbols setup) × (i < runCount setup) × (start ≡ runStart setup row i) × (start ≤ carriers) × (length (now points) ≡ 96 * litSubchannels setup mask) × (length (now grid) ≡ 2 * gridPoints setup) ⌝ }
+    requires { ⌜ (shape ≡ runsOf setup (slot * symbols setup + row)) × (all ≡ runPoints shape) × (now «its_places» ≡ tabulate 12 (runPlace shape)) × LitRuns setup mask (now lit) ⌝ }
+    requires { ⌜ (strides .run ≡ runStride setup) × (strides .point ≡ pointStride setup) × RowNumbers setup mask (slot * symbols setup + row) (now numbers) ⌝ }
+    ensures { λ _. ⌜ now (points .exit) ≡ dropped setup mask slot carriers row i (now (grid .entry)) (now (points .entry)) ⌝ }
 {
-    if !mask::is_lit(setup, mask, subchannel) {
-        return rank;
+    if rows::run_lit(setup, lit, i) == 0 {
+        return;
     }
-    let by = rows::shift(setup, subchannel);
-    let row = rows::carrier_row(setup, slot, subchannel, table);
-    points::take_row(&row, by, rank * 48, grid, points);
-    rank + 1
+    let n = rows::points_within(shape, all, carriers - start);
+    points::drop_run(
+        numbers,
+        i * strides.run,
+        strides.point,
+        its_places,
+        start,
+        n,
+        grid,
+        points,
+    );
+}
+
+// The same of all runs of a row, up to the first that lies past the first `carriers` of the grid.
+fn empty_row(
+    setup: Setup,
+    mask: usize,
+    slot: usize,
+    row: usize,
+    carriers: usize,
+    lit: &[u8; 120],
+    runs: &[u16; 120],
+    places: &[u16; 48],
+    grid: &[f32],
+    points: &mut [f32],
+)
+    requires { ⌜ Valid setup ⌝ }
+    requires { ⌜ (slot < 512) × (row < symbols setup) × (length (now points) ≡ 96 * litSubchannels setup mask) × (length (now grid) ≡ 2 * gridPoints setup) ⌝ }
+    requires { ⌜ LitRuns setup mask (now lit) × RunTable setup mask (now runs) × PlaceTable setup (now places) ⌝ }
+    ensures { λ _. ⌜ RowWalked setup mask slot carriers row (now (grid .entry)) (now (points .entry)) (now (points .exit)) ⌝ }
+{
+    let first = row * setup.size;
+    if carriers <= first {
+        return;
+    }
+    let shape = rows::symbol_runs(setup, slot * map::symbols(setup) + row);
+    let all = rows::run_points(shape);
+    let its_places = rows::run_places(shape);
+    let strides = rows::row_strides(setup);
+    let numbers = rows::row_numbers(setup, mask, slot, row, shape.count, runs, places);
+    let band = map::band(setup);
+    let mut i = 0;
+    while i < shape.count {
+        let start = first + carriers::carrier(band, i * shape.step);
+        if carriers <= start {
+            return;
+        }
+        drop_run(
+            setup,
+            mask,
+            slot,
+            row,
+            i,
+            start,
+            carriers,
+            shape,
+            all,
+            &its_places,
+            lit,
+            strides,
+            &numbers,
+            grid,
+            points,
+        );
+        i += 1;
+    }
+}
+
+// The points on the first `carriers` of the grid dropped at their numbers, row after row.
+fn empty_rows(
+    setup: Setup,
+    mask: usize,
+    slot: usize,
+    carriers: usize,
+    grid: &[f32],
+    points: &mut [f32],
+)
+    requires { ⌜ Valid setup ⌝ }
+    requires { ⌜ (mask < 64) × (slot < 512) × (length (now points) ≡ 96 * litSubchannels setup mask) × (length (now grid) ≡ 2 * gridPoints setup) ⌝ }
+    ensures { λ _. ⌜ now (points .exit) ≡ emptiedFirst setup mask slot carriers (now (grid .entry)) (now (points .entry)) ⌝ }
+{
+    let lit = rows::lit_runs(setup, mask);
+    let runs = rows::run_table(setup, mask);
+    let places = rows::place_table(setup);
+    let rows = map::symbols(setup);
+    let mut row = 0;
+    while row < rows {
+        empty_row(
+            setup,
+            mask,
+            slot,
+            row,
+            carriers,
+            &lit,
+            &runs,
+            &places,
+            grid,
+            points,
+        );
+        row += 1;
+    }
 }
 
 // Takes a slot's points off its grid, those of the lit subchannels; or the first refusal of 1, 2, 3, 17, 4, 8, 9.
@@ -142,14 +251,27 @@ pub fn empty(setup: Setup, mask: usize, slot: usize, grid: &[f32], points: &mut 
     if refusal != 0 {
         return refusal;
     }
-    let table = rows::table(setup, slot);
-    let n = map::subchannels(setup);
-    let mut rank = 0;
-    let mut subchannel = 0;
-    while subchannel < n {
-        rank = take(setup, mask, slot, subchannel, rank, &table, grid, points);
-        subchannel += 1;
+    empty_rows(setup, mask, slot, lengths::grid_points(setup), grid, points);
+    0
+}
+
+// Takes the points off the first `carriers` of the grid alone, guards, DC and pilots counted, and leaves the other points as
+// they are; or the first refusal of 1, 2, 3, 17, 4, 8, 9.
+pub fn empty_first(
+    setup: Setup,
+    mask: usize,
+    slot: usize,
+    carriers: usize,
+    grid: &[f32],
+    points: &mut [f32],
+) -> u8
+    ensures { λ r. ⌜ record { refusal = r; buffer = now (points .exit) } ≡ emptyFirstOf setup mask slot carriers (now (grid .entry)) (now (points .entry)) ⌝ }
+{
+    let refusal = lengths::empty_refusal(setup, mask, slot, points.len(), grid.len());
+    if refusal != 0 {
+        return refusal;
     }
+    empty_rows(setup, mask, slot, carriers, grid, points);
     0
 }
 

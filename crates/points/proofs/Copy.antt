@@ -32,11 +32,6 @@ module _ {place : ℕ → ℕ} {source : ℕ → Point} {n : ℕ} {dest₀ dest 
   putting-next h k e p f dest′ g =
       record { at-most = omega arith; so-far = rw (add-one m) (g ∙ ap₂ (putPoint dest) e f ∙ ap (λ (x : List Float). putPoint x (place m) (source m)) (t .so-far)) }
 
-  -- a run of k points more
-  pub putting-run : (k : ℕ) → m + k ≤ n → (dest′ : List Float) → dest′ ≡ puts (λ j. place (m + j)) (λ j. source (m + j)) k dest → Putting place source n dest₀ dest′ (m + k)
-  putting-run k h dest′ e =
-      record { at-most = h; so-far = e ∙ ap (puts (λ j. place (m + j)) (λ j. source (m + j)) k) (t .so-far) ∙ puts-more place source m k dest₀ }
-
   pub putting-done : n ≤ m → dest ≡ puts place source n dest₀
   putting-done h = t .so-far ∙ ap (λ (x : ℕ). puts place source x dest₀) (omega (arith, t .at-most))
 
@@ -46,10 +41,6 @@ run-within row floats q n m k long w h l e f = rw (e, f) (w (q + m) (omega arith
 
 pub still-within : (row : List ℕ) (floats long : ℕ) → Within row floats → long ≡ floats → Within row long
 still-within row floats long w e k h = rw e (w k h)
-
--- and so is point m of the n from `first` on
-pub run-below : (first n m floats long : ℕ) → (first + n) * 2 ≤ floats → m < n → long ≡ floats → (first + m) * 2 + 1 < long
-run-below first n m floats long h l e = omega arith
 
 -- a run of the first a points and one of the b that follow, by whatever way to say the places and the source
 two-runs : (place p₁ p₂ : ℕ → ℕ) (source s₁ s₂ : ℕ → Point) (a b : ℕ) (l l₁ l₂ : List Float) → l₁ ≡ puts p₁ s₁ a l → l₂ ≡ puts p₂ s₂ b l₁
@@ -79,12 +70,4 @@ module _ (row : List ℕ) (by : ℕ) (h : by < 48) where
     laid-runs e₁ e₂ =
         two-runs (turned row by) _ _ (pointAt other) _ _ (48 - by) by l l₁ l₂ e₁ e₂
         first-run (λ m i. ap (pointAt other) (omega arith)) second-run (λ m i. refl)
-        ∙ whole _ _ l
-
-    pub taken-runs : (first : ℕ) → l₁ ≡ puts (λ m. first + m) (λ m. pointAt other (entry row (by + m))) (48 - by) l
-        → l₂ ≡ puts (λ m. first + (48 - by) + m) (λ m. pointAt other (entry row (0 + m))) by l₁
-        → l₂ ≡ puts (λ m. first + m) (λ m. pointAt other (turned row by m)) 48 l
-    taken-runs first e₁ e₂ =
-        two-runs (λ m. first + m) _ _ (λ m. pointAt other (turned row by m)) _ _ (48 - by) by l l₁ l₂ e₁ e₂
-        (λ m i. refl) (λ m i. ap (pointAt other) (first-run m i)) (λ m i. omega arith) (λ m i. ap (pointAt other) (second-run m i))
         ∙ whole _ _ l

@@ -1,11 +1,11 @@
-// Points in lent buffers: one read, one put, a run of them copied by a row of places, and zeros.
+// Points in lent buffers: one read, one put, a run of them laid by a row of places or dropped at their numbers, and zeros.
 use base::wide16;
 ghost use mathlib.Core.Path.{_≡_};
 ghost use Prim.Native.Nat.{_+_, _*_, _<_, _≤_};
 ghost use lib.ListN.{length, replicate};
 ghost use Rattle.base.specs.Steps.{entry};
 ghost use Rattle.points.specs.Points.{zero32, pointAt};
-ghost use Rattle.points.specs.Model.{putPoint, puts, turned, Within};
+ghost use Rattle.points.specs.Model.{putPoint, puts, turned, Within, RunWithin};
 
 // A point, in-phase first.
 pub struct Point {
@@ -63,24 +63,26 @@ pub fn lay_row(row: &[u16; 48], by: usize, points: &[f32], grid: &mut [f32])
     lay_run(row, 0, by, 48 - by, points, grid);
 }
 
-// The n points from `first` on taken off the places of a row from q on.
-fn take_run(row: &[u16; 48], q: usize, n: usize, first: usize, grid: &[f32], points: &mut [f32])
-    requires { ⌜ (q + n ≤ 48) × ((first + n) * 2 ≤ length (now points)) × Within (now row) (length (now grid)) ⌝ }
-    ensures { λ _. ⌜ now (points .exit) ≡ puts (λ m. first + m) (λ m. pointAt (now (grid .entry)) (entry (now (row .entry)) (q + m))) n (now (points .entry)) ⌝ }
+// The first n points of a run of the grid, at their places from `start` on, dropped at their numbers, which stand from `from` on
+// in a table, `stride` apart.
+pub fn drop_run(
+    numbers: &[u16; 1680],
+    from: usize,
+    stride: usize,
+    places: &[u16; 12],
+    start: usize,
+    n: usize,
+    grid: &[f32],
+    points: &mut [f32],
+)
+    requires { ⌜ (n ≤ 12) × (start < 65536) × RunWithin (now numbers) from stride (now places) start n (length (now grid)) (length (now points)) ⌝ }
+    ensures { λ _. ⌜ now (points .exit) ≡ puts (λ j. entry (now (numbers .entry)) (from + j * stride)) (λ j. pointAt (now (grid .entry)) (start + entry (now (places .entry)) j)) n (now (points .entry)) ⌝ }
 {
-    let mut m = 0;
-    while m < n {
-        let k = wide16(row[q + m]);
-        put_point(points, first + m, point_at(grid, k));
-        m += 1;
+    let mut j = 0;
+    while j < n {
+        let number = wide16(numbers[from + j * stride]);
+        let place = start + wide16(places[j]);
+        put_point(points, number, point_at(grid, place));
+        j += 1;
     }
-}
-
-// The reverse: the 48 points from `first` on taken off such places.
-pub fn take_row(row: &[u16; 48], by: usize, first: usize, grid: &[f32], points: &mut [f32])
-    requires { ⌜ (by < 48) × ((first + 48) * 2 ≤ length (now points)) × Within (now row) (length (now grid)) ⌝ }
-    ensures { λ _. ⌜ now (points .exit) ≡ puts (λ m. first + m) (λ m. pointAt (now (grid .entry)) (turned (now (row .entry)) by m)) 48 (now (points .entry)) ⌝ }
-{
-    take_run(row, by, 48 - by, first, grid, points);
-    take_run(row, 0, by, first + (48 - by), grid, points);
 }
