@@ -1,4 +1,4 @@
--- The outcome of `bp_look`: the returned refusal and every out parameter as it is then. That of `bp_ground`, `bp_lay` and `bp_empty` is the engine's own.
+-- The outcome of `bp_look`: the returned refusal and every out parameter as it is then. That of `bp_ground`, `bp_lay`, `bp_empty` and `bp_empty_first` is the engine's own.
 use mathlib.Core.List.{List, [], _∷_}
 use Prim.Native.Nat.{ℕ}
 use lib.Ieee.{Float}

@@ -14,7 +14,7 @@ ghost use Rattle.map.specs.Place.{placeOf, locateOf};
 ghost use Rattle.collision.specs.Collision.{ofuscOf, amcOf};
 ghost use Rattle.capi.specs.Map.{PlaceOut, placeOut, LocateOut, locateOut};
 ghost use Rattle.capi.specs.Collision.{CollisionOut, collisionOut};
-ghost use Rattle.grid.specs.Grid.{groundOf, layOf, emptyOf, lookOf};
+ghost use Rattle.grid.specs.Grid.{groundOf, layOf, emptyOf, emptyFirstOf, lookOf};
 ghost use Rattle.lengths.specs.Length.{pointsLength, litPointsLength, gridLength};
 ghost use Rattle.capi.specs.Grid.{pairPoint, lookOut};
 ghost use Rattle.plan.specs.Read.{planOf, answered};
@@ -240,6 +240,25 @@ pub extern "C" fn bp_empty(
     let of = setup(mode, size, cell);
     let lit = mask as usize;
     let number = grid::empty(of, lit, slot as usize, grid, points);
+    number as u32
+}
+
+#[no_mangle]
+pub extern "C" fn bp_empty_first(
+    mode: u32,
+    size: u32,
+    cell: u32,
+    mask: u32,
+    slot: u32,
+    carriers: u32,
+    grid: &[f32],
+    points: &mut [f32],
+) -> u32
+    ensures { λ r. ⌜ record { refusal = r; buffer = now (points .exit) } ≡ emptyFirstOf (record { mode = mode; size = size; cell = cell }) mask slot carriers (now (grid .entry)) (now (points .entry)) ⌝ }
+{
+    let of = setup(mode, size, cell);
+    let lit = mask as usize;
+    let number = grid::empty_first(of, lit, slot as usize, carriers as usize, grid, points);
     number as u32
 }
 
