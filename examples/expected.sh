@@ -126,6 +126,31 @@ for word in "" x 0x3F 3F +7; do
 done
 expect 2 "" slot 0 2048 5 3
 
+expect 0 "128 of 256 carriers: 96 of 192 points
+256 of 256 carriers: 192 of 192 points
+points as emptied at once" capture 2 256 15 0 9
+# The middle one of PUSC uplink's three symbols has no pilots, and so twice as many points as each of the others.
+expect 0 "1024 of 6144 carriers: 420 of 3360 points
+2048 of 6144 carriers: 840 of 3360 points
+3072 of 6144 carriers: 1680 of 3360 points
+4096 of 6144 carriers: 2520 of 3360 points
+5120 of 6144 carriers: 2940 of 3360 points
+6144 of 6144 carriers: 3360 of 3360 points
+points as emptied at once" capture 1 2048 69 0 511
+expect 0 "1024 of 4096 carriers: 240 of 960 points
+2048 of 4096 carriers: 480 of 960 points
+3072 of 4096 carriers: 720 of 960 points
+4096 of 4096 carriers: 960 of 960 points
+points as emptied at once" capture 0 2048 5 3 3
+expect 1 "refused 1: Is the mode listed (in a plan: 0 or 2 to 6)?" capture 7 2048 5 3 3
+expect 1 "refused 2: Is the size that mode's (of a plan: 256, 512, 1024 or 2048)?" capture 2 0 0 0 0
+expect 1 "refused 3: Is the cell in range?" capture 0 2048 32 64 512
+expect 1 "$mask" capture 0 2048 31 64 512
+expect 1 "refused 4: Is the slot below 512, the zone's symbol below 512 times the slot length?" capture 0 2048 31 63 512
+expect 2 "" capture 0 2048 5 3
+expect 2 "" capture 0 2048 5 3 3 3
+expect 2 "" capture 0 2048 5 3 x
+
 expect 0 "size 2048
 mode 0 cell 0 slots 12 mask 63
 bytes 01 80 10 00 00 0C 3F" plan 01 80 10 00 00 0C 3F

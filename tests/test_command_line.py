@@ -313,6 +313,79 @@ class Plans(Case):
         self.refused(14, "plan write 2048 4,0,1,0")
 
 
+# --- a capture --------------------------------------------------------------------------------
+
+
+def first_text(mode, size, cell, mask, slot, carriers):
+    """How many points of each lit subchannel the reference places on the first carriers, and in all."""
+    text, total, lit = "", 0, ref.lit_subchannels(mode, size, mask)
+    for subchannel in lit:
+        places = [ref.place(mode, size, cell, slot, subchannel, index)[1:] for index in range(48)]
+        there = sum(ref.grid_at(mode, size, *place) < 2 * carriers for place in places)
+        text += "subchannel %d points %d of 48\n" % (subchannel, there)
+        total += there
+    return text + "points %d of %d\n" % (total, 48 * len(lit))
+
+
+class First(Case):
+    def test_to_the_byte(self):
+        self.prints(
+            "first 2 256 0 0 128",
+            "subchannel 0 points 24 of 48\n"
+            "subchannel 1 points 24 of 48\n"
+            "subchannel 2 points 24 of 48\n"
+            "subchannel 3 points 24 of 48\n"
+            "points 96 of 192\n",
+        )
+        both = "subchannel 52 points 0 of 48\nsubchannel 53 points 0 of 48\n"
+        self.assertIn(both, asked("first", 0, 2048, 5, 3, 184, "--mask", "0b100000").stdout.decode())
+
+    def test_every_mode_against_the_reference(self):
+        for mode in range(7):
+            for size in ref.sizes(mode):
+                cell, carriers = ref.cells(mode, size) - 1, size * ref.SLOT_LENGTH[mode]
+                for count in (0, 1, size // 3, size - 1, size, carriers // 2 + 5, carriers - size // 5, carriers):
+                    wanted = first_text(mode, size, cell, ref.full_mask(mode), 511, count)
+                    self.prints("first %d %d %d 511 %d" % (mode, size, cell, count), wanted)
+
+    def test_masks_against_the_reference(self):
+        for mask, cell, slot, count in ((1, 0, 0, 700), (42, 31, 511, 2500), (0b110000, 5, 7, 4000), (62, 17, 2, 1500)):
+            for word in (mask, hex(mask), bin(mask)):
+                line = "first 0 2048 %d %d %d --mask %s" % (cell, slot, count, word)
+                self.prints(line, first_text(0, 2048, cell, mask, slot, count))
+
+    def test_each_carrier_of_a_symbol(self):
+        """Of optional FUSC: each brings just the point that locate finds there."""
+        before = asked("first", 2, 256, 15, 2, 0).stdout.decode().splitlines()
+        for count, carrier in enumerate(range(-128, 128), 1):
+            after = asked("first", 2, 256, 15, 2, count).stdout.decode().splitlines()
+            located = asked("locate", 2, 256, 15, 2, carrier).stdout.decode().split()
+            changed = [line.split()[1] for line, old in zip(after[:-1], before) if line != old]
+            self.assertEqual(changed, located[4:5])
+            before = after
+
+    def test_counts_of_any_size(self):
+        wanted = first_text(4, 256, 176, 0, 1, 768)
+        for count in (768, 769, 2**31, 2**32 - 1, 2**32, 2**32 + 1, 2**64, "9" * 6000, "0" * 6000 + "768"):
+            self.prints("first 4 256 176 1 %s" % count, wanted)
+        for count in ("0", "-0", "000", "-000"):
+            self.prints("first 4 256 176 1 %s" % count, first_text(4, 256, 176, 0, 1, 0))
+        for count in ("-1", "-%d" % 2**32, "-" + "9" * 6000):
+            self.not_understood("first", 4, 256, 176, 1, count)
+        told = asked("first", 7, 256, 176, 1, -5).stderr.decode()
+        self.assertTrue(told.endswith(": error: argument CARRIERS: '-5' is not a count\n"), told)
+
+    def test_refusals(self):
+        self.refused(1, "first 7 2048 0 0 0")
+        self.refused(2, "first 0 1024 0 0 0")
+        self.refused(3, "first 0 2048 32 512 0 --mask 64")
+        self.refused(4, "first 0 2048 31 512 %d" % 2**32, "slot 512 is not one of a zone's: 0 to 511")
+        self.refused(4, "first 2 256 0 -1 0")
+        for mask in (0, 64, -1, 2**32 + 1, "0x40", "0b0"):
+            self.refused(17, "first 0 2048 31 512 0 --mask %s" % mask)
+        self.refused(17, "first 2 256 0 0 0 --mask=63", "mask 63 is not one of mode 2's: 0")
+
+
 # --- a symbol as text -------------------------------------------------------------------------
 
 
@@ -423,7 +496,12 @@ def drawn_slot(root):
     return found, told
 
 
-def slot_as_drawn(mode, size, cell, mask, slot, picked):
+def is_awaited(mode, size, symbol, carrier, what, carriers):
+    """Whether what the reference has on a carrier is data, and not among the first carriers where these are counted."""
+    return what[0] == ref.DATA and carriers is not None and ref.grid_at(mode, size, symbol, carrier) >= 2 * carriers
+
+
+def slot_as_drawn(mode, size, cell, mask, slot, picked, carriers=None):
     """The same from the reference."""
     first, found = slot * ref.SLOT_LENGTH[mode], {}
     for offset in range(ref.SLOT_LENGTH[mode]):
@@ -431,18 +509,19 @@ def slot_as_drawn(mode, size, cell, mask, slot, picked):
             what = ref.locate(mode, size, cell, first + offset, carrier)[1]
             data = "subchannel-%d" % what[2] if what[0] == ref.DATA and picked in (None, what[2]) else "other"
             lit = data if what[0] == ref.DATA else what[0]
+            if is_awaited(mode, size, first + offset, carrier, what, carriers):
+                lit = "awaited"
             found[offset, carrier] = "unlit" if is_unlit(mode, size, cell, mask, carrier, what) else lit
     return found
 
 
-def is_told(title, symbol, carrier, what, unlit):
-    """Whether a title says of this symbol and carrier what the reference has there."""
+def is_told(title, symbol, carrier, what, more):
+    """Whether a title says of this symbol and carrier what the reference has there, and this behind it."""
     where, content = title.split(": ")
     carriers = re.fullmatch(r"symbol (\d+), carriers? (-?\d+)(?: to (-?\d+))?", where).groups()
     first, last = int(carriers[1]), int(carriers[2] or carriers[1])
     wanted = "subchannel %d, index %d" % what[2:] if what[0] == ref.DATA else NAMES.get(what[0], what[0])
-    wanted += ", unlit" if unlit else ""
-    return int(carriers[0]) == symbol and first <= carrier <= last and content == wanted
+    return int(carriers[0]) == symbol and first <= carrier <= last and content == wanted + more
 
 
 def reference_places(mode, size, cell, slot, subchannel):
@@ -469,15 +548,17 @@ def carrier_axis(part):
 
 
 class Pictures(Case):
-    def every_carrier(self, root, mode, size, cell, mask, slot, picked):
+    def every_carrier(self, root, mode, size, cell, mask, slot, picked, carriers=None):
         """What is drawn, and told of it, is the reference's."""
         found, told = drawn_slot(root)
-        self.assertEqual(found, slot_as_drawn(mode, size, cell, mask, slot, picked))
+        self.assertEqual(found, slot_as_drawn(mode, size, cell, mask, slot, picked, carriers))
         for (offset, carrier), title in told.items():
             symbol = slot * ref.SLOT_LENGTH[mode] + offset
             what = ref.locate(mode, size, cell, symbol, carrier)[1]
+            awaited = is_awaited(mode, size, symbol, carrier, what, carriers)
             unlit = is_unlit(mode, size, cell, mask, carrier, what)
-            self.assertTrue(is_told(title, symbol, carrier, what, unlit), title)
+            more = ", unlit" if unlit else ", not arrived yet" if awaited else ""
+            self.assertTrue(is_told(title, symbol, carrier, what, more), title)
 
     def test_every_carrier_of_a_slot(self):
         slots = [(0, 2048, 5, 3), (1, 2048, 69, 511), (2, 256, 15, 2), (3, 1024, 2351, 1)]
@@ -517,6 +598,31 @@ class Pictures(Case):
                 hatched = [number for number, fill in enumerate(scale) if fill in unlit]
                 lit = ref.lit_subchannels(0, 2048, mask)
                 self.assertEqual(hatched, [number for number in range(60) if number not in lit])
+
+    def test_slots_of_which_some_carriers_have_arrived(self):
+        slots = [(0, 2048, 5, 3, 3, None, 2500), (0, 2048, 31, 42, 511, 15, 1000), (1, 2048, 69, 0, 0, None, 5000)]
+        slots += [(2, 256, 15, 0, 2, 3, 100), (3, 256, 2351, 0, 1, None, 0), (4, 256, 176, 0, 1, None, 400)]
+        slots += [(5, 256, 48, 0, 511, 7, 257), (6, 256, 0, 0, 2, None, 1300)]
+        for mode, size, cell, mask, slot, picked, carriers in slots:
+            pick = [] if picked is None else ["--subchannel", picked]
+            root = drawing("slot", mode, size, cell, slot, "--mask", mask, "--carriers", carriers, *pick)
+            self.every_carrier(root, mode, size, cell, mask, slot, picked, carriers)
+            pale = {part.get("fill") for part in of_class(root, "g", "awaited")}
+            kinds = of_class(root, "g", "legend")[0]
+            self.assertEqual((texts(kinds)[-1], {kinds[-2].get("fill")}), ("data, not arrived yet", pale))
+            others = {part.get("fill") for part in root.iter(SVG + "g") if part.get("class") != "awaited"}
+            self.assertEqual((len(pale), pale & others), (1, set()))
+            lit = ", mask %d" % mask if mode == ref.PUSC_DL else ""
+            out = "" if picked is None else ", subchannel %d picked out" % picked
+            title = "%s (mode %d), size %d, cell %d, slot %d%s, first %d carriers%s"
+            name = refusals.MODES[mode].name
+            self.assertEqual(root.find(SVG + "title").text, title % (name, mode, size, cell, slot, lit, carriers, out))
+
+    def test_where_all_has_arrived_nothing_is_pale(self):
+        for slot, carriers in (([4, 256, 176, 1], 768), ([0, 2048, 5, 3, "--mask", 3], 4096)):
+            plain = asked("picture", "slot", *slot).stdout
+            for count in (carriers, carriers + 1, 2**32, "9" * 6000):
+                self.assertEqual(asked("picture", "slot", *slot, "--carriers", count).stdout, plain)
 
     def test_where_all_is_lit_nothing_is_hatched(self):
         plain = asked("picture", "slot", 0, 2048, 5, 3).stdout
@@ -650,6 +756,10 @@ class Pictures(Case):
         self.refused(4, "picture slot 0 2048 0 -1 --subchannel -1")
         self.refused(5, "picture slot 0 2048 0 0 --subchannel 60")
         self.refused(5, "picture slot 0 2048 0 0 --mask 1 --subchannel 12")
+        self.refused(4, "picture slot 0 2048 0 512 --carriers 5")
+        self.not_understood(*"picture slot 0 2048 0 512 --carriers -1".split())
+        self.not_understood(*"picture slot 0 2048 0 0 --carriers".split())
+        self.not_understood(*"picture slot 0 2048 0 0 --carriers x".split())
         self.refused(3, "picture subchannel 0 2048 0,32 0 1")
         self.refused(3, "picture subchannel 0 2048 -1,0 0 1")
         self.refused(4, "picture subchannel 0 2048 0 512 60")
@@ -672,13 +782,14 @@ def numbered(count):
 
 # --- usage ------------------------------------------------------------------------------------
 
-COMMANDS = "place|locate|collisions ofusc|collisions amc|plan read|plan write|show|picture slot|picture subchannel"
+COMMANDS = "place|locate|first|collisions ofusc|collisions amc|plan read|plan write|show"
+COMMANDS += "|picture slot|picture subchannel"
 
 
 class Usage(Case):
     def test_help(self):
         text = run("--help").stdout.decode()
-        for word in "place locate collisions plan show picture refused".split():
+        for word in "place locate first collisions plan show picture refused".split():
             self.assertIn(word, text)
         for words in ("PUSC downlink", "PUSC uplink", "optional FUSC", "AMC 6x1", "256 512 1024 2048", "0..2351"):
             self.assertIn(words, text)
@@ -691,8 +802,9 @@ class Usage(Case):
         self.assertIn("%s and %s." % (", ".join(told[:-1]), told[-1]), command_line.RANGES.replace("\n", " "))
         for name in COMMANDS.split("|"):
             text = asked(*name.split(), "--help").stdout.decode()
-            self.assertEqual("--mask MASK" in text, name in ("show", "picture slot"), name)
+            self.assertEqual("--mask MASK" in text, name in ("first", "show", "picture slot"), name)
             self.assertEqual("MODE,CELL,SLOTS,MASK" in text, name == "plan write", name)
+            self.assertEqual("--carriers CARRIERS" in text, name == "picture slot", name)
 
     def test_ranges_of_the_help(self):
         row = r"^  (\d)  ([\w ]+?)  +([\d ]+?)  +0\.\.(\S+) +0\.\.(\S+) +(\d)$"
@@ -726,7 +838,7 @@ class Usage(Case):
             if output:
                 self.prints(line.removeprefix("./bellpulsar "), "".join(part + "\n" for part in output))
                 tried += 1
-        self.assertGreaterEqual(tried, 6)
+        self.assertGreaterEqual(tried, 7)
 
     def test_examples_of_the_readme(self):
         with open(os.path.join(ROOT, "README.md")) as file:
@@ -742,7 +854,8 @@ class Usage(Case):
         lines += ["plan", "plan read", "plan read 01 --file x", "plan write", "picture slot 0 2048 0 1 --output"]
         lines += ["picture subchannel 0 2048 0 1", "picture subchannel 0 2048 0, 1 1", "show 0 2048 0 0 --mask"]
         lines += ["place 0 2048 0 0 0 0 --mask 63", "locate 0 2048 0 0 0 --mask 63", "show 0 2048 0 0 63"]
-        lines += ["picture subchannel 0 2048 0 0 0 --mask 63"]
+        lines += ["picture subchannel 0 2048 0 0 0 --mask 63", "first 2 256 0 0", "first 2 256 0 0 128 0"]
+        lines += ["first 2 256 0 0 --carriers 128", "first 2 256 0 0 128 --subchannel 1", "first 0 2048 0 0 0 --mask"]
         for line in lines:
             self.not_understood(*line.split())
         done = run("place", 2, 1024, 17, 0, 0, " 1")
@@ -753,6 +866,7 @@ class Usage(Case):
         words = ["x", "1.0", "0x10", "1_000", "", "1 2", "+1", "--1", "-", "1e3", "\u0663", "12\n3x", "-1.svg"]
         for word in words + [" 1", "1 ", "\t1", "1\n", " -1", "- 1", "-1 ", "-\u0663"]:
             self.not_understood("place", 2, 1024, 17, 0, 0, word)
+            self.not_understood("first", 2, 1024, 17, 0, word)
             self.not_understood("show", 2, 1024, 17, 0, "--subchannel", word)
             self.not_understood("plan", "write", 1024, "2,%s,1,0" % word)
             if word != "0x10":

@@ -258,6 +258,12 @@ def empty_with(mode, size, cell, mask, slot, points_len, grid_len):
         bp.empty(mode, size, cell, slot, grid, points, mask=mask)
 
 
+def empty_first_with(mode, size, cell, mask, slot, points_len, grid_len):
+    points, grid = floats(points_len, 3.0), floats(grid_len)
+    with kept_by_refusals(points, grid):
+        bp.empty_first(mode, size, cell, slot, 100, grid, points, mask=mask)
+
+
 def look_with(mode, size, cell, mask, symbol, grid_len, carrier):
     bp.look(mode, size, cell, symbol, floats(grid_len), carrier, mask=mask)
 
@@ -275,6 +281,7 @@ def calls_of(mode, size):
     yield lay_with, ref.lay_refusal, (*lit, 511, subs - 1, 96, grid), (*unlit, 512, subs, points, grid - 2)
     yield fill_with, ref.buffers_refusal, (*lit, 511, points, grid), (*unlit, 512, points + 1, grid + 1)
     yield empty_with, ref.buffers_refusal, (*lit, 511, points, grid), (*unlit, 512, points - 1, grid - 1)
+    yield empty_first_with, ref.buffers_refusal, (*lit, 511, points, grid), (*unlit, 512, points + 2, grid + 2)
     yield (
         look_with,
         ref.look_refusal,
@@ -296,6 +303,7 @@ def amc_refusal(cell_a, cell_b):
 
 AMC_COLLISIONS = (bp.amc_collisions, amc_refusal, (2351, 2351), (2352, 2352))
 LENGTHS = {ground_with: (5,), lay_with: (6, 7), fill_with: (5, 6), empty_with: (5, 6), look_with: (5,)}
+LENGTHS[empty_first_with] = (5, 6)
 CARRIERS = {bp.locate: 4, look_with: 6}
 
 
@@ -367,6 +375,7 @@ class Refusals(unittest.TestCase):
             self.assertEqual(refusal(bp.lay, 2, 1024, 255, 512, 16, wrong, wrong[:0], mask=mask), 17)
             self.assertEqual(refusal(bp.fill, 2, 1024, 255, 512, (1, 0), wrong, wrong[:0], mask=mask), 17)
             self.assertEqual(refusal(bp.empty, 2, 1024, 255, 512, wrong[:0], wrong, mask=mask), 17)
+            self.assertEqual(refusal(bp.empty_first, 2, 1024, 255, 512, 0, wrong[:0], wrong, mask=mask), 17)
             self.assertEqual(refusal(bp.look, 2, 1024, 255, 512, wrong, 512, mask=mask), 17)
         self.assertEqual(refusal(bp.look, 2, 1024, 255, 0, wrong, 512), 7)
         self.assertEqual(refusal(bp.look, 2, 1024, 255, 0, wrong, 511), 9)
@@ -705,6 +714,11 @@ class Masks(unittest.TestCase):
             again = random_bits(rng, len(points))
             bp.empty(*setup, one, as_floats(again), mask=full)
             self.assertEqual(again, points)
+            again, other = random_bits(rng, len(points)), random_bits(rng, len(points))
+            for mask in (None, full):
+                bp.empty_first(*setup, MOST, one, as_floats(again))
+                bp.empty_first(*setup, MOST, one, as_floats(other), mask=mask)
+                self.assertEqual((again, other), (points, points))
             symbol = 2 * ref.SLOT_LENGTH[mode]
             for carrier in range(-20, 20):
                 seen = [repr(bp.look(*setup[:3], symbol, one, carrier, mask=mask)) for mask in (None, full)]
@@ -793,6 +807,7 @@ class Masks(unittest.TestCase):
                 self.assertEqual(refusal(lay_with, *setup, 0, 0, 96, grid), 17)
                 self.assertEqual(refusal(fill_with, *setup, 0, points, grid), 17)
                 self.assertEqual(refusal(empty_with, *setup, 0, points, grid), 17)
+                self.assertEqual(refusal(empty_first_with, *setup, 0, points, grid), 17)
                 self.assertEqual(refusal(look_with, *setup, 0, grid, 0), 17)
                 self.assertEqual(bp.lit_points_len(mode, size, mask), 0)
 
@@ -802,15 +817,121 @@ class Masks(unittest.TestCase):
             for length in (0, 96, lit - 96, lit - 1, lit + 1, lit + 96, 5760):
                 self.assertEqual(refusal(fill_with, 0, 2048, 0, mask, 0, length, 8192), 8)
                 self.assertEqual(refusal(empty_with, 0, 2048, 0, mask, 0, length, 8192), 8)
+                self.assertEqual(refusal(empty_first_with, 0, 2048, 0, mask, 0, length, 8192), 8)
 
     def test_given_by_name(self):
         grid = grid_for(0, 2048)
-        for call, fields in ((bp.ground, ((1, 2), grid)), (bp.look, (grid, 0))):
+        points = points_for(0, 2048)
+        for call, fields in ((bp.ground, ((1, 2), grid)), (bp.look, (grid, 0)), (bp.empty_first, (0, grid, points))):
             self.assertRaises(TypeError, call, 0, 2048, 0, 0, *fields, 63)
         for mask in (1.0, "1", b"1", [1]):
             self.assertRaises(TypeError, bp.ground, 0, 2048, 0, 0, (1, 2), grid, mask=mask)
             self.assertRaises(TypeError, bp.lit_points_len, 0, 2048, mask)
         self.assertEqual(grid, grid_for(0, 2048))
+
+
+def emptied(mode, size, cell, mask, slot, carriers, grid, before):
+    """The bits of the points after their first carriers are emptied; the grid stays as it is."""
+    points, kept = before[:], grid[:]
+    bp.empty_first(mode, size, cell, slot, carriers, as_floats(grid), as_floats(points), mask=mask)
+    assert grid == kept
+    return points
+
+
+class FirstCarriers(unittest.TestCase):
+    """Emptying the first carriers of a grid alone, to the bit, whatever grid and points hold."""
+
+    def lent(self, rng, mode, size, mask):
+        """Bits of a grid and of its points, all different: NaNs of both kinds with payloads, and numbers."""
+        grid_len, points_len = ref.grid_floats(mode, size), ref.lit_points_len(mode, size, mask)
+        both = array("I", [rng.choice((0x7F810000, 0xFFC10000, 0x3F810000)) + n for n in range(grid_len + points_len)])
+        return both[:grid_len], both[grid_len:]
+
+    def test_every_count_of_small_grids(self):
+        """One carrier more writes its own point and no other float; which point that is, look says."""
+        rng = random.Random(21)
+        for mode, cell, slot in ((2, 15, 7), (3, 2351, 511), (4, 48, 2), (5, 176, 1), (6, 1000, 100)):
+            setup, length = (mode, 256, cell, 0, slot), ref.SLOT_LENGTH[mode]
+            grid, before = self.lent(rng, mode, 256, 0)
+            wanted = before[:]
+            self.assertEqual(emptied(*setup, 0, grid, before), before)
+            for place in range(256 * length):
+                offset, column = divmod(place, 256)
+                seen = bp.look(mode, 256, cell, slot * length + offset, as_floats(grid), column - 128)
+                if seen.kind is Kind.DATA:
+                    at = 96 * seen.subchannel + 2 * seen.index
+                    wanted[at : at + 2] = grid[2 * place : 2 * place + 2]
+                self.assertEqual(emptied(*setup, place + 1, grid, before), wanted, (setup, place))
+            whole = before[:]
+            bp.empty(mode, 256, cell, slot, as_floats(grid), as_floats(whole))
+            self.assertEqual(wanted, whole)
+
+    def test_all_of_them_is_empty(self):
+        rng = random.Random(22)
+        for mode, size in SETUPS:
+            for mask in (1, 42, 63) if mode == ref.PUSC_DL else (0,):
+                setup = (mode, size, rng.randrange(ref.cells(mode, size)), mask, rng.randrange(512))
+                grid, before = self.lent(rng, mode, size, mask)
+                _, whole = ref.empty(*setup, grid.tolist(), before.tolist())
+                for carriers in (len(grid) // 2, len(grid) // 2 + 1, 2**31, MOST, 2**32, 2**32 + 1, 2**64, HUGE):
+                    self.assertEqual(emptied(*setup, carriers, grid, before), array("I", whole), (setup, carriers))
+
+    def test_points_on_the_first_carriers_alone(self):
+        """Where the reference places them, for masks too."""
+        rng = random.Random(23)
+        setups = [(mode, size, ref.full_mask(mode)) for mode, size in SETUPS]
+        for mode, size, mask in setups + [(0, 2048, mask) for mask in ref.masks(0)]:
+            setup = (mode, size, rng.randrange(ref.cells(mode, size)), mask, rng.randrange(512))
+            grid, before = self.lent(rng, mode, size, mask)
+            places = {}
+            for subchannel, index in itertools.product(ref.lit_subchannels(mode, size, mask), range(48)):
+                at = ref.grid_at(mode, size, *ref.place(*setup[:3], setup[4], subchannel, index)[1:])
+                places[at // 2] = ref.points_at(mode, size, mask, subchannel, index)
+            edge, last = rng.choice(list(places)), len(grid) // 2 - 1  # edge + 1 carriers just have a point
+            for carriers in (0, 1, size // 2, size - 1, edge, edge + 1, rng.randrange(last), last):
+                wanted = before[:]
+                for place, at in places.items():
+                    if place < carriers:
+                        wanted[at : at + 2] = grid[2 * place : 2 * place + 2]
+                self.assertEqual(emptied(*setup, carriers, grid, before), wanted, (setup, carriers))
+
+    def test_a_larger_count_after_a_smaller_one(self):
+        """Is the larger alone; a smaller one after it changes nothing more. What has not arrived is not read."""
+        rng = random.Random(24)
+        for mode, size in SETUPS:
+            mask = rng.choice(ref.masks(mode))
+            setup = (mode, size, rng.randrange(ref.cells(mode, size)), mask, rng.randrange(512))
+            grid, before = self.lent(rng, mode, size, mask)
+            for _ in range(4):
+                less, more = sorted(rng.choices(range(len(grid) // 2 + 9), k=2))
+                alone = emptied(*setup, more, grid, before)
+                arrived = grid[: 2 * less] + random_bits(rng, len(grid) - 2 * less)
+                self.assertEqual(emptied(*setup, more, grid, emptied(*setup, less, arrived, before)), alone)
+                self.assertEqual(emptied(*setup, less, grid, alone), alone)
+                self.assertEqual(emptied(*setup, less, arrived, before), emptied(*setup, less, grid, before))
+
+    def test_no_question_about_the_count(self):
+        """Whatever it is, the first question that fails is that of empty."""
+        points, grid = 384, 512
+        good, past = (2, 256, 15, 0, 511, points, grid), (7, 255, 16, 1, 512, points - 96, grid - 2)
+        for bad in itertools.product((False, True), repeat=len(good)):
+            fields = [past[at] if bad[at] else good[at] for at in range(len(good))]
+            mode, size, cell, mask, slot, points_len, grid_len = fields
+            for carriers in (0, 1, 256, 257, 2**31, MOST, 2**32, HUGE):
+                lent = floats(grid_len), floats(points_len, 3.0)
+                met = refusal(bp.empty_first, mode, size, cell, slot, carriers, *lent, mask=mask)
+                self.assertEqual(met, ref.buffers_refusal(*fields), (fields, carriers))
+                self.assertTrue(met == 0 or lent == (floats(grid_len), floats(points_len, 3.0)))
+
+    def test_whatever_counts_as_an_integer_is_a_count(self):
+        class Index:
+            def __index__(self):
+                return 200
+
+        grid, before = self.lent(random.Random(25), 3, 256, 0)
+        setup = (3, 256, 7, 0, 1)
+        self.assertEqual(emptied(*setup, Index(), grid, before), emptied(*setup, 200, grid, before))
+        self.assertEqual(emptied(*setup, False, grid, before), before)
 
 
 class Lengths(unittest.TestCase):
@@ -853,6 +974,9 @@ class Lending(unittest.TestCase):
             taken = floats(len(points) + 9, 6.0)
             bp.empty(mode, size, 1, 3, memoryview(large)[5 : 5 + length], memoryview(taken)[2:-7])
             self.assertEqual(taken, floats(2, 6.0) + points + floats(7, 6.0))
+            taken = floats(len(points) + 9, 6.0)
+            bp.empty_first(mode, size, 1, 3, length, memoryview(large)[5 : 5 + length], memoryview(taken)[2:-7])
+            self.assertEqual(taken, floats(2, 6.0) + points + floats(7, 6.0))
 
     def test_every_kind_of_buffer(self):
         points, plain = points_for(3, 512), grid_for(3, 512)
@@ -879,6 +1003,9 @@ class Lending(unittest.TestCase):
             self.assertEqual(memoryview(grid).tobytes(), plain.tobytes())
             again = floats(len(points))
             bp.empty(3, 512, 100, 1, memoryview(grid).toreadonly(), again)
+            self.assertEqual(again, points)
+            again = floats(len(points))
+            bp.empty_first(3, 512, 100, 1, 512, memoryview(grid).toreadonly(), again)
             self.assertEqual(again, points)
 
     def test_every_kind_of_buffer_in_two_moves(self):
@@ -923,6 +1050,7 @@ class Lending(unittest.TestCase):
         bp.lay(1, 2048, 0, 0, 69, own(source, 69), grid)
         bp.fill(1, 2048, 0, 0, (1, 2), source, grid)
         bp.empty(1, 2048, 0, 0, grid, points)
+        bp.empty_first(1, 2048, 0, 0, 5000, grid, points)
         bp.look(1, 2048, 0, 0, grid, 500)
         peak = tracemalloc.get_traced_memory()[1]
         tracemalloc.stop()
@@ -937,6 +1065,7 @@ class Lending(unittest.TestCase):
             refusal(bp.lay, 2, 256, cell, 0, 0, own, grid)
             refusal(bp.fill, 2, 256, cell, 0, pilot, points, grid)
             refusal(bp.empty, 2, 256, cell, 0, grid, points)
+            refusal(bp.empty_first, 2, 256, cell, 0, 100, grid, points)
             refusal(bp.look, 2, 256, cell, 0, grid, 0)
             refusal(bp.plan_bytes, 256, [(2, cell, 1, 0)])
             refusal(bp.plan_write, 1, 256, [(2, cell, 1, 0)] + [UNUSED] * 7, dest)
@@ -947,6 +1076,8 @@ class Lending(unittest.TestCase):
         self.assertRaises(TypeError, bp.ground, 2, 256, 0, 0, pilot, dest)
         self.assertRaises(ValueError, bp.lay, 2, 256, 0, 0, 0, grid, grid)
         self.assertRaises(TypeError, bp.lay, 2, 256, 0, 0, 0, points, dest)
+        self.assertRaises(ValueError, bp.empty_first, 2, 256, 0, 0, 100, grid, grid)
+        self.assertRaises(ValueError, bp.empty_first, 2, 256, 0, 0, -1, grid, points)
         for buffer in (points, own, grid, dest, pilot):
             buffer.append(0)
 
@@ -958,6 +1089,8 @@ class Lending(unittest.TestCase):
             self.assertEqual(refusal(bp.fill, 2, 256, 0, 0, (1, 2), none, none), 8)
             self.assertEqual(refusal(bp.fill, 2, 256, 0, 0, (1, 2), points_for(2, 256), none), 9)
             self.assertEqual(refusal(bp.empty, 2, 256, 0, 0, none, none), 8)
+            self.assertEqual(refusal(bp.empty_first, 2, 256, 0, 0, 0, none, none), 8)
+            self.assertEqual(refusal(bp.empty_first, 2, 256, 0, 0, 0, none, points_for(2, 256)), 9)
             self.assertEqual(refusal(bp.look, 2, 256, 0, 0, none, 0), 9)
 
     def test_refused_calls_write_nothing(self):
@@ -970,6 +1103,7 @@ class Lending(unittest.TestCase):
                 self.assertTrue(refusal(bp.lay, *fields, 0, own(points, 0), grid))
                 self.assertTrue(refusal(bp.fill, *fields, (1, 2), points, grid))
                 self.assertTrue(refusal(bp.empty, *fields, grid, points))
+                self.assertTrue(refusal(bp.empty_first, *fields, MOST, grid, points))
             self.assertEqual(refusal(bp.ground, mode, size, 0, 0, (1, 2), short[1]), 9)
             for subchannel in (ref.subchannels(mode, size), -1, 2**32):
                 self.assertEqual(refusal(bp.lay, mode, size, 0, 0, subchannel, own(points, 0), grid), 5)
@@ -981,6 +1115,8 @@ class Lending(unittest.TestCase):
             self.assertEqual(refusal(bp.fill, mode, size, 0, 0, (1, 2), points, short[1]), 9)
             self.assertEqual(refusal(bp.empty, mode, size, 0, 0, grid, short[0]), 8)
             self.assertEqual(refusal(bp.empty, mode, size, 0, 0, short[1], points), 9)
+            self.assertEqual(refusal(bp.empty_first, mode, size, 0, 0, MOST, grid, short[0]), 8)
+            self.assertEqual(refusal(bp.empty_first, mode, size, 0, 0, MOST, short[1], points), 9)
             self.assertEqual((points, grid), (points_for(mode, size), grid_for(mode, size)))
             self.assertEqual(short, (points[:-1], grid[:-1]))
 
@@ -995,13 +1131,14 @@ class NoRefusal(unittest.TestCase):
         with self.assertRaises(error) as caught:
             call(*fields)
         self.assertNotIsInstance(caught.exception, bp.Refusal)
-        self.assertRegex(str(caught.exception), "^(points|grid|pilot|zones|dest|data)( and grid|:)")
+        self.assertRegex(str(caught.exception), "^(points|grid|pilot|carriers|zones|dest|data)( and grid|:)")
         self.assertEqual((self.points, self.grid), (points_for(2, 256), grid_for(2, 256)))
 
     def fails_everywhere(self, error, points, grid):
         """Of the two buffers one is bad; the other is good."""
         self.fails(error, bp.fill, 2, 256, 0, 0, (1, 2), points, grid)
         self.fails(error, bp.empty, 2, 256, 0, 0, grid, points)
+        self.fails(error, bp.empty_first, 2, 256, 0, 0, 100, grid, points)
         self.fails(error, bp.lay, 2, 256, 0, 0, 0, own(points, 0) if points is self.points else points, grid)
         if grid is not self.grid:
             self.fails(error, bp.look, 2, 256, 0, 0, grid, 0)
@@ -1035,6 +1172,7 @@ class NoRefusal(unittest.TestCase):
             self.fails(BufferError, bp.fill, 2, 256, 0, 0, (1, 2), self.points, grid)
         self.assertEqual(kept, bytes(2048))
         self.fails(BufferError, bp.empty, 2, 256, 0, 0, self.grid, memoryview(self.points).toreadonly())
+        self.fails(BufferError, bp.empty_first, 2, 256, 0, 0, 0, self.grid, memoryview(self.points).toreadonly())
         kept = bytes(64)
         self.fails(BufferError, bp.plan_write, 1, 1024, [(2, 0, 1, 0)] + [UNUSED] * 7, kept)
         self.assertEqual(kept, bytes(64))
@@ -1073,10 +1211,12 @@ class NoRefusal(unittest.TestCase):
             points, grid = memoryview(memory)[at : at + 384], memoryview(memory)[:512]
             self.fails(ValueError, bp.fill, 2, 256, 0, 0, (1, 2), points, grid)
             self.fails(ValueError, bp.empty, 2, 256, 0, 0, grid, points)
+            self.fails(ValueError, bp.empty_first, 2, 256, 0, 0, 0, grid, points)
             self.fails(ValueError, bp.lay, 2, 256, 0, 0, 0, points[:96], grid)
             grid = memoryview(memory)[at + 383 : at + 383 + 512]
             self.fails(ValueError, bp.fill, 2, 256, 0, 0, (1, 2), points, grid)
             self.fails(ValueError, bp.empty, 2, 256, 0, 0, grid, points)
+            self.fails(ValueError, bp.empty_first, 2, 256, 0, 0, 0, grid, points)
             self.fails(ValueError, bp.lay, 2, 256, 0, 0, 0, points[-96:], grid)
             self.assertEqual(memory, floats(1024))
 
@@ -1086,6 +1226,8 @@ class NoRefusal(unittest.TestCase):
         bp.fill(2, 256, 0, 0, (1, 2), view[:384], view[384:])
         self.assertEqual(memory[:384], floats(384))
         bp.empty(2, 256, 0, 0, view[:512], view[512:])
+        bp.empty_first(2, 256, 0, 0, 100, view[:512], view[512:])
+        bp.empty_first(2, 256, 0, 0, 100, view[384:], view[:384])
         bp.lay(2, 256, 0, 0, 3, view[512 : 512 + 96], view[:512])
         bp.lay(2, 256, 0, 0, 3, view[384 - 96 : 384], view[384:])
         self.assertEqual(refusal(bp.lay, 2, 256, 0, 0, 0, view[5:5], view[:512]), 8)
@@ -1100,6 +1242,16 @@ class NoRefusal(unittest.TestCase):
         self.fails(TypeError, bp.lay, 9, 256, 0, 0, 0, array("d"), self.grid)
         self.fails(ValueError, bp.lay, 9, 256, 0, 0, 0, self.grid, self.grid)
         self.fails(ValueError, bp.empty, 9, 256, 0, 0, self.grid, self.grid)
+        self.fails(ValueError, bp.empty_first, 9, 256, 0, 0, 0, self.grid, self.grid)
+        self.fails(ValueError, bp.empty_first, 9, 256, 0, 0, -1, self.grid, self.points)
+
+    def test_counts_of_carriers(self):
+        """A negative one is none; what is no integer is no count."""
+        for carriers in (-1, -256, -(2**31), -(2**32), 1 - 2**32, -HUGE):
+            self.fails(ValueError, bp.empty_first, 2, 256, 0, 0, carriers, self.grid, self.points)
+        for carriers in (1.0, "1", None, b"1", 2 + 0j):
+            self.assertRaises(TypeError, bp.empty_first, 2, 256, 0, 0, carriers, self.grid, self.points)
+        self.assertEqual((self.points, self.grid), (points_for(2, 256), grid_for(2, 256)))
 
     def test_zones_that_are_not_eight_by_four(self):
         zone = (2, 0, 1, 0)
@@ -1347,6 +1499,9 @@ class Numpy(unittest.TestCase):
             self.assertEqual(grid.tobytes(), plain.tobytes())
         again = numpy.zeros((60, 48), numpy.complex64)
         bp.empty(0, 2048, 3, 1, grid, again)
+        self.assertEqual(again.tobytes(), points.tobytes())
+        again = numpy.zeros((60, 48), numpy.complex64)
+        bp.empty_first(0, 2048, 3, 1, numpy.uint32(grid.size), grid, again)
         self.assertEqual(again.tobytes(), points.tobytes())
 
     def test_what_is_not_taken(self):

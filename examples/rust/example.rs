@@ -6,6 +6,8 @@
 //!     collisions CELL CELL                             where two cells collide in AMC
 //!     slot MODE SIZE CELL MASK SLOT                    fills a slot's grid in two moves, lays the last lit
 //!                                                      subchannel again, and takes all points off the grid
+//!     capture MODE SIZE CELL MASK SLOT                 takes a slot's points off its grid while a capture delivers
+//!                                                      it, half a symbol at a time
 //!     plan BYTE..                                      reads a zone plan (each byte two hex digits),
 //!                                                      prints its zones, and writes it again
 
@@ -20,6 +22,7 @@ const USAGE: &str = "usage: point MODE SIZE CELL SLOT SUBCHANNEL INDEX
        carrier MODE SIZE CELL SYMBOL CARRIER
        collisions SIZE CELL SUBCHANNEL CELL SUBCHANNEL, or collisions CELL CELL
        slot MODE SIZE CELL MASK SLOT
+       capture MODE SIZE CELL MASK SLOT
        plan BYTE..";
 
 /// Ends a program that is misused. (eprintln! would panic where nothing can be written.)
@@ -168,6 +171,30 @@ fn slot(setup: Setup, mask: u32, slot: u32) -> Result<String, Refusal> {
     Ok(text + &format!("{} points: {all} back\n", points_len / 2))
 }
 
+/// What is taken off the arriving grid is held to what `empty` takes off the whole one.
+fn capture(setup: Setup, mask: u32, slot: u32) -> Result<String, Refusal> {
+    let Setup { mode, size, .. } = setup;
+    let sent: Vec<f32> = (1..=bellpulsar::grid_len(mode, size))
+        .map(|n| n as f32)
+        .collect();
+    let mut whole = vec![0.0; bellpulsar::lit_points_len(mode, size, mask)];
+    bellpulsar::empty(setup, mask, slot, &sent, &mut whole)?;
+
+    // The grid may hold anything where nothing has arrived, here -1: the points that are still to come stay 0.
+    let (mut grid, mut points) = (vec![-1.0; sent.len()], vec![0.0; whole.len()]);
+    let (all, half) = (sent.len() / 2, size as usize / 2);
+    let mut text = String::new();
+    for carriers in (half..=all).step_by(half) {
+        grid[..2 * carriers].copy_from_slice(&sent[..2 * carriers]);
+        bellpulsar::empty_first(setup, mask, slot, carriers as u32, &grid, &mut points)?;
+        let there = points.chunks(2).filter(|point| point[0] != 0.0).count();
+        let total = points.len() / 2;
+        text += &format!("{carriers} of {all} carriers: {there} of {total} points\n");
+    }
+    let not = if points == whole { "" } else { "not " };
+    Ok(text + &format!("points {not}as emptied at once\n"))
+}
+
 fn plan(bytes: &[u8]) -> Result<String, Refusal> {
     let plan = bellpulsar::plan_read(bytes)?;
     let mut again = [0; 128];
@@ -222,6 +249,9 @@ fn run(name: &str, words: &[String]) -> Result<String, Refusal> {
         }
         ("slot", &[mode, size, cell, mask, number]) => {
             slot(Setup { mode, size, cell }, mask, number)
+        }
+        ("capture", &[mode, size, cell, mask, slot]) => {
+            capture(Setup { mode, size, cell }, mask, slot)
         }
         _ => usage(),
     }

@@ -30,6 +30,17 @@ any order, and again where they change. Here all of them are taken off again:
     >>> again == points
     True
 
+While a capture still delivers the grid, `empty_first` takes the points off the carriers that have arrived, counted from
+the grid's start. Called again with a larger count, it leaves what the last call alone would have given:
+
+    >>> arrived = array("f", [-1.0]) * len(points)
+    >>> bellpulsar.empty_first(2, 1024, 17, 0, 512, grid, arrived)  # those below DC
+    >>> (len(arrived) - arrived.count(-1.0)) // 2
+    384
+    >>> bellpulsar.empty_first(2, 1024, 17, 0, 1024, grid, arrived)
+    >>> arrived == points
+    True
+
 `fill` makes both moves, with the points of a whole slot. A sector of PUSC downlink that lights only some of the six
 major groups gives a mask, bit g for group g. Here groups 0 and 1 are lit, which have subchannels 0 to 19:
 
@@ -64,7 +75,8 @@ The mask says which major groups of PUSC downlink are lit. Groups 0 to 5 have th
 
 Numbers. Any integer may stand in any field. One that 32 bits do not hold, negative ones too, reaches the engine as
 2**32 - 1, which no question lets pass, so it is refused in its turn. A carrier is signed: one beyond 32 bits reaches
-the engine as -2**31 or 2**31 - 1.
+the engine as -2**31 or 2**31 - 1. About a count of carriers no question is put: one beyond 32 bits means all of them,
+and a negative one is a ValueError.
 
 Refusals. A request that cannot be met raises Refusal, with the number of the first question of document 01 that is
 answered no; its text says what was asked, the value given and what would be accepted. Nothing is written then.
@@ -85,7 +97,7 @@ from typing import NamedTuple, Optional, Tuple
 
 from . import refusals
 from .buffers import BYTE, FLOAT, apart, lent, pilot_point
-from .library import Hits, Pair, Zones, engine, int32, numbers, signed, uint
+from .library import Hits, Pair, Zones, counted, engine, int32, numbers, signed, uint
 from .refusals import QUESTIONS
 
 __all__ = [
@@ -116,6 +128,7 @@ __all__ = [
     "lay",
     "fill",
     "empty",
+    "empty_first",
     "look",
     "ofusc_collisions",
     "amc_collisions",
@@ -335,7 +348,7 @@ def lay(mode, size, cell, slot, subchannel, points, grid, *, mask=None):
 
 
 def _slot_refusal(refused, mode, size, cell, mask, slot, points, grid):
-    """Of fill and empty, which have all points of a slot."""
+    """Of fill, empty and empty_first, which have all points of a slot."""
     lengths = {
         "points": (points.length, lit_points_len(mode, size, mask)),
         "grid": (grid.length, grid_len(mode, size)),
@@ -388,6 +401,25 @@ def empty(mode, size, cell, slot, grid, points, *, mask=None):
     with lent(grid, "grid", FLOAT) as source, lent(points, "points", FLOAT, writable=True) as target:
         apart(target, source)
         refused = engine.bp_empty(*fields, source.address, source.length, target.address, target.length)
+        if refused:
+            raise _slot_refusal(refused, mode, size, cell, mask, slot, target, source)
+
+
+def empty_first(mode, size, cell, slot, carriers, grid, points, *, mask=None):
+    """Takes the points off the first `carriers` carriers of a slot's grid alone. Refusals 1, 2, 3, 17, 4, 8, 9.
+
+    They count from the grid's start, symbol after symbol, each by rising carrier, guards, DC and pilots too; a count
+    past the grid's end, however large, means all of them. So a grid can be emptied while a capture still delivers it:
+    call again with a larger count as more arrives.
+
+    The points on these carriers are written, each where `empty` puts it, and no other float. Both buffers are as in
+    `empty`, of the whole slot. A negative count is a ValueError.
+    """
+    mask = _mask(mode, mask)
+    fields, arrived = numbers(mode, size, cell, mask, slot), counted(carriers)
+    with lent(grid, "grid", FLOAT) as source, lent(points, "points", FLOAT, writable=True) as target:
+        apart(target, source)
+        refused = engine.bp_empty_first(*fields, arrived, source.address, source.length, target.address, target.length)
         if refused:
             raise _slot_refusal(refused, mode, size, cell, mask, slot, target, source)
 

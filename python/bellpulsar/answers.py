@@ -4,8 +4,8 @@ import sys
 
 import bellpulsar
 from bellpulsar import Kind, picture
-from bellpulsar.refusals import carriers_of
-from bellpulsar.rows import check_picked, is_unlit, symbol_row
+from bellpulsar.refusals import POINTS, carriers_of
+from bellpulsar.rows import NOT_YET, arrived, check_picked, is_unlit, lit_subchannels, symbol_row
 
 PLAN_LIMIT = 128  # bytes: no plan is that long, so what follows does not matter
 
@@ -26,6 +26,19 @@ def locate(options):
     if answer.kind is Kind.DATA:
         return lines("data slot %d subchannel %d index %d" % answer[1:])
     return lines(answer.kind.value)
+
+
+# --- a capture --------------------------------------------------------------------------------
+
+
+def first(options):
+    slot, mask = (options.mode, options.size, options.cell, options.slot), options.mask
+    there = [place != NOT_YET for place in arrived(*slot, options.carriers, mask)]
+    text = ""
+    for rank, subchannel in enumerate(lit_subchannels(*slot, mask)):
+        own = there[POINTS * rank : POINTS * (rank + 1)]
+        text += lines("subchannel %d points %d of %d" % (subchannel, sum(own), POINTS))
+    return text + lines("points %d of %d" % (sum(there), len(there)))
 
 
 # --- collisions -------------------------------------------------------------------------------
@@ -109,7 +122,8 @@ def show(options):
 
 
 def slot_picture(options):
-    return picture.slot(options.mode, options.size, options.cell, options.slot, options.subchannel, options.mask)
+    slot = (options.mode, options.size, options.cell, options.slot)
+    return picture.slot(*slot, options.subchannel, options.mask, options.carriers)
 
 
 def subchannel_picture(options):

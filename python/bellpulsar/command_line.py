@@ -32,12 +32,14 @@ modes and their ranges (N is SIZE / 64):
 
 SIZE is the FFT size, CELL the permutation base. SLOT is 0..511, INDEX 0..47.
 CARRIER is -SIZE/2..SIZE/2-1, by rising frequency, with DC at 0.
+CARRIERS, of first and picture slot, is how many of a slot's carriers have arrived, symbol after symbol, each by rising
+carrier, with guards, DC and pilots: 0 or more, and more than the slot has means all of them.
 SYMBOL counts in the zone: slot times symbols a slot, plus the offset in the slot.
 AMC has four slot shapes, bins x symbols; a bin is nine carriers in a row, of which one is a pilot.
-MASK, of show, picture slot and a plan's zones, says which major groups of mode 0 are lit: 1..63, bit g for group g.
-Groups 0 to 5 have the subchannels 0..11, 12..19, 20..31, 32..39, 40..51 and 52..59. In the other modes all is lit and
-MASK is 0.
-Any number may be given: the engine refuses what is out of range."""
+MASK, of first, show, picture slot and a plan's zones, says which major groups of mode 0 are
+lit: 1..63, bit g for group g. Groups 0 to 5 have the subchannels 0..11, 12..19, 20..31, 32..39, 40..51 and 52..59.
+In the other modes all is lit and MASK is 0.
+Any number may be given (of CARRIERS, any that is not negative): the engine refuses what is out of range."""
 
 PLAN_RULES = """\
 A plan has a SIZE (256, 512, 1024 or 2048) and one to eight zones, each of MODE 0 or 2 to 6, a CELL of that mode, 1 to
@@ -60,6 +62,7 @@ What is not understood, read, written or built is told on standard error; exit s
 examples:
   ./bellpulsar place 2 1024 17 0 0 0
   ./bellpulsar locate 0 2048 5 1 -840
+  ./bellpulsar first 3 256 176 0 100
   ./bellpulsar collisions ofusc 2048 0 2 1010 0
   ./bellpulsar plan read 02 80 08 02 11 03 00 03 B0 01 01 00
   ./bellpulsar show 2 1024 17 0 --subchannel 3
@@ -80,6 +83,7 @@ FIELDS = {
     "index": "the point's number in its subchannel and slot",
     "symbol": "the symbol's number in the zone",
     "carrier": "the carrier's number, counted from DC; below DC it is negative",
+    "carriers": "how many of the slot's carriers have arrived",
     "cell_a": "the first cell",
     "subchannel_a": "a subchannel of the first cell",
     "cell_b": "the second cell",
@@ -99,6 +103,14 @@ def number(text):
     digits = text.lstrip("-").lstrip("0") or "0"
     value = int(digits) if len(digits) <= 20 else 10**20
     return -value if "-" in text else value
+
+
+def count(text):
+    """A number that is not negative, of any size."""
+    value = number(text)
+    if value < 0:
+        raise argparse.ArgumentTypeError("%r is not a count" % text.removeprefix(SHIELD))
+    return value
 
 
 def mask(text):
@@ -126,7 +138,11 @@ def hex_word(text):
     return bytes.fromhex(text)
 
 
-VALUED = ("--file", "--mask", "--output", "--subchannel")  # options that take the next word, whatever it looks like
+# Of fields that are not any one number.
+KINDS = {"cells": (cells, "CELL[,CELL..]"), "carriers": (count, "CARRIERS")}
+
+# Options that take the next word, whatever it looks like.
+VALUED = ("--carriers", "--file", "--mask", "--output", "--subchannel")
 
 
 def shielded(arguments):
@@ -165,7 +181,7 @@ def sentence(summary):
 
 
 def command(commands, name, answer, summary, example, fields, notes=RANGES):
-    """A command whose fields are numbers, or cells; `answer` names its function in answers.py."""
+    """A command whose fields are numbers, or of KINDS; `answer` names its function in answers.py."""
     parser = commands.add_parser(
         name,
         help=summary,
@@ -174,7 +190,7 @@ def command(commands, name, answer, summary, example, fields, notes=RANGES):
     )
     parser.set_defaults(answer=answer, output=None)
     for field in fields:
-        kind, name = (cells, "CELL[,CELL..]") if field == "cells" else (number, field.upper())
+        kind, name = KINDS.get(field, (number, field.upper()))
         parser.add_argument(field, type=kind, metavar=name, help=FIELDS[field])
     return parser
 
@@ -227,11 +243,29 @@ def add_plans(commands):
     writing.add_argument("zones", nargs="*", type=zone, metavar=name, help="a zone, one to eight of them")
 
 
+def add_mask(parser):
+    lit = "the major groups that are lit, in base ten, or as 0x.. or 0b..; without it all are"
+    parser.add_argument("--mask", type=mask, help=lit)
+
+
+def add_first(commands):
+    example = """\
+  ./bellpulsar first 3 256 176 0 100
+  subchannel 0 points 48 of 48
+  subchannel 1 points 23 of 48
+  subchannel 2 points 0 of 48
+  subchannel 3 points 0 of 48
+  points 71 of 192
+
+Each lit subchannel has a line, and the last line is their sum."""
+    summary = "which points have arrived when the first carriers of a slot have"
+    add_mask(command(commands, "first", "first", summary, example, ["mode", "size", "cell", "slot", "carriers"]))
+
+
 def add_picks(drawing):
     """What show and the picture of a slot may be told."""
     drawing.add_argument("--subchannel", type=number, help="pick out the data of this subchannel, which must be lit")
-    lit = "the major groups that are lit, in base ten, or as 0x.. or 0b..; without it all are"
-    drawing.add_argument("--mask", type=mask, help=lit)
+    add_mask(drawing)
 
 
 def add_show(commands):
@@ -253,6 +287,8 @@ def add_pictures(commands):
     summary = "a slot: carriers along x, symbols along y, a colour for each subchannel, hatched where unlit"
     drawing = command(kinds, "slot", "slot_picture", summary, example, ["mode", "size", "cell", "slot"])
     add_picks(drawing)
+    pale = "draw the points pale that have not arrived when so many of the slot's carriers have"
+    drawing.add_argument("--carriers", type=count, help=pale)
     add_output(drawing)
     example = "  ./bellpulsar picture subchannel 0 2048 0,1,31 0 1 --output subchannel.svg"
     summary = "a subchannel's points: carriers along x, indices along y, a panel for each cell"
@@ -263,7 +299,7 @@ def add_pictures(commands):
 def argument_parser():
     parser = Parser(prog="bellpulsar", description=OVERVIEW, epilog=OVERVIEW_END)
     commands = parser.add_subparsers(required=True, metavar="COMMAND", dest="command")
-    for add in (add_map, add_collisions, add_plans, add_show, add_pictures):
+    for add in (add_map, add_first, add_collisions, add_plans, add_show, add_pictures):
         add(commands)
     return parser
 

@@ -1,7 +1,7 @@
 """Pictures of the map as SVG text, drawn from the library's answers alone.
 
 `slot` draws a slot: carriers along x, in bands under each other, symbols along y, a colour for each subchannel. What is
-unlit is hatched.
+unlit is hatched; points that a capture has still to deliver are pale.
 `subchannel` draws one subchannel's points: carriers along x, the index along y, a panel for each cell, a colour for
 each symbol. Where all points lie close together, as in AMC, it has only the carriers around them.
 What one points at has a title: symbol, carrier and what is there.
@@ -15,13 +15,14 @@ from typing import NamedTuple
 import bellpulsar
 from bellpulsar import Kind
 from bellpulsar.refusals import AMC_MODES, MODES, carriers_of
-from bellpulsar.rows import check_picked, check_slot, is_unlit, symbol_row
+from bellpulsar.rows import arrived, awaiting, check_picked, check_slot, is_unlit, symbol_row
 
 LEFT, RIGHT, TOP, BOTTOM = 76, 24, 64, 16  # margins
 WIDTH = 1280  # of a band or panel
 
 GUARD, DC, PILOT, OTHER, PICKED = "#d4d4d4", "#ffffff", "#000000", "#cfe3f5", "#d7301f"
 UNLIT = "url(#hatch)"
+AWAITED = "#f4efdf"
 
 
 # --- SVG --------------------------------------------------------------------------------------
@@ -109,6 +110,8 @@ def class_of(carrier, picked):
     """The SVG class of a carrier."""
     if is_unlit(carrier):
         return "unlit"
+    if carrier.awaited:
+        return "awaited"
     located = carrier.what
     if located.kind is not Kind.DATA:
         return located.kind.value.lower()
@@ -119,7 +122,7 @@ def class_of(carrier, picked):
 
 def styles(total, picked, unlit):
     """How each class is drawn; the legend has the subchannels that are unlit too."""
-    fills = {"guard": GUARD, "dc": DC, "pilot": PILOT, "other": OTHER, "unlit": UNLIT}
+    fills = {"guard": GUARD, "dc": DC, "pilot": PILOT, "other": OTHER, "unlit": UNLIT, "awaited": AWAITED}
     for number in range(total):
         colour = UNLIT if number in unlit else hue(number, total)
         fills["subchannel-%d" % number] = colour if picked is None else PICKED
@@ -130,7 +133,9 @@ def content_of(carrier):
     located = carrier.what
     data = located.kind is Kind.DATA
     content = "subchannel %d, index %d" % (located.subchannel, located.index) if data else located.kind.value
-    return content + ", unlit" if is_unlit(carrier) else content
+    if is_unlit(carrier):
+        return content + ", unlit"
+    return content + ", not arrived yet" if carrier.awaited else content
 
 
 def runs(things):
@@ -194,15 +199,17 @@ def swatch(x, label, fill):
     return [box(x, 0, SWATCH, SYMBOL, fill=fill, stroke="#444444"), text(x + SWATCH + 8, 14, label)]
 
 
-def legend_kinds(style, picked, unlit):
-    """Guard, DC, pilot, data where one subchannel is picked out, and what is unlit where something is."""
+def legend_kinds(style, picked, unlit, awaited):
+    """Guard, DC, pilot, data where one subchannel is picked out, and what is unlit or awaited where something is."""
     labels = [("guard", "guard"), ("dc", "DC"), ("pilot", "pilot")]
     if picked is not None:
         labels += [("subchannel-%d" % picked, "data of subchannel %d" % picked), ("other", "data of other subchannels")]
     if unlit:
         labels += [("unlit", "pilot or data, unlit")]
+    if awaited:
+        labels += [("awaited", "data, not arrived yet")]
     parts = []
-    for x, (name, label) in zip((0, 110, 220, 330, 560, 790), labels):
+    for x, (name, label) in zip((0, 110, 220, 330, 560, 790, 1020), labels):
         parts += swatch(x, label, style[name]["fill"])
     return parts
 
@@ -227,13 +234,16 @@ def legend_scale(style, total):
     return parts
 
 
-def slot(mode, size, cell, slot, picked=None, mask=None):
-    """A slot of a zone; with `picked`, one subchannel of it picked out. Refusals 1, 2, 3, 17, 4, 5."""
+def slot(mode, size, cell, slot, picked=None, mask=None, carriers=None):
+    """A slot of a zone; with `picked`, one subchannel of it picked out; with `carriers`, when so many of its carriers
+    have arrived. Refusals 1, 2, 3, 17, 4, 5."""
     check_slot(mode, size, cell, slot, mask)
     check_picked(mode, size, cell, slot, picked, mask)
     symbols = slot_symbols(mode, size, cell, slot)
     rows = [symbol_row(mode, size, cell, symbol, mask) for symbol in symbols]
-    carriers = carriers_of(size)
+    if carriers is not None:
+        rows = awaiting(rows, arrived(mode, size, cell, slot, carriers, mask))
+    awaited = any(carrier.awaited for row in rows for carrier in row)
     total = 1 + max(carrier.what.subchannel for carrier in rows[0] if carrier.what.kind is Kind.DATA)
     dark = [carrier.what for row in rows for carrier in row if is_unlit(carrier)]
     unlit = {what.subchannel for what in dark if what.kind is Kind.DATA}
@@ -242,10 +252,10 @@ def slot(mode, size, cell, slot, picked=None, mask=None):
     parts, y = [hatch()] if unlit else [], TOP
     for at in range(0, size, BAND):
         part = [row[at : at + BAND] for row in rows]
-        parts.append(group(LEFT, y, band(carriers[at], part, symbols, picked, style), class_="band"))
+        parts.append(group(LEFT, y, band(carriers_of(size)[at], part, symbols, picked, style), class_="band"))
         y += height
     parts.append(text(LEFT + WIDTH / 2, y - 10, "carrier", text_anchor="middle"))
-    parts.append(group(LEFT, y + 12, legend_kinds(style, picked, unlit), class_="legend"))
+    parts.append(group(LEFT, y + 12, legend_kinds(style, picked, unlit, awaited), class_="legend"))
     y += 58
     if picked is None:
         parts.append(group(LEFT, y, legend_scale(style, total), class_="legend"))
@@ -253,6 +263,8 @@ def slot(mode, size, cell, slot, picked=None, mask=None):
     title = "%s (mode %d), size %d, cell %d, slot %d" % (MODES[mode].name, mode, size, cell, slot)
     if unlit:
         title += ", mask %d" % mask
+    if awaited:
+        title += ", first %d carriers" % carriers
     if picked is not None:
         title += ", subchannel %d picked out" % picked
     return document(y + BOTTOM, title, parts)

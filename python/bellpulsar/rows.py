@@ -1,4 +1,5 @@
-"""What the carriers of a symbol are, and which are lit, from the library's answers alone."""
+"""What the carriers of a symbol are, which are lit, and whose points stand on the first of a slot's, from the library's
+answers alone."""
 
 from array import array
 from typing import NamedTuple
@@ -9,10 +10,11 @@ from bellpulsar.refusals import POINTS, carriers_of
 
 
 class Carrier(NamedTuple):
-    """Guards and DC are never lit."""
+    """Guards and DC are never lit. Only lit data is awaited, where its point has not arrived."""
 
     what: Located
     lit: bool
+    awaited: bool = False
 
 
 def is_unlit(carrier):
@@ -44,3 +46,36 @@ def check_picked(mode, size, cell, slot, subchannel, mask):
     if subchannel is not None:
         none = array("f", [0.0]) * (2 * POINTS)
         bellpulsar.lay(mode, size, cell, slot, subchannel, none, blank_grid(mode, size), mask=mask)
+
+
+def lit_subchannels(mode, size, cell, slot, mask):
+    """Those whose points a slot has, rising: where the first of these belongs, data is seen."""
+    grid, lit = blank_grid(mode, size), []
+    for subchannel in range(bellpulsar.points_len(mode, size) // (2 * POINTS)):
+        symbol, carrier = bellpulsar.place(mode, size, cell, slot, subchannel, 0)
+        if bellpulsar.look(mode, size, cell, symbol, grid, carrier, mask=mask).kind is Kind.DATA:
+            lit.append(subchannel)
+    return lit
+
+
+NOT_YET = -1  # the place of a point that has not arrived
+
+
+def arrived(mode, size, cell, slot, carriers, mask):
+    """Of each point of a slot, by lit subchannel and index, its place in the grid where that is one of the first
+    `carriers`, else NOT_YET. Refusals 1, 2, 3, 17, 4."""
+    places = range(bellpulsar.grid_len(mode, size) // 2)
+    grid = array("f", [part for place in places for part in (place, place)])
+    points = array("f", [NOT_YET]) * bellpulsar.lit_points_len(mode, size, mask)
+    bellpulsar.empty_first(mode, size, cell, slot, carriers, grid, points, mask=mask)
+    return list(map(int, points[::2]))
+
+
+def awaiting(rows, places):
+    """The rows of a slot's symbols, with all points awaited but those that have arrived on these places of its grid."""
+    size, there = len(rows[0]), set(places)
+
+    def at(place, carrier):
+        return carrier._replace(awaited=carrier.lit and carrier.what.kind is Kind.DATA and place not in there)
+
+    return [[at(*numbered) for numbered in enumerate(row, size * offset)] for offset, row in enumerate(rows)]

@@ -31,6 +31,8 @@ static uint32_t (*const lay)(uint32_t, uint32_t, uint32_t, uint32_t, uint32_t, u
                              size_t) = bp_lay;
 static uint32_t (*const empty)(uint32_t, uint32_t, uint32_t, uint32_t, uint32_t, const float *, size_t, float *,
                                size_t) = bp_empty;
+static uint32_t (*const empty_first)(uint32_t, uint32_t, uint32_t, uint32_t, uint32_t, uint32_t, const float *, size_t,
+                                     float *, size_t) = bp_empty_first;
 static uint32_t (*const look)(uint32_t, uint32_t, uint32_t, uint32_t, uint32_t, const float *, size_t, int32_t, uint32_t *,
                               float *, uint32_t *, uint32_t *, uint32_t *) = bp_look;
 
@@ -107,6 +109,30 @@ static int grid_is_right(void)
            look(BP_OFUSC, 256, 5, 0, symbol, floats(grid), grid_len, carrier, &kind, point, &slot, &subchannel, &index) ==
                BP_ACCEPTED &&
            kind == BP_DATA && point[0] == 100 && point[1] == 101 && slot == 0 && subchannel == 1 && index == 2;
+}
+
+/* The same grid as it arrives. Below DC are half of its 192 points; the others keep what stood there until all has arrived.
+   None is on the first 20 carriers, which are guards, and the next carrier has the first. */
+static int arrival_is_right(void)
+{
+    const uint32_t counts[6] = {0, 20, 21, 128, 65536, UINT32_MAX}, points_there[6] = {0, 0, 1, 96, 192, 192};
+    for (int n = 0; n < 384; n++)
+        floats(back)[n] = -1;
+    for (int c = 0; c < 6; c++) {
+        uint32_t there = 0;
+        if (empty_first(BP_OFUSC, 256, 5, 0, 0, counts[c], floats(grid), 512, floats(back), 384) != BP_ACCEPTED)
+            return 0;
+        for (int n = 0; n < 192; n++)
+            if (back[n] == points[n])
+                there++;
+            else if (floats(back)[2 * n] != -1 || floats(back)[2 * n + 1] != -1)
+                return 0;
+        if (there != points_there[c])
+            return 0;
+    }
+    return empty_first(BP_OFUSC, 256, 5, 0, 0, 0, floats(grid), 512, floats(back), 383) == BP_REFUSED_POINTS_LEN &&
+           empty_first(BP_OFUSC, 256, 5, 0, 0, 0, floats(grid), 511, floats(back), 384) == BP_REFUSED_GRID_LEN &&
+           empty_first(BP_OFUSC, 256, 5, 1, 512, 0, floats(grid), 512, floats(back), 384) == BP_REFUSED_MASK;
 }
 
 /* A sector that lights groups 1 and 2, subchannels 12 to 31, filled as the header says. Its 40 clusters have four pilots in a
@@ -224,8 +250,8 @@ static int plan_is_right(void)
 
 int main(void)
 {
-    if (map_is_right() && shapes_are_right() && ground_is_right() && grid_is_right() && sector_is_right() &&
-        refusals_are_right() && collisions_are_right() && plan_is_right())
+    if (map_is_right() && shapes_are_right() && ground_is_right() && grid_is_right() && arrival_is_right() &&
+        sector_is_right() && refusals_are_right() && collisions_are_right() && plan_is_right())
         return 0;
     puts("a call through the header gave a wrong answer");
     return 1;
