@@ -26,6 +26,7 @@ SIGNATURES = {
     "bp_ground": "fffffppn",
     "bp_lay": "ffffffpnpn",
     "bp_empty": "fffffpnpn",
+    "bp_empty_first": "ffffffpnpn",
     "bp_look": "fffffpncppppp",
     "bp_ofusc_collisions": "fffffpp",
     "bp_amc_collisions": "ffpp",

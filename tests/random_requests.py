@@ -5,8 +5,8 @@
 Ten thousand requests a call. Every answer, every byte that is written and every byte that is not is compared (lent.py).
 A thousand times a slot is filled in two moves: its ground, then lays of all its subchannels, unlit ones too, in any order
 with repeats. Fails where one differs, and also where a refusal, a kind of carrier, lit or not, a mode, size and mask that a
-call has (with carriers on both sides of DC, within the range and past it), a mask refused in each mode, or a mode after
-another that a plan may have, never occurred.
+call has (with carriers on both sides of DC, within the range and past it; with counts of carriers that write none, some and
+all of the points), a mask refused in each mode, or a mode after another that a plan may have, never occurred.
 """
 
 import random
@@ -214,7 +214,7 @@ def fill_sources(mode, size, cell, mask, slot):
 def empty_sources(mode, size, cell, mask, slot):
     """For each float of the points, which one of the grid it is."""
     points = [0] * ref.lit_points_len(mode, size, mask)
-    return itemgetter(*ref.empty(mode, size, cell, mask, slot, list(range(ref.grid_floats(mode, size))), points)[1])
+    return ref.empty(mode, size, cell, mask, slot, list(range(ref.grid_floats(mode, size))), points)[1]
 
 
 def slot_fields(dice, mode, size, cell, mask, slot):
@@ -312,21 +312,54 @@ class Empty:
     name, arena = "bp_empty", Arena(4 * GRID_ROOM, 4 * POINTS_ROOM)
     refusals, cases = [1, 2, 3, 17, 4, 8, 9], MASKS
 
-    def request(self, dice, noise, mode, size, cell, mask, slot):
-        fields = slot_fields(dice, mode, size, cell, mask, slot)
+    def buffers(self, dice, mode, size, mask):
+        """The grid and the points, each a pointer and a length."""
         points_floats, grid_floats = ref.lit_points_len(mode, size, mask), ref.grid_floats(mode, size)
         others = [grid_floats, ref.points_len(mode, size), points_floats + LAID, points_floats - LAID]
         points_len = some_length(dice, points_floats, dice.choice(others), POINTS_ROOM, True)
         grid_len = some_length(dice, grid_floats, points_floats, GRID_ROOM, False)
-        number = ref.buffers_refusal(*fields, points_len, grid_len)
         grid, points = map(self.arena.address, range(2))
-        arguments = fields + [pointer(dice, grid, grid_len), grid_len, pointer(dice, points, points_len), points_len]
+        return [pointer(dice, grid, grid_len), grid_len, pointer(dice, points, points_len), points_len]
+
+    def request(self, dice, noise, mode, size, cell, mask, slot):
+        fields = slot_fields(dice, mode, size, cell, mask, slot)
+        buffers = self.buffers(dice, mode, size, mask)
+        number = ref.buffers_refusal(*fields, buffers[3], buffers[1])
+        if number:
+            return fields + buffers, [], number, [], masks_met(fields, number)
+        floats = array("I", noise.run(dice, 4 * buffers[1]))
+        after = itemgetter(*empty_sources(*fields))(floats)
+        written = [(1, array("I", after).tobytes())]
+        return fields + buffers, [(0, floats.tobytes())], 0, written, masks_met(fields, 0)
+
+
+def some_count(dice, mode, size):
+    """How many carriers of a grid: any of its own, an edge of a symbol, of its band or of DC, or past its end."""
+    places, low, high = size * ref.SLOT_LENGTH[mode], *ref.band(mode, size)
+    edge = dice.randrange(0, places, size) + size // 2 + dice.choice([-size // 2, low, 0, high, size // 2 - 1])
+    ends = [0, 1, places - 1, places, places + 1, 2**16 + places // 2, 2**31 + places // 2, LARGEST]
+    return dice.choice([dice.randrange(places)] * 3 + [edge, edge + 1, edge + 2, dice.choice(ends)])
+
+
+class EmptyFirst(Empty):
+    """The points on later carriers keep the floats that were there. The count is never refused."""
+
+    name = "bp_empty_first"
+    cases = MASKS + [(*setup, part) for setup in SETUPS for part in ("none", "some", "all")]
+
+    def request(self, dice, noise, mode, size, cell, mask, slot):
+        fields = slot_fields(dice, mode, size, cell, mask, slot)
+        buffers, count = self.buffers(dice, mode, size, mask), some_count(dice, mode, size)
+        number = ref.buffers_refusal(*fields, buffers[3], buffers[1])
+        arguments = fields + [count] + buffers
         if number:
             return arguments, [], number, [], masks_met(fields, number)
-        floats = array("I", noise.run(dice, 4 * grid_len))
-        after = empty_sources(*fields)(floats)
-        written = [(1, array("I", after).tobytes())]
-        return arguments, [(0, floats.tobytes())], 0, written, masks_met(fields, 0)
+        floats, old = (array("I", noise.run(dice, 4 * length)) for length in (buffers[1], buffers[3]))
+        sources = empty_sources(*fields)
+        after = array("I", [floats[source] if source < 2 * count else kept for source, kept in zip(sources, old)])
+        part = "all" if max(sources) < 2 * count else "some" if min(sources) < 2 * count else "none"
+        given = [(0, floats.tobytes()), (1, old.tobytes())]
+        return arguments, given, 0, [(1, after.tobytes())], masks_met(fields, 0) + [(*fields[:2], part)]
 
 
 class Look:
@@ -497,7 +530,7 @@ class PlanWrite:
         return arguments, [(0, words(numbers[2:]))], number, written, met
 
 
-MAP_CALLS = [Place, Locate, PointsLen, LitPointsLen, GridLen, Ground, Lay, Slot, Empty, Look]
+MAP_CALLS = [Place, Locate, PointsLen, LitPointsLen, GridLen, Ground, Lay, Slot, Empty, EmptyFirst, Look]
 CALLS = MAP_CALLS + [OfuscCollisions, AmcCollisions, PlanRead, PlanWrite]
 
 

@@ -1,4 +1,4 @@
-"""Document 01, as changed by document 02's wishes 1 to 5, in plain Python, written from the papers alone.
+"""Document 01, as changed by document 02's wishes 1 to 6, in plain Python, written from the papers alone.
 
 The stored vectors and the tests through C are made from this file. It is as simple as it can be
 and slow where that is simpler: locating builds the whole slot by placing and looks the carrier up.
@@ -146,7 +146,7 @@ def lay_refusal(mode, size, cell, mask, slot, subchannel, points_len, grid_len):
 
 @refusal
 def buffers_refusal(mode, size, cell, mask, slot, points_len, grid_len):
-    """Of empty, and of fill as document 01 has it."""
+    """Of empty and empty_first, and of fill as document 01 has it."""
     yield from lit_questions(mode, size, cell, mask)
     yield 4, slot < SLOTS
     yield 8, points_len == 96 * len(lit_subchannels(mode, size, mask))
@@ -513,6 +513,23 @@ def empty(mode, size, cell, mask, slot, grid, points):
             _, symbol, carrier = place(mode, size, cell, slot, subchannel, index)
             at = grid_at(mode, size, symbol, carrier)
             after += grid[at : at + 2]
+    return 0, after
+
+
+def empty_first(mode, size, cell, mask, slot, carriers, grid, points):
+    """(refusal, the points afterwards): of the lit subchannels' points those that stand on so many carriers from the
+    grid's start, guards, DC and pilots counted too; no other float touched. Any count will do (document 02, wish 6)."""
+    number = buffers_refusal(mode, size, cell, mask, slot, len(points), len(grid))
+    if number:
+        return number, list(points)
+    after = list(points)
+    for subchannel in lit_subchannels(mode, size, mask):
+        for index in range(POINTS):
+            _, symbol, carrier = place(mode, size, cell, slot, subchannel, index)
+            at = grid_at(mode, size, symbol, carrier)
+            if at < 2 * carriers:
+                to = points_at(mode, size, mask, subchannel, index)
+                after[to : to + 2] = grid[at : at + 2]
     return 0, after
 
 

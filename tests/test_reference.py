@@ -470,7 +470,7 @@ def test_modes_without_groups():
 
 
 def test_question_17():
-    """1 to 63 in mode 0, zero in the others; put in each of the four calls, and by the length."""
+    """1 to 63 in mode 0, zero in the others; put in each of the five calls, and by the length."""
     for mode, size in SETUPS:
         grid, points = [9] * ref.grid_floats(mode, size), [1] * 96
         for mask in (*range(66), 127, 128, 255, 256, 2**16 + 1, 2**31, 2**32 - 64, 2**32 - 1):
@@ -481,6 +481,7 @@ def test_question_17():
                 continue
             assert ref.ground(*fields, [1, 2], grid) == (17, grid) and ref.lay(*fields, 0, points, grid) == (17, grid)
             assert ref.empty(*fields, grid, points) == (17, points) and ref.look(*fields, grid, 0) == (17, None)
+            assert ref.empty_first(*fields, size, grid, points) == (17, points)
             assert ref.look(mode, size, 0, mask, 2**32 - 1, [], size)[0] == 17
             assert ref.look(mode, size, 2352, mask, 0, grid, 0)[0] == 3
     assert ref.lit_points_len(7, 2048, 0) == ref.lit_points_len(0, 1024, 63) == ref.lit_points_len(2, 128, 0) == 0
@@ -512,6 +513,14 @@ def test_questions_of_calls_with_a_mask():
         number, after = ref.empty(mode, size, cell, mask, slot, grid, points)
         return number, grid if after == points else after
 
+    # There is no question about a count: 0 and 1 are refused as all carriers are, and write less.
+    def empty_first(mode, size, cell, mask, slot, points, grid):
+        fields = mode, size, cell, mask, slot
+        number, after = ref.empty_first(*fields, 2**32 - 1, grid, points)
+        for count in (0, 1, len(grid) // 2):
+            assert ref.empty_first(*fields, count, grid, points) == (number, after if count > 1 else points)
+        return number, grid if after == points else after
+
     def look(mode, size, cell, mask, symbol, carrier, grid):
         number, what = ref.look(mode, size, cell, mask, symbol, grid, carrier)
         return number, grid if what is None else what
@@ -531,9 +540,99 @@ def test_questions_of_calls_with_a_mask():
             for off in (-96, 1, 96):
                 good_empty = good + [[1] * lit, [9] * floats]
                 wrong_empty = wrong + [[1] * (lit + off), [9] * (floats + 1)]
-                check_order(empty, [1, 2, 3, 17, 4, 8, 9], good_empty, wrong_empty)
+                for call in (empty, empty_first):
+                    check_order(call, [1, 2, 3, 17, 4, 8, 9], good_empty, wrong_empty)
             good_look, wrong_look = good[:4] + [symbols - 1, 0, [9] * floats], wrong[:4] + [symbols, size // 2, [9]]
             check_order(look, [1, 2, 3, 17, 4, 7, 9], good_look, wrong_look)
+
+
+# --- emptied by carrier: document 02, wish 6 --------------------------------------------------
+
+
+def test_first_carriers_by_hand():
+    """AMC 6x1 at 256, cell 0, slot 0: 20 guards, then bin 0, whose pilot is its second carrier. Cell 0 has E = P, so on
+    the bin's data carriers are the indices of 01, 02, 03, 04, 05, 06, 10 and 11 in P, all of subchannel 0."""
+    grid, old = [x for place in range(256) for x in (1000 + place, 2000 + place)], list(range(384))
+    carriers = {20: 0, 22: 32, 23: 40, 24: 16, 25: 8, 26: 24, 27: 47, 28: 17}
+    after = list(old)
+    for count in range(30):
+        assert ref.empty_first(AMC, 256, 0, 0, 0, count, grid, old) == (0, after)
+        if count in carriers:
+            at = 2 * carriers[count]
+            after[at : at + 2] = [1000 + count, 2000 + count]
+
+
+def test_known_first_carriers():
+    """The known points of placing, the last of each count: carriers 838 and 837 of the two symbols of PUSC downlink are
+    places 1862 and 2048 + 1861, -647 of PUSC uplink's middle symbol is 2048 + 377. Carrier 41 at 1024 is 553. Under a
+    mask the rank counts: before group 2's first subchannel are twenty where all is lit, none where it is alone."""
+
+    def is_last(count, fields, at):
+        mode, size, _, mask, _ = fields
+        grid, old = list(range(ref.grid_floats(mode, size))), [-1] * ref.lit_points_len(mode, size, mask)
+        before, after = (ref.empty_first(*fields, n, grid, old)[1] for n in (count - 1, count))
+        assert before[at : at + 2] == [-1, -1] and after[at : at + 2] == [2 * count - 2, 2 * count - 1]
+        assert after[:at] == before[:at] and after[at + 2 :] == before[at + 2 :]
+
+    for mask in (63, 1, 0b100001):
+        is_last(1863, (PUSC_DL, 2048, 0, mask, 0), 2 * (48 + 11))
+        is_last(2048 + 1862, (PUSC_DL, 2048, 0, mask, 0), 2 * (48 + 35))
+    is_last(2048 + 378, (PUSC_UL, 2048, 0, 0, 0), 2 * 48)
+    is_last(554, (OFUSC, 1024, 0, 0, 0), 2 * (3 * 48 + 5))
+    _, symbol, carrier = ref.place(PUSC_DL, 2048, 7, 3, 20, 30)
+    for mask, rank in ((63, 20), (0b100, 0), (0b101, 12), (0b110, 8), (0b110100, 0)):
+        is_last(symbol % 2 * 2048 + 1024 + carrier + 1, (PUSC_DL, 2048, 7, mask, 3), 2 * (48 * rank + 30))
+
+
+def some_counts(dice, mode, size):
+    """The edges of each symbol, of its band and of DC, some others, and past the end."""
+    places, low, high = size * ref.SLOT_LENGTH[mode], *ref.band(mode, size)
+    edges = [row + size // 2 + c for row in range(0, places, size) for c in (-size // 2, low, 0, high, size // 2 - 1)]
+    counts = [edge + off for edge in edges for off in (0, 1, 2)] + dice.choices(range(places), k=5)
+    return counts + [places + 3, 2**31, 2**32 - 1]
+
+
+def test_first_carriers():
+    """What is written is what look sees as data on these carriers, and nothing else; none of 0, and all of all."""
+    dice = random.Random(7)
+    for mode in ref.MODES:
+        size = ref.sizes(mode)[0]
+        for mask in some_masks(mode)[::3]:
+            fields = mode, size, dice.randrange(ref.cells(mode, size)), mask, dice.randrange(512)
+            grid = list(range(ref.grid_floats(mode, size)))
+            old = [-1 - n for n in range(ref.lit_points_len(mode, size, mask))]
+            every = ref.empty(*fields, grid, old)[1]
+            assert ref.empty_first(*fields, 0, grid, old) == (0, old)
+            assert ref.empty_first(*fields, len(grid) // 2, grid, old) == (0, every)
+            lit, seen = lit_by_hand(mode, size, mask), [seen_at(fields, grid, place) for place in range(len(grid) // 2)]
+            for count in some_counts(dice, mode, size):
+                after = list(old)
+                for what in seen[:count]:
+                    if what[0] == ref.DATA:
+                        at = 2 * (48 * lit.index(what[3]) + what[4])
+                        after[at : at + 2] = what[1]
+                assert ref.empty_first(*fields, count, grid, old) == (0, after)
+
+
+def seen_at(fields, grid, place):
+    """What look answers of a place of the grid."""
+    mode, size, cell, mask, slot = fields
+    symbol = slot * ref.SLOT_LENGTH[mode] + place // size
+    return ref.look(mode, size, cell, mask, symbol, grid, place % size - size // 2)[1]
+
+
+def test_a_first_count_and_then_a_larger():
+    """They are the larger alone, also where the carriers past the first count only arrive after it."""
+    dice = random.Random(8)
+    for mode, size in SETUPS:
+        mask = dice.choice(some_masks(mode))
+        fields = mode, size, dice.randrange(ref.cells(mode, size)), mask, dice.randrange(512)
+        grid, old = list(range(ref.grid_floats(mode, size))), [-1] * ref.lit_points_len(mode, size, mask)
+        for _ in range(3):
+            first, larger = sorted(dice.choices(range(len(grid) // 2 + 2), k=2))
+            arrived = grid[: 2 * first] + [-2] * (len(grid) - 2 * first)
+            between = ref.empty_first(*fields, first, arrived, old)[1]
+            assert ref.empty_first(*fields, larger, grid, between) == ref.empty_first(*fields, larger, grid, old)
 
 
 # --- carriers count from DC -------------------------------------------------------------------

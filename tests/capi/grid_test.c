@@ -1,9 +1,10 @@
-/* Holds ground, lay, empty and look to the bits of every float: the whole grids of grid_table.h, which the reference
-   made, and grids of every mode and size worked out here by place and locate. NaNs of both kinds with payloads,
-   infinities, signed zeros and subnormals stand among the points and in the pilot point. Each lay is made alone, where
-   every float but its own keeps its bits, and all are made in a shuffled order with repeats, where the last one of a
-   subchannel counts; an unlit one is refused. All 63 masks of PUSC downlink are gone through. Then every set of wrong
-   fields: the first refusal, and nothing written. Floats are read and written as bit patterns only. Run by run.sh. */
+/* Holds ground, lay, empty, empty_first and look to the bits of every float: the whole grids of grid_table.h, which the
+   reference made, and grids of every mode and size worked out here by place and locate. NaNs of both kinds with
+   payloads, infinities, signed zeros and subnormals stand among the points and in the pilot point. Each lay is made
+   alone, where every float but its own keeps its bits, and all are made in a shuffled order with repeats, where the last
+   one of a subchannel counts; an unlit one is refused. The first carriers are emptied by every count from 0 to past the
+   grid's end, and by two counts in turn. All 63 masks of PUSC downlink are gone through. Then every set of wrong fields:
+   the first refusal, and nothing written. Floats are read and written as bit patterns only. Run by run.sh. */
 #include <inttypes.h>
 #include <stddef.h>
 #include <stdint.h>
@@ -355,6 +356,111 @@ static int empty_agrees(const struct setup *s, const struct grid_row *row)
            holds(&grid, sizeof grid, row->grid, grid_floats(s));
 }
 
+/* --- the first carriers ---------------------------------------------------------------------- */
+
+/* The points of a slot after its first carriers are emptied, over the old bits. */
+static uint32_t first_points[MOST_POINTS];
+
+static uint32_t carriers_of(const struct setup *s) { return s->size * s->symbols; }
+
+/* The bits of the points on these places of the grid. */
+static void want_first(const struct setup *s, const struct grid_row *row, uint32_t carriers)
+{
+    size_t floats = points_floats(s, row->mask);
+    memcpy(first_points, old_bits + EDGE, sizeof first_points);
+    for (size_t n = 0; n < floats; n += 2)
+        if (row->places[n / 2] / 2 < carriers)
+            memcpy(first_points + n, row->points + n, 2 * sizeof *first_points);
+}
+
+/* A grid with the row's bits on its first places alone. */
+static void arrive(const struct setup *s, const struct grid_row *row, uint32_t carriers)
+{
+    uint32_t end = carriers < carriers_of(s) ? carriers : carriers_of(s);
+    spoil(&grid, sizeof grid);
+    copy_bits(grid.at, row->grid, 2 * (size_t)end);
+}
+
+/* The call on the grid and the points as they stand. */
+static uint32_t empty_first(const struct setup *s, const struct grid_row *row, uint32_t carriers)
+{
+    return bp_empty_first(s->mode, s->size, row->cell, row->mask, row->slot, carriers, grid.at, grid_floats(s),
+                          points.at, points_floats(s, row->mask));
+}
+
+/* Of a grid that holds the row's bits, over points of their own: those that are wanted, and the grid is only read. */
+static int first_agrees(const struct setup *s, const struct grid_row *row, uint32_t carriers)
+{
+    spoil(&points, sizeof points);
+    return empty_first(s, row, carriers) == 0 &&
+           holds(&points, sizeof points, first_points, points_floats(s, row->mask)) &&
+           holds(&grid, sizeof grid, row->grid, grid_floats(s));
+}
+
+/* By one count, where the carriers past it have not arrived; then by a larger one: both are the larger alone. */
+static int turns_agree(const struct setup *s, const struct grid_row *row, uint32_t carriers, uint32_t larger)
+{
+    arrive(s, row, carriers);
+    spoil(&points, sizeof points);
+    want_first(s, row, carriers);
+    if (empty_first(s, row, carriers) != 0 ||
+        !holds(&points, sizeof points, first_points, points_floats(s, row->mask)))
+        return 0;
+    arrive(s, row, larger);
+    want_first(s, row, larger);
+    return empty_first(s, row, larger) == 0 && holds(&points, sizeof points, first_points, points_floats(s, row->mask));
+}
+
+/* Any two counts, none and then all, and all twice. */
+static int pairs_agree(const struct setup *s, const struct grid_row *row)
+{
+    for (uint32_t n = 0; n < 8; n++) {
+        uint32_t a = below(carriers_of(s) + 2), b = below(carriers_of(s) + 2);
+        if (!turns_agree(s, row, a < b ? a : b, a < b ? b : a))
+            return 0;
+    }
+    return turns_agree(s, row, 0, carriers_of(s)) && turns_agree(s, row, carriers_of(s), UINT32_MAX);
+}
+
+/* Up to the start of each symbol and up to DC, one carrier less and one more; past the grid's end; and pairs. */
+static int firsts_agree(const struct setup *s, const struct grid_row *row)
+{
+    const uint32_t past_end[] = {carriers_of(s) + 3, 0x10000u, 0x10000u + s->size, 0x80000000u, UINT32_MAX};
+    arrive(s, row, UINT32_MAX);
+    for (uint32_t edge = 0; edge <= carriers_of(s); edge += s->size / 2) {
+        for (uint32_t carriers = edge - (edge > 0); carriers <= edge + 1; carriers++) {
+            want_first(s, row, carriers);
+            if (!first_agrees(s, row, carriers))
+                return 0;
+        }
+    }
+    want_first(s, row, UINT32_MAX);
+    for (size_t n = 0; n < COUNT(past_end); n++)
+        if (!first_agrees(s, row, past_end[n]))
+            return 0;
+    return pairs_agree(s, row);
+}
+
+/* Every count from 0 to past the end: each has one place more than the one before it, and the point there if any. */
+static int every_first_agrees(const struct setup *s, const struct grid_row *row)
+{
+    static uint32_t points_of[MOST_GRID / 2];
+    const uint32_t none = UINT32_MAX, floats = (uint32_t)points_floats(s, row->mask);
+    memset(points_of, 0xFF, sizeof points_of);
+    for (uint32_t n = 0; n < floats; n += 2)
+        points_of[row->places[n / 2] / 2] = n;
+    arrive(s, row, UINT32_MAX);
+    want_first(s, row, 0);
+    for (uint32_t carriers = 0; carriers <= carriers_of(s) + 3; carriers++) {
+        if (!first_agrees(s, row, carriers))
+            return 0;
+        uint32_t n = carriers < carriers_of(s) ? points_of[carriers] : none;
+        if (n != none)
+            memcpy(first_points + n, row->points + n, 2 * sizeof *first_points);
+    }
+    return same_bits(points.at, row->points, floats);
+}
+
 /* Look at one carrier of the grid as it stands, which has the row's bits. */
 static int look_agrees(const struct setup *s, const struct grid_row *row, uint32_t symbol, int32_t carrier)
 {
@@ -393,7 +499,7 @@ static const char *difference(const struct setup *s, const struct grid_row *row)
         int (*agrees)(const struct setup *s, const struct grid_row *row);
     } calls[] = {
         {"ground", ground_agrees}, {"a lay alone", lays_agree}, {"the slot laid in any order", moves_agree},
-        {"look", looks_agree},     {"empty", empty_agrees},
+        {"look", looks_agree},     {"empty", empty_agrees},       {"empty_first", firsts_agree},
     };
     for (size_t i = 0; i < COUNT(calls); i++)
         if (!calls[i].agrees(s, row))
@@ -401,14 +507,20 @@ static const char *difference(const struct setup *s, const struct grid_row *row)
     return NULL;
 }
 
-/* Everything but lit data written over: empty goes by the data alone, look sees nothing on guards, on DC and on what is
-   unlit. */
+/* Everything but lit data written over: empty and empty_first go by the data alone, look sees nothing on guards, on DC
+   and on what is unlit. */
 static int data_alone_agrees(const struct setup *s, const struct grid_row *row)
 {
     for (uint32_t n = 0; n < grid_floats(s); n++)
         if (want_kinds[n / 2] != KIND_DATA)
             want_grid[n] = 0x7F812345u + n;
-    return empty_agrees(s, row) && looks_agree(s, row);
+    return empty_agrees(s, row) && firsts_agree(s, row) && looks_agree(s, row);
+}
+
+/* The small grids, and those with one major group lit; of the others it is the rows of grid_table.h. */
+static int has_every_count(const struct setup *s, uint32_t mask)
+{
+    return s->size == 256 || (s->mode == PUSC_DL && (mask & (mask - 1)) == 0);
 }
 
 static const char *slot_difference(const struct setup *s, uint32_t cell, uint32_t mask, uint32_t slot,
@@ -419,7 +531,11 @@ static const char *slot_difference(const struct setup *s, uint32_t cell, uint32_
     if (!work_out_ground(s, &row) || !work_out_points(s, &row))
         return "place or locate";
     const char *what = difference(s, &row);
-    return what || data_alone_agrees(s, &row) ? what : "empty or look by the data alone";
+    if (!what && !data_alone_agrees(s, &row))
+        what = "empty, empty_first or look by the data alone";
+    if (!what && has_every_count(s, mask) && !every_first_agrees(s, &row))
+        what = "empty_first by every count";
+    return what;
 }
 
 static int slot_differs(const struct setup *s, uint32_t cell, uint32_t mask, uint32_t slot)
@@ -465,6 +581,8 @@ static int test_rows(void)
         const struct grid_row *row = &grid_rows[i];
         const struct setup *s = &setups[i < COUNT(setups) ? i : PUSC_DL]; /* those past all setups are for masks */
         const char *what = row->mode == s->mode && row->size == s->size ? difference(s, row) : "the table";
+        if (!what && !every_first_agrees(s, row))
+            what = "empty_first by every count";
         if (!what)
             continue;
         wrong = 1;
@@ -607,6 +725,23 @@ static int empty_refusal_agrees(const struct setup *s, unsigned wrong_fields, un
            all_untouched();
 }
 
+/* The count has no part in a refusal. */
+static int empty_first_refusal_agrees(const struct setup *s, unsigned wrong_fields, unsigned turn)
+{
+    static const uint32_t questions[] = {1, 2, 3, 17, 4, 8, 9, 0};
+    const uint32_t counts[] = {0, 1, carriers_of(s), UINT32_MAX};
+    struct fields f = fields_of(s, SLOTS, wrong_fields, turn);
+    size_t right = points_floats(s, good_mask(s, turn));
+    size_t points_len = wrong_fields & 32 ? wrong_points(s, right, turn) : right;
+    size_t grid_len = wrong_fields & 64 ? wrong_length(grid_floats(s), turn / 2) : grid_floats(s);
+    spoil_all();
+    for (size_t n = 0; n < COUNT(counts); n++)
+        if (bp_empty_first(f.mode, f.size, f.cell, f.mask, f.slot, counts[n], grid.at, grid_len, points.at,
+                           points_len) != first_refusal(wrong_fields, questions))
+            return 0;
+    return all_untouched();
+}
+
 /* A wrong carrier: just past the range, at the ends of 32 bits, counted from 0, or cut to a right one, on either side. */
 static int32_t wrong_carrier(const struct setup *s, unsigned turn)
 {
@@ -639,6 +774,7 @@ static const struct refusing {
     {"ground", 6, ground_refusal_agrees},
     {"lay", 8, lay_refusal_agrees},
     {"empty", 7, empty_refusal_agrees},
+    {"empty_first", 7, empty_first_refusal_agrees},
     {"look", 7, look_refusal_agrees},
 };
 
@@ -671,6 +807,6 @@ int main(void)
     make_old_bits();
     int wrong = test_rows() | test_slots() | test_masks() | test_refusals();
     if (!wrong)
-        puts("capi: ground, lay, empty and look keep every bit");
+        puts("capi: ground, lay, empty, empty_first and look keep every bit");
     return wrong;
 }

@@ -308,6 +308,35 @@ fn empty_keeps_every_bit() {
     }
 }
 
+/// Over points of their own: those on later carriers keep them.
+#[test]
+fn empty_first_writes_the_points_of_these_carriers_alone() {
+    let grids = grids();
+    for row in rows("first", 940) {
+        let (of, carriers) = (&grids[row[0] as usize], row[1]);
+        let mut back = Lent::spoiled(of.points.len());
+        let mut expected = Lent::spoiled(of.points.len());
+        for (n, place) in of.places.iter().enumerate() {
+            if place / 2 < carriers {
+                let point = point_of(&of.points[2 * n..]);
+                expected.at_mut()[2 * n..2 * n + 2].copy_from_slice(&point);
+            }
+        }
+        assert_eq!(
+            empty_first(
+                of.setup,
+                of.mask,
+                of.slot,
+                carriers,
+                of.grid.at(),
+                back.at_mut()
+            ),
+            Ok(())
+        );
+        assert!(back.is(&expected), "{carriers} carriers {:?}", of.setup);
+    }
+}
+
 #[test]
 fn ground_refuses_and_writes_nothing() {
     for row in rows("ground", 8000) {
@@ -345,6 +374,7 @@ fn lay_refuses_and_writes_nothing() {
     }
 }
 
+/// And empty_first as empty does, whatever the count.
 #[test]
 fn empty_refuses_and_writes_nothing() {
     for row in rows("empty", 8000) {
@@ -359,6 +389,13 @@ fn empty_refuses_and_writes_nothing() {
             Err(Refusal(refusal)),
             "{row:?}"
         );
+        for carriers in [0, 1, grid_len / 2, u32::MAX] {
+            assert_eq!(
+                empty_first(setup, mask, slot, carriers, grid.at(), points.at_mut()),
+                Err(Refusal(refusal)),
+                "{carriers} carriers {row:?}"
+            );
+        }
         assert!(points.is(&Lent::spoiled(points_len as usize)), "{row:?}");
         assert!(grid.is(&Lent::spoiled(grid_len as usize)), "{row:?}");
     }

@@ -9,9 +9,10 @@
     grid      mode size cell mask slot pilot(2) n; the n lit subchannels, their points, where each one's floats start in
               the grid, the ground, the grid; floats as bit patterns
     order     the number of a grid above; subchannels to lay, each at least once, unlit ones too
+    first     the number of a grid above; how many of its carriers to empty
     ground    mode size cell mask slot grid_len; refusal of ground
     lay       mode size cell mask slot subchannel points_len grid_len; refusal of lay
-    empty     mode size cell mask slot points_len grid_len; refusal of empty
+    empty     mode size cell mask slot points_len grid_len; refusal of empty and of empty_first
     look      the number of a grid above, symbol carrier; kind point(2) slot subchannel index
     unseen    mode size cell mask symbol carrier grid_len; refusal of look
     ofusc     size cell subchannel cell subchannel; refusal count hits(48)
@@ -112,6 +113,14 @@ def look_rows(dice, number, mode, size, cell, mask, slot, grid):
             yield [number, symbol, carrier, KINDS[what[0]]] + told + [0] * (5 - len(told))
 
 
+def some_counts(dice, mode, size):
+    """None and all, the edges of each symbol, of its band and of DC, others, and past the grid's end."""
+    places, low, high = size * ref.SLOT_LENGTH[mode], *ref.band(mode, size)
+    edges = [row + size // 2 + c for row in range(0, places, size) for c in (-size // 2, low, 0, high + 1)]
+    counts = [edge + off for edge in edges for off in (0, 1)] + dice.sample(range(places), 10)
+    return counts + [places, places + 1, 2**31, 2**32 - 1]
+
+
 def some_order(dice, subchannels):
     """Each subchannel at least once, some more often, in any order."""
     order = [*range(subchannels), *dice.choices(range(subchannels), k=subchannels)]
@@ -127,6 +136,8 @@ def print_grids(dice):
         ground = grid_table.grounded(mode, size, cell, mask, slot, pilot)
         line("grid", [mode, size, cell, mask, slot] + pilot + [len(lit), *lit] + points + places + ground + grid)
         line("order", [number] + some_order(dice, ref.subchannels(mode, size)))
+        for count in some_counts(dice, mode, size):
+            line("first", [number, count])
         for row in look_rows(dice, number, mode, size, cell, mask, slot, grid):
             line("look", row)
 
