@@ -23,6 +23,8 @@ struct side {
     uint32_t (*ground)(uint32_t, uint32_t, uint32_t, uint32_t, uint32_t, const float *, float *, size_t);
     uint32_t (*lay)(uint32_t, uint32_t, uint32_t, uint32_t, uint32_t, uint32_t, const float *, size_t, float *, size_t);
     uint32_t (*empty)(uint32_t, uint32_t, uint32_t, uint32_t, uint32_t, const float *, size_t, float *, size_t);
+    uint32_t (*empty_first)(uint32_t, uint32_t, uint32_t, uint32_t, uint32_t, uint32_t, const float *, size_t, float *,
+                            size_t);
     uint32_t (*look)(uint32_t, uint32_t, uint32_t, uint32_t, uint32_t, const float *, size_t, int32_t, uint32_t *,
                      float *, uint32_t *, uint32_t *, uint32_t *);
     uint32_t (*ofusc_collisions)(uint32_t, uint32_t, uint32_t, uint32_t, uint32_t, uint8_t *, uint32_t *);
@@ -49,11 +51,11 @@ static uint32_t engine_slot(uint32_t mode, uint32_t size, uint32_t cell, uint32_
 }
 
 static const struct side engine = {
-    bp_place, bp_locate,           engine_slot,       bp_ground,         bp_lay,            bp_empty,
-    bp_look,  bp_ofusc_collisions, bp_amc_collisions, bp_zone_plan_read, bp_zone_plan_write};
+    bp_place,       bp_locate, engine_slot,         bp_ground,         bp_lay,            bp_empty,
+    bp_empty_first, bp_look,   bp_ofusc_collisions, bp_amc_collisions, bp_zone_plan_read, bp_zone_plan_write};
 static const struct side plain = {
-    plain_place, plain_locate,           plain_fill,           plain_ground,    plain_lay,       plain_empty,
-    plain_look,  plain_ofusc_collisions, plain_amc_collisions, plain_plan_read, plain_plan_write};
+    plain_place,       plain_locate, plain_fill,             plain_ground,         plain_lay,       plain_empty,
+    plain_empty_first, plain_look,   plain_ofusc_collisions, plain_amc_collisions, plain_plan_read, plain_plan_write};
 
 // All that a call may write.
 struct outcome {
@@ -107,6 +109,24 @@ static uint32_t run_empty(const struct side *side, struct outcome *o, uint32_t f
         sum += side->empty(q->mode, q->size, q->cell, q->mask, q->slot, source_grid, q->grid_len, o->points,
                            q->points_len);
     return sum;
+}
+
+// So many times the request's carriers: once is half of the grid, twice all of it.
+static inline uint32_t empty_first(const struct side *side, struct outcome *o, uint32_t from, uint32_t to,
+                                   uint32_t times) {
+    uint32_t sum = 0;
+    for (const struct request *q = requests + from; q < requests + to; q++)
+        sum += side->empty_first(q->mode, q->size, q->cell, q->mask, q->slot, times * q->carriers, source_grid,
+                                 q->grid_len, o->points, q->points_len);
+    return sum;
+}
+
+static uint32_t run_empty_half(const struct side *side, struct outcome *o, uint32_t from, uint32_t to) {
+    return empty_first(side, o, from, to, 1);
+}
+
+static uint32_t run_empty_whole(const struct side *side, struct outcome *o, uint32_t from, uint32_t to) {
+    return empty_first(side, o, from, to, 2);
 }
 
 static uint32_t run_place(const struct side *side, struct outcome *o, uint32_t from, uint32_t to) {
@@ -163,11 +183,12 @@ static uint32_t run_plan_write(const struct side *side, struct outcome *o, uint3
 // --- a row of the table ----------------------------------------------------------------------------------------------
 
 // A call in one setup. `timed` requests are timed, the strays after them only compared; times are for one of `units` a
-// request.
+// request. before: the ratio that is known of an earlier way to do it, or 0.
 struct row {
     const char *call, *setup;
     run_fn *run;
     uint32_t timed, units;
+    double before;
 };
 
 static bool timing;
@@ -226,7 +247,11 @@ static void time_row(const struct row *r) {
     }
     a *= 1e9 / ((double)a_passes * r->timed * r->units);
     b *= 1e9 / ((double)b_passes * r->timed * r->units);
-    printf("| %-24s | %-19s | %8.2f | %8.2f | %5.2f |\n", r->call, r->setup, a, b, a / b);
+    printf("| %-24s | %-19s | %8.2f | %8.2f | %5.2f |", r->call, r->setup, a, b, a / b);
+    if (r->before > 0)
+        printf(" %6.2f |\n", r->before);
+    else
+        printf("        |\n");
     fflush(stdout);
 }
 
@@ -243,32 +268,33 @@ enum extent { ENDS, ALL_SIZES, SOME_LIT }; // of a call's rows: each has what th
 static const struct setup {
     const char *name;
     uint32_t mode, size, mask;
-    enum extent from; // sizes between a mode's smallest and its largest are from ALL_SIZES on
+    enum extent from;    // sizes between a mode's smallest and its largest are from ALL_SIZES on
+    double empty_before; // the published ratio of empty when it went subchannel by subchannel; 0 where there is none
 } setups[] = {
-    {"PUSC downlink, 2048", PUSC_DL, 2048, FULL_MASK, ENDS},
-    {"groups 0, 2, 4 lit", PUSC_DL, 2048, 0x15, SOME_LIT},
-    {"groups 0, 1, 3 lit", PUSC_DL, 2048, 0x0B, SOME_LIT},
-    {"PUSC uplink, 2048", PUSC_UL, 2048, 0, ENDS},
-    {"optional FUSC, 256", OFUSC, 256, 0, ENDS},
-    {"optional FUSC, 512", OFUSC, 512, 0, ALL_SIZES},
-    {"optional FUSC, 1024", OFUSC, 1024, 0, ALL_SIZES},
-    {"optional FUSC, 2048", OFUSC, 2048, 0, ENDS},
-    {"AMC 6x1, 256", AMC, 256, 0, ENDS},
-    {"AMC 6x1, 512", AMC, 512, 0, ALL_SIZES},
-    {"AMC 6x1, 1024", AMC, 1024, 0, ALL_SIZES},
-    {"AMC 6x1, 2048", AMC, 2048, 0, ENDS},
-    {"AMC 2x3, 256", AMC_2X3, 256, 0, ENDS},
-    {"AMC 2x3, 512", AMC_2X3, 512, 0, ALL_SIZES},
-    {"AMC 2x3, 1024", AMC_2X3, 1024, 0, ALL_SIZES},
-    {"AMC 2x3, 2048", AMC_2X3, 2048, 0, ENDS},
-    {"AMC 3x2, 256", AMC_3X2, 256, 0, ENDS},
-    {"AMC 3x2, 512", AMC_3X2, 512, 0, ALL_SIZES},
-    {"AMC 3x2, 1024", AMC_3X2, 1024, 0, ALL_SIZES},
-    {"AMC 3x2, 2048", AMC_3X2, 2048, 0, ENDS},
-    {"AMC 1x6, 256", AMC_1X6, 256, 0, ENDS},
-    {"AMC 1x6, 512", AMC_1X6, 512, 0, ALL_SIZES},
-    {"AMC 1x6, 1024", AMC_1X6, 1024, 0, ALL_SIZES},
-    {"AMC 1x6, 2048", AMC_1X6, 2048, 0, ENDS},
+    {"PUSC downlink, 2048", PUSC_DL, 2048, FULL_MASK, ENDS, 0.24},
+    {"groups 0, 2, 4 lit", PUSC_DL, 2048, 0x15, SOME_LIT, 0.24},
+    {"groups 0, 1, 3 lit", PUSC_DL, 2048, 0x0B, SOME_LIT, 0.24},
+    {"PUSC uplink, 2048", PUSC_UL, 2048, 0, ENDS, 0.14},
+    {"optional FUSC, 256", OFUSC, 256, 0, ENDS, 0.13},
+    {"optional FUSC, 512", OFUSC, 512, 0, ALL_SIZES, 0},
+    {"optional FUSC, 1024", OFUSC, 1024, 0, ALL_SIZES, 0},
+    {"optional FUSC, 2048", OFUSC, 2048, 0, ENDS, 0.08},
+    {"AMC 6x1, 256", AMC, 256, 0, ENDS, 0.10},
+    {"AMC 6x1, 512", AMC, 512, 0, ALL_SIZES, 0},
+    {"AMC 6x1, 1024", AMC, 1024, 0, ALL_SIZES, 0},
+    {"AMC 6x1, 2048", AMC, 2048, 0, ENDS, 0.08},
+    {"AMC 2x3, 256", AMC_2X3, 256, 0, ENDS, 0.06},
+    {"AMC 2x3, 512", AMC_2X3, 512, 0, ALL_SIZES, 0},
+    {"AMC 2x3, 1024", AMC_2X3, 1024, 0, ALL_SIZES, 0},
+    {"AMC 2x3, 2048", AMC_2X3, 2048, 0, ENDS, 0.06},
+    {"AMC 3x2, 256", AMC_3X2, 256, 0, ENDS, 0.06},
+    {"AMC 3x2, 512", AMC_3X2, 512, 0, ALL_SIZES, 0},
+    {"AMC 3x2, 1024", AMC_3X2, 1024, 0, ALL_SIZES, 0},
+    {"AMC 3x2, 2048", AMC_3X2, 2048, 0, ENDS, 0.06},
+    {"AMC 1x6, 256", AMC_1X6, 256, 0, ENDS, 0.06},
+    {"AMC 1x6, 512", AMC_1X6, 512, 0, ALL_SIZES, 0},
+    {"AMC 1x6, 1024", AMC_1X6, 1024, 0, ALL_SIZES, 0},
+    {"AMC 1x6, 2048", AMC_1X6, 2048, 0, ENDS, 0.06},
 };
 enum { SETUPS = sizeof setups / sizeof setups[0] };
 
@@ -279,38 +305,41 @@ static void map_rows(const char *call, run_fn *run, enum extent extent, enum uni
         if (s->from > extent) continue;
         uint32_t points = INDICES * subchannels(s->mode, s->size);
         draw_requests(s->mode, s->size, s->mask);
-        do_row((struct row){call, s->name, run, REQUESTS, unit == POINT ? points : 1});
+        do_row((struct row){call, s->name, run, REQUESTS, unit == POINT ? points : 1,
+                            run == run_empty ? s->empty_before : 0});
     }
 }
 
 static void collision_rows(void) {
     draw_requests(OFUSC, 256, 0);
-    do_row((struct row){"optional FUSC collisions", "256", run_ofusc_collisions, REQUESTS, 1});
+    do_row((struct row){"optional FUSC collisions", "256", run_ofusc_collisions, REQUESTS, 1, 0});
     draw_requests(OFUSC, 2048, 0);
-    do_row((struct row){"optional FUSC collisions", "2048", run_ofusc_collisions, REQUESTS, 1});
+    do_row((struct row){"optional FUSC collisions", "2048", run_ofusc_collisions, REQUESTS, 1, 0});
     draw_requests(AMC, 2048, 0);
-    do_row((struct row){"AMC collisions", "any size and shape", run_amc_collisions, REQUESTS, 1});
+    do_row((struct row){"AMC collisions", "any size and shape", run_amc_collisions, REQUESTS, 1, 0});
 }
 
 static void plan_rows(const char *call, run_fn *run) {
     draw_plans(SHORTEST_PLAN);
-    do_row((struct row){call, "1 zone, 7 bytes", run, PLANS, 1});
+    do_row((struct row){call, "1 zone, 7 bytes", run, PLANS, 1, 0});
     draw_plans(LONGEST_PLAN);
-    do_row((struct row){call, "8 zones, 51 bytes", run, PLANS, 1});
+    do_row((struct row){call, "8 zones, 51 bytes", run, PLANS, 1, 0});
 }
 
 static void heading(void) {
-    printf("ns a data point of the slot for slot, ground and empty, ns a call for the others; the loop around a call\n"
-           "is in its time. slot: the engine's ground and a lay for each subchannel, questions and all, against plain\n"
-           "C that fills the slot in one call. lay: one subchannel, 48 points. Groups lit: of PUSC downlink, a data\n"
-           "point of the slot still being any of its 2880, so that these rows can be held to the one with all lit.\n"
+    printf("ns a data point of the slot for slot, ground, empty and empty_first, ns a call for the others; the loop\n"
+           "around a call is in its time. slot: the engine's ground and a lay for each subchannel, questions and all,\n"
+           "against plain C that fills the slot in one call. lay: one subchannel, 48 points. empty_first: half of the\n"
+           "grid's carriers, and all. Groups lit: of PUSC downlink. A data point of the slot is any of it, lit or not,\n"
+           "emptied or not, so that these rows can be held to the ones with all. before: the ratio published for empty\n"
+           "when it went subchannel by subchannel, from another run, where there is one; it goes by carrier now.\n"
            "Warm buffers: %d requests (%d plans), drawn at random from what the call accepts, again and again.\n"
            "Best of %d rounds of %d to %d ms of processor time, both sides in turn.\n"
            "Each row first compared both sides on its requests and on %d more, many of which are refused.\n"
            "Plain C: %s, %s. The engine: its static archive.\n\n",
            REQUESTS, PLANS, ROUNDS, ROUND_MS, 2 * ROUND_MS, STRAYS, BENCH_COMPILER, BENCH_FLAGS);
-    printf("| call                     | setup               |   engine |  plain C | ratio |\n"
-           "|--------------------------|---------------------|---------:|---------:|------:|\n");
+    printf("| call                     | setup               |   engine |  plain C | ratio | before |\n"
+           "|--------------------------|---------------------|---------:|---------:|------:|-------:|\n");
 }
 
 int main(int argc, char **argv) {
@@ -327,6 +356,8 @@ int main(int argc, char **argv) {
     map_rows("ground", run_ground, SOME_LIT, POINT);
     map_rows("lay", run_lay, ALL_SIZES, CALL);
     map_rows("empty", run_empty, SOME_LIT, POINT);
+    map_rows("empty_first, half", run_empty_half, SOME_LIT, POINT);
+    map_rows("empty_first, all", run_empty_whole, SOME_LIT, POINT);
     map_rows("place", run_place, ENDS, CALL);
     map_rows("locate", run_locate, ENDS, CALL);
     map_rows("look", run_look, ENDS, CALL);

@@ -1,8 +1,9 @@
 // The benchmark's other side: the engine's calls in plain C. The same formulas, the same questions in the same order,
 // the same signatures; bellpulsar.h says what they mean.
 //
-// Each place is worked out by itself from mode, size, cell, slot, subchannel and index, also in lay and empty. place
-// goes by the inverse table of R, locate and look by those of Q, P and both B; plain_tables works them out once.
+// Each place is worked out by itself from mode, size, cell, slot, subchannel and index, also in lay, empty and
+// empty_first, which then tests whether it is one of the first. place goes by the inverse table of R, locate and look
+// by those of Q, P and both B; plain_tables works them out once.
 // plain_fill is no call of the engine: it writes at once what the ground and a lay of each lit subchannel write, and
 // puts questions 1 2 3 17 4 8 9, 8 about the points of the whole slot.
 #ifndef PLAIN_H
@@ -26,6 +27,8 @@ uint32_t plain_fill(uint32_t mode, uint32_t size, uint32_t cell, uint32_t mask, 
                     const float *points, size_t points_len, float *grid, size_t grid_len);
 uint32_t plain_empty(uint32_t mode, uint32_t size, uint32_t cell, uint32_t mask, uint32_t slot, const float *grid,
                      size_t grid_len, float *points, size_t points_len);
+uint32_t plain_empty_first(uint32_t mode, uint32_t size, uint32_t cell, uint32_t mask, uint32_t slot, uint32_t carriers,
+                           const float *grid, size_t grid_len, float *points, size_t points_len);
 uint32_t plain_look(uint32_t mode, uint32_t size, uint32_t cell, uint32_t mask, uint32_t symbol, const float *grid,
                     size_t grid_len, int32_t carrier, uint32_t *kind, float point[2], uint32_t *slot,
                     uint32_t *subchannel, uint32_t *index);

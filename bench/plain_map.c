@@ -367,6 +367,22 @@ uint32_t plain_empty(uint32_t mode, uint32_t size, uint32_t cell, uint32_t mask,
     return 0;
 }
 
+uint32_t plain_empty_first(uint32_t mode, uint32_t size, uint32_t cell, uint32_t mask, uint32_t slot, uint32_t carriers,
+                           const float *grid, size_t grid_len, float *points, size_t points_len) {
+    uint32_t row, refusal = slot_refusal(mode, size, cell, mask, slot);
+    if (!refusal) refusal = buffers_refusal(mode, size, mask, points_len, grid_len);
+    if (refusal) return refusal;
+    for (uint32_t s = 0; s < subchannels(mode, size); s++) {
+        if (!is_lit(mode, mask, s)) continue;
+        for (uint32_t m = 0; m < INDICES; m++) {
+            uint32_t column = place(mode, size, cell, slot, s, m, &row);
+            if (row * size + column < carriers) copy_point(points + 2 * m, grid + 2 * (row * size + column));
+        }
+        points += 2 * INDICES;
+    }
+    return 0;
+}
+
 uint32_t plain_look(uint32_t mode, uint32_t size, uint32_t cell, uint32_t mask, uint32_t symbol, const float *grid,
                     size_t grid_len, int32_t carrier, uint32_t *kind, float point[2], uint32_t *slot,
                     uint32_t *subchannel, uint32_t *index) {

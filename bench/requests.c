@@ -40,6 +40,7 @@ static struct request accepted_request(uint32_t mode, uint32_t size, uint32_t ma
         .lay_len = 2 * INDICES,
         .points_len = 2 * INDICES * lit_subchannels(mode, size, mask),
         .grid_len = 2 * size * symbols(mode),
+        .carriers = size * symbols(mode) / 2,
     };
 }
 
@@ -48,6 +49,7 @@ static void disturb_request(struct request *q) {
     uint32_t cell_count = cells(q->mode, q->size), subchannel_count = subchannels(q->mode, q->size);
     if (q->mode == PUSC_DL && below(2)) q->mask = below(FULL_MASK + 2);
     q->points_len = 2 * INDICES * lit_subchannels(q->mode, q->size, q->mask);
+    q->carriers = below(q->size * symbols(q->mode) + 2);
     const struct {
         uint32_t *field, limit;
     } fields[] = {
@@ -65,6 +67,7 @@ static void disturb_request(struct request *q) {
         {&q->lay_len, q->lay_len},
         {&q->points_len, q->points_len},
         {&q->grid_len, q->grid_len},
+        {&q->carriers, q->size},
     };
     for (uint32_t i = 0; i < sizeof fields / sizeof fields[0]; i++) disturb(fields[i].field, fields[i].limit, 6);
     if (below(2)) q->carrier = ~q->carrier; // the range is its own mirror image, and so are the numbers past it

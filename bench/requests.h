@@ -9,10 +9,10 @@
 enum { REQUESTS = 512, PLANS = 128, STRAYS = 512, PLAN_ROOM = 56 };
 
 // All fields that a call of the map may have; the second cell and subchannel are those of the collision calls, lay_len
-// is the points' length in lay.
+// is the points' length in lay. carriers, of empty_first, is half of the grid, in a stray any number to past its end.
 struct request {
     uint32_t mode, size, cell, mask, slot, subchannel, index, symbol, cell_b, subchannel_b;
-    uint32_t lay_len, points_len, grid_len;
+    uint32_t lay_len, points_len, grid_len, carriers;
     int32_t carrier;
 };
 
