@@ -2,7 +2,7 @@
 use mathlib.Core.Path.{_≡_, sym, ap, ap₂, _∙_}
 use mathlib.Core.Bool.{true}
 use mathlib.Core.List.{List}
-use Prim.Native.Nat.{ℕ, _+_, _-_, _*_, _/_, _%_, _<_}
+use Prim.Native.Nat.{ℕ, _+_, _*_, _/_, _%_, _<_}
 use native.Mathlib.Omega.{arith}
 use lib.Arith.{digits-mod}
 use lib.Dec.{eqb}
@@ -13,7 +13,6 @@ use Rattle.base.specs.Model.{Starts}
 use Rattle.base.proofs.Test.{cases}
 use Rattle.base.proofs.Rank.{rank-all}
 use Rattle.base.proofs.LeaveOut.{skip-below, skip-above, skip-lt}
-use Rattle.base.proofs.Tabulate.{starts-as}
 use Rattle.carriers.specs.declared.Address.{Address}
 use Rattle.carriers.specs.Bin.{binPilotPlace, usedOfData, dataOfUsed}
 use Rattle.carriers.specs.Model.{addressNumber}
@@ -25,7 +24,7 @@ use Rattle.amc.specs.Model.{IsShape}
 use Rattle.map.specs.declared.Setup.{Setup}
 use Rattle.map.specs.Mode.{setupWith, shapeOf, width, symbols, addressOf}
 use Rattle.map.specs.Model.{IsAmc, Valid, pusc-dl, pusc-ul, ofusc, amc}
-use Rattle.map.proofs.Choice.{amc-tests, amc-shape, mode-2, mode-amc, mode-bins}
+use Rattle.map.proofs.Choice.{amc-shape, mode-0, mode-1, mode-2, mode-amc, mode-bins}
 use Rattle.map.proofs.ByMode.{listed-mode, shape-symbols, in-pusc-ul, bin-width}
 use Rattle.mask.specs.Mask.{isLit, isUsedLit}
 use Rattle.pusc_dl.specs.Cluster.{firstPilot, secondPilot, clusterPlace}
@@ -33,6 +32,7 @@ use Rattle.pusc_dl.specs.Group.{hasGroup}
 use Rattle.pusc_dl.specs.Map.{usedGroup}
 use Rattle.rows.specs.declared.Runs.{Runs}
 use Rattle.rows.specs.Model.{runStep, runCount, tileRuns, runFirst, runSecond, runsOf, runPlace, runPoints, numberAt, runNumber, runStride, pointStride, RowNumbers, runEntries, runEntry, RunTable, placeEntries, placeEntry, PlaceTable}
+use Rattle.rows.proofs.Row.{TableAs, from-table}
 use Rattle.rows.proofs.Walk.{bin-runs, bin-apart, runs-bins, two-points, one-point, all-points, cluster-apart}
 use Rattle.pusc_dl.specs.Model as dl
 use Rattle.pusc_ul.specs.Tile.{tileSubchannel}
@@ -44,54 +44,36 @@ use Rattle.amc.specs.Map as adjacent
 
 -- ---- the tables are those of the mode
 
+module _ (c : Setup) where
+  pub clusters-as : (mask : ℕ) → c .mode ≡ 0 → TableAs 120 (runEntries c) (dl.clusterEntry (c .cell) mask) (runEntry c mask)
+  unfolding runEntries runEntry
+  clusters-as mask q = record { length-is = mode-0 _ _ _ _ _ _ q; entry-is = λ i. mode-0 _ _ _ _ _ _ q }
+
+  pub tiles-as : (mask : ℕ) → c .mode ≡ 1 → TableAs 70 (runEntries c) (tileSubchannel (c .cell)) (runEntry c mask)
+  unfolding runEntries runEntry
+  tiles-as mask q = record { length-is = mode-1 _ _ _ _ _ _ q; entry-is = λ i. mode-1 _ _ _ _ _ _ q }
+
+  pub inverses-as : c .mode ≡ 0 → TableAs 48 (placeEntries c) (dl.inverseEntry (c .cell)) (placeEntry c)
+  unfolding placeEntries placeEntry
+  inverses-as q = record { length-is = mode-0 _ _ _ _ _ _ q; entry-is = λ i. mode-0 _ _ _ _ _ _ q }
+
+  pub groups-as : c .mode ≡ 2 → TableAs 48 (placeEntries c) (spread.cellNumber (width c) (c .cell)) (placeEntry c)
+  unfolding placeEntries placeEntry
+  groups-as q = record { length-is = mode-2 _ _ _ _ _ _ q; entry-is = λ i. mode-2 _ _ _ _ _ _ q }
+
+  pub indices-as : IsAmc (c .mode) → TableAs 48 (placeEntries c) (adjacent.indexOf (c .cell)) (placeEntry c)
+  unfolding placeEntries placeEntry
+  indices-as q = record { length-is = mode-amc _ _ _ _ _ _ q; entry-is = λ i. mode-amc _ _ _ _ _ _ q }
+
+-- the others have none
 module _ (c : Setup) (table : List ℕ) where
-  pub to-clusters : (mask : ℕ) → c .mode ≡ 0 → Starts 120 (dl.clusterEntry (c .cell) mask) table → RunTable c mask table
-  unfolding runEntries runEntry
-  to-clusters mask q s = rw q s
-
-  pub from-clusters : (mask : ℕ) → c .mode ≡ 0 → RunTable c mask table → Starts 120 (dl.clusterEntry (c .cell) mask) table
-  unfolding runEntries runEntry
-  from-clusters mask q s = rw q at s
-
-  pub to-tiles : (mask : ℕ) → c .mode ≡ 1 → Starts 70 (tileSubchannel (c .cell)) table → RunTable c mask table
-  unfolding runEntries runEntry
-  to-tiles mask q s = rw q s
-
-  pub from-tiles : (mask : ℕ) → c .mode ≡ 1 → RunTable c mask table → Starts 70 (tileSubchannel (c .cell)) table
-  unfolding runEntries runEntry
-  from-tiles mask q s = rw q at s
-
   pub no-runs : (mask : ℕ) → c .mode < 7 → (c .mode ≡ 0 → ⊥) → (c .mode ≡ 1 → ⊥) → RunTable c mask table
   unfolding runEntries
   no-runs mask h n₀ n₁ k k-lt = absurd (omega (arith, mode-bins {A = ℕ} (c .mode) 120 70 0 0 h n₀ n₁))
 
-  pub to-inverses : c .mode ≡ 0 → Starts 48 (dl.inverseEntry (c .cell)) table → PlaceTable c table
-  unfolding placeEntries placeEntry
-  to-inverses q s = rw q s
-
-  pub from-inverses : c .mode ≡ 0 → PlaceTable c table → Starts 48 (dl.inverseEntry (c .cell)) table
-  unfolding placeEntries placeEntry
-  from-inverses q s = rw q at s
-
   pub no-places : c .mode ≡ 1 → PlaceTable c table
   unfolding placeEntries
   no-places q = rw q (λ k k-lt. absurd (omega arith))
-
-  pub to-groups : c .mode ≡ 2 → Starts 48 (spread.cellNumber (width c) (c .cell)) table → PlaceTable c table
-  unfolding placeEntries placeEntry
-  to-groups q s = starts-as table s (mode-2 {A = ℕ} (c .mode) 48 0 48 48 0 q) (λ k. mode-2 (c .mode) _ _ _ _ _ q)
-
-  pub from-groups : c .mode ≡ 2 → PlaceTable c table → Starts 48 (spread.cellNumber (width c) (c .cell)) table
-  unfolding placeEntries placeEntry
-  from-groups q s = starts-as table s (sym (mode-2 {A = ℕ} (c .mode) 48 0 48 48 0 q)) (λ k. sym (mode-2 (c .mode) _ _ _ _ _ q))
-
-  pub to-indices : IsAmc (c .mode) → Starts 48 (adjacent.indexOf (c .cell)) table → PlaceTable c table
-  unfolding placeEntries placeEntry
-  to-indices q s = let t = amc-tests q in rw (t .not-0, t .not-1, t .not-2, t .listed) s
-
-  pub from-indices : IsAmc (c .mode) → PlaceTable c table → Starts 48 (adjacent.indexOf (c .cell)) table
-  unfolding placeEntries placeEntry
-  from-indices q s = let t = amc-tests q in rw (t .not-0, t .not-1, t .not-2, t .listed) at s
 
 -- ---- where all is lit, a subchannel's rank is its number
 
@@ -210,7 +192,7 @@ module _ (mask slot row i : ℕ) (r : List ℕ) where
 module _ {c : Setup} (v : Valid c) (row i : ℕ) (hr : row < symbols c) (hi : i < runCount c) (mask : ℕ) (runs places : List ℕ) (tr : RunTable c mask runs) (tp : PlaceTable c places) where
   pub asks-0 : c .mode ≡ 0 → ((row < 2) × (i < 120)) × (Starts 120 (dl.clusterEntry (c .cell) mask) runs × Starts 48 (dl.inverseEntry (c .cell)) places)
   unfolding symbols runCount
-  asks-0 q = ((rw q at hr, rw q at hi), (from-clusters c runs mask q tr, from-inverses c places q tp))
+  asks-0 q = ((rw q at hr, rw q at hi), (from-table runs (clusters-as c mask q) tr, from-table places (inverses-as c q) tp))
 
   bin-lt : (c .mode ≡ 0 → ⊥) → (c .mode ≡ 1 → ⊥) → i < 6 * width c
   unfolding runCount
@@ -218,15 +200,15 @@ module _ {c : Setup} (v : Valid c) (row i : ℕ) (hr : row < symbols c) (hi : i 
 
   pub asks-2 : c .mode ≡ 2 → (n : ℕ) → n ≡ width c → Width n × ((i < 6 * n) × Starts 48 (spread.cellNumber n (c .cell)) places)
   asks-2 q n e =
-      rw e (bin-width v (λ z. omega arith) (λ z. omega arith), (bin-lt (λ z. omega arith) (λ z. omega arith), from-groups c places q tp))
+      rw e (bin-width v (λ z. omega arith) (λ z. omega arith), (bin-lt (λ z. omega arith) (λ z. omega arith), from-table places (groups-as c q) tp))
 
   pub asks-amc : IsAmc (c .mode) → (shape : Shape) → shape ≡ shapeOf (c .mode) → (IsShape shape × (row < shape .symbols) × (i < 192)) × Starts 48 (adjacent.indexOf (c .cell)) places
   asks-amc q shape e =
       let w = size (bin-width v (λ z. omega arith) (λ z. omega arith)) .most in
       let l = bin-lt (λ z. omega arith) (λ z. omega arith) in
-      (rw e (amc-shape (c .mode) q, rw (shape-symbols c q) hr, omega arith), from-indices c places q tp)
+      (rw e (amc-shape (c .mode) q, rw (shape-symbols c q) hr, omega arith), from-table places (indices-as c q) tp)
 
 pub asks-1 : {c : Setup} → Valid c → (row : ℕ) → row < symbols c → (mask : ℕ) (runs : List ℕ) → RunTable c mask runs → c .mode ≡ 1
     → ((c .cell < 70) × (row < 3)) × Starts 70 (tileSubchannel (c .cell)) runs
 unfolding symbols
-asks-1 {c} v row hr mask runs tr q = ((in-pusc-ul v q .cell-lt, rw q at hr), from-tiles c runs mask q tr)
+asks-1 {c} v row hr mask runs tr q = ((in-pusc-ul v q .cell-lt, rw q at hr), from-table runs (tiles-as c mask q) tr)

@@ -38,10 +38,17 @@ use Rattle.pusc_dl.specs.Map as pusc-dl-map
 use Rattle.ofusc.specs.Map as ofusc-map
 use Rattle.amc.specs.Map as amc-map
 
--- the table of a mode is the setup's
-pub record TableAs (c : Setup) (slot n : ℕ) (f : ℕ → ℕ) : Type 0 where
-  pub length-is : n ≡ tableLength c
-  pub entry-is : (i : ℕ) → f i ≡ tableEntry c slot i
+-- the table of a mode is the setup's: so many entries, and the same
+pub record TableAs (n n′ : ℕ) (f f′ : ℕ → ℕ) : Type 0 where
+  pub length-is : n ≡ n′
+  pub entry-is : (i : ℕ) → f i ≡ f′ i
+
+module _ {n n′ : ℕ} {f f′ : ℕ → ℕ} (table : List ℕ) (a : TableAs n n′ f f′) where
+  pub to-table : Starts n f table → Starts n′ f′ table
+  to-table s = starts-as table s (a .length-is) (a .entry-is)
+
+  pub from-table : Starts n′ f′ table → Starts n f table
+  from-table s = starts-as table s (sym (a .length-is)) (λ i. sym (a .entry-is i))
 
 -- PUSC has none
 pub no-table : (c : Setup) (slot : ℕ) → c .mode < 2 → (table : List ℕ) → TableOf c slot table
@@ -54,20 +61,14 @@ no-table c slot h table k k-lt = absurd (omega (arith, none))
         (λ e. rw e)
         (λ e. let n = eqb-false (c .mode) 0 e in mode-1 (c .mode) 0 0 48 48 0 (omega arith))
 
-module _ {c : Setup} {slot : ℕ} where
-  pub as-2 : c .mode ≡ 2 → TableAs c slot 48 (ofusc.cellNumber (width c) (c .cell))
+module _ (c : Setup) (slot : ℕ) where
+  pub as-2 : c .mode ≡ 2 → TableAs 48 (tableLength c) (ofusc.cellNumber (width c) (c .cell)) (tableEntry c slot)
   unfolding tableLength tableEntry
   as-2 e = record { length-is = mode-2 _ _ _ _ _ _ e; entry-is = λ i. mode-2 _ _ _ _ _ _ e }
 
-  pub as-amc : IsAmc (c .mode) → TableAs c slot 48 (amc.sequenceCarrier (shapeOf (c .mode)) (width c) (slot * shapeOf (c .mode) .symbols) (c .cell) 0)
+  pub as-amc : IsAmc (c .mode) → TableAs 48 (tableLength c) (amc.sequenceCarrier (shapeOf (c .mode)) (width c) (slot * shapeOf (c .mode) .symbols) (c .cell) 0) (tableEntry c slot)
   unfolding tableLength tableEntry
   as-amc q = record { length-is = mode-amc _ _ _ _ _ _ q; entry-is = λ i. mode-amc _ _ _ _ _ _ q }
-
-  pub to-table : {n : ℕ} {f : ℕ → ℕ} (table : List ℕ) → TableAs c slot n f → Starts n f table → TableOf c slot table
-  to-table table a s = starts-as table s (a .length-is) (a .entry-is)
-
-  pub from-table : {n : ℕ} {f : ℕ → ℕ} (table : List ℕ) → TableAs c slot n f → TableOf c slot table → Starts n f table
-  from-table table a s = starts-as table s (sym (a .length-is)) (λ i. sym (a .entry-is i))
 
 -- a row of data numbers of optional FUSC: they are small, and their used numbers are the spots of a slot of one symbol
 module _ (numbers : List ℕ) (f : ℕ → ℕ) (e : numbers ≡ tabulate 48 f) where
@@ -104,13 +105,13 @@ module _ {c : Setup} (v : Valid c) (s : ℕ) (hs : s < subchannels c) (slot : �
   pub asks-2 : (n : ℕ) → n ≡ width c → c .mode ≡ 2 → Width n × (s < n) × Starts 48 (ofusc.cellNumber n (c .cell)) table
   asks-2 n q e =
       let r = in-ofusc v e in
-      (rw q (bin-width v (λ z. omega arith) (λ z. omega arith)), rw q (rw (r .subchannels-are) at hs), rw q (from-table table (as-2 e) t))
+      (rw q (bin-width v (λ z. omega arith) (λ z. omega arith)), rw q (rw (r .subchannels-are) at hs), rw q (from-table table (as-2 c slot e) t))
 
   pub asks-amc : IsAmc (c .mode) → (shape : Shape) → shape ≡ shapeOf (c .mode) → (n : ℕ) → n ≡ width c
       → (IsShape shape × EvenWidth n × (c .cell < 2352) × (s < n * shape .symbols)) × Starts 48 (amc.sequenceCarrier shape n (slot * shape .symbols) (c .cell) 0) table
   asks-amc q shape e n f =
       let a = table-asks v q shape e n f in
-      ((a .0, a .1, a .2, rw (e, f) (rw (in-amc v q .subchannels-are) at hs)), rw (e, f) (from-table table (as-amc q) t))
+      ((a .0, a .1, a .2, rw (e, f) (rw (in-amc v q .subchannels-are) at hs)), rw (e, f) (from-table table (as-amc c slot q) t))
 
 -- the size is 64N
 bin-size : {c : Setup} → Valid c → IsAmc (c .mode) → c .size ≡ 64 * width c

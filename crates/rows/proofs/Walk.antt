@@ -18,7 +18,7 @@ use Rattle.pusc_dl.specs.Cluster.{isClusterPilot, firstPilot, secondPilot}
 use Rattle.pusc_dl.specs.Map.{usedGroup, logicalOf}
 use Rattle.pusc_dl.specs.Model.{clusterLit}
 use Rattle.pusc_ul.specs.Tile.{isTilePilot}
-use Rattle.ofusc.proofs.Sequence.{pos, size}
+use Rattle.ofusc.proofs.Sequence.{pos}
 use Rattle.map.specs.declared.Setup.{Setup}
 use Rattle.map.specs.Mode.{setupWith, width, band, isPilot}
 use Rattle.map.specs.Model.{Valid, pusc-dl, pusc-ul, ofusc, amc}
@@ -117,8 +117,6 @@ module _ (b : Runs) (first-past : b .step ≤ b .first) (second-past : b .step �
 -- what the walk knows of the runs of a symbol
 pub record RunLaw (c : Setup) (y : ℕ) : Type 0 where
   pub step-pos : 0 < runStep c
-  pub step-few : runStep c ≤ 14
-  pub count-few : runCount c ≤ 420
   pub points-few : runPoints (runsOf c y) ≤ 12
   -- together they are the used numbers, and none has DC among its carriers
   pub used-is : runCount c * runStep c ≡ band c .used
@@ -224,15 +222,13 @@ module _ (n y : ℕ) where
       alone false = refl
 
   -- of whichever setup over bins
-  bin-law : (c : Setup) → runsOf c y ≡ bin-runs n y → n ≤ 32 → band c .used ≡ 54 * n → band c .half ≡ 27 * n
+  bin-law : (c : Setup) → runsOf c y ≡ bin-runs n y → band c .used ≡ 54 * n → band c .half ≡ 27 * n
       → ((u : ℕ) → isPilot c y u ≡ isBinPilot y u) → ((mask u : ℕ) → isUsedLit c mask u ≡ true) → RunLaw c y
-  bin-law c e few used half same all =
+  bin-law c e used half same all =
       let es : runStep c ≡ 9 = ap (λ (b : Runs). b .step) e in
       let ec : runCount c ≡ 6 * n = ap (λ (b : Runs). b .count) e in
       record {
         step-pos = omega arith;
-        step-few = omega arith;
-        count-few = omega arith;
         points-few = omega (arith, bin-points, ap runPoints e);
         used-is = rw (es, ec) (omega arith);
         half-run = 3 * n;
@@ -255,8 +251,6 @@ run-law (pusc-dl {cell = cell} h) y =
     let a = cluster-apart y in
     record {
       step-pos = omega arith;
-      step-few = omega arith;
-      count-few = omega arith;
       points-few = omega (arith, two-points b (a .0) (a .1));
       used-is = refl;
       half-run = 60;
@@ -268,8 +262,6 @@ run-law (pusc-dl {cell = cell} h) y =
 run-law (pusc-ul h) y =
     record {
       step-pos = omega arith;
-      step-few = omega arith;
-      count-few = omega arith;
       points-few = omega (arith, tile-points y);
       used-is = refl;
       half-run = 210;
@@ -280,12 +272,12 @@ run-law (pusc-ul h) y =
     }
 run-law (ofusc {n = n} {cell = cell} w h) y =
     let c = setupWith 2 (64 * n) cell in
-    bin-law n y c (sym (runs-bins c y (omega arith) (λ e. omega arith) (λ e. omega arith)) ∙ ap (λ (t : ℕ). bin-runs t y) (width-is n)) (size w .most)
+    bin-law n y c (sym (runs-bins c y (omega arith) (λ e. omega arith) (λ e. omega arith)) ∙ ap (λ (t : ℕ). bin-runs t y) (width-is n))
     (ap (λ (t : ℕ). 54 * t) (width-is n)) (ap (λ (t : ℕ). 27 * t) (width-is n)) (λ u. refl) (λ mask u. refl)
 run-law (amc {mode = mode} {n = n} {cell = cell} q w h) y =
     let c = setupWith mode (64 * n) cell in
     let t = amc-tests q in
-    bin-law n y c (sym (runs-bins c y (q .1) (λ e. omega arith) (λ e. omega arith)) ∙ ap (λ (t : ℕ). bin-runs t y) (width-is n)) (size w .most)
+    bin-law n y c (sym (runs-bins c y (q .1) (λ e. omega arith) (λ e. omega arith)) ∙ ap (λ (t : ℕ). bin-runs t y) (width-is n))
     (rw (t .not-0, t .not-1, t .not-2, t .listed) (ap (λ (t : ℕ). 54 * t) (width-is n))) (rw (t .not-0, t .not-1, t .not-2, t .listed) (ap (λ (t : ℕ). 27 * t) (width-is n)))
     (λ u. rw (t .not-0, t .not-1, t .not-2, t .listed)) (λ mask u. rw (t .not-0))
 

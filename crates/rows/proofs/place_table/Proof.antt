@@ -2,7 +2,8 @@
 use lib.ListN.{replicate}
 use borrow.Author.Needs.{needs}
 use Rattle.map.proofs.ByMode.{amc-mode, in-pusc-dl, in-ofusc, in-amc, bin-width}
-use Rattle.rows.proofs.Numbers.{to-inverses, no-places, to-groups, to-indices}
+use Rattle.rows.proofs.Row.{to-table}
+use Rattle.rows.proofs.Numbers.{inverses-as, groups-as, indices-as, no-places}
 use Rattle.rows.proofs.place_table.Statement.{statement}
 use Rattle.rows.proofs.place_table.Tie as tie
 
@@ -12,15 +13,15 @@ table-requires c κs =
     rw (c .width .ensures) (bin-width (start .pre) (c .before .before .before .before .before .if1 .left) (c .before .before .before .if2 .left), in-ofusc (start .pre) (c .before .if3 .taken) .cell-lt)
 
 returns-3 : tie.Need-returns-3
-returns-3 c = to-groups _ (c .table .result) (c .before .before .if3 .taken) (rw (c .before .width .ensures) at (c .table .ensures))
+returns-3 c = to-table (c .table .result) (groups-as _ (c .before .before .if3 .taken)) (rw (c .before .width .ensures) at (c .table .ensures))
 
 pub place-table-spec : {M : Type 1} → statement M
 place-table-spec =
     tie.close
     (tie.spec
     (λ c κs. in-pusc-dl (c .before .before .pre) (c .if1 .taken) .cell-lt)
-    (λ c. to-inverses _ (c .inverses .result) (c .before .if1 .taken) (c .inverses .ensures))
+    (λ c. to-table (c .inverses .result) (inverses-as _ (c .before .if1 .taken)) (c .inverses .ensures))
     (λ c. no-places _ (replicate 48 0) (c .if2 .taken))
     (λ c κs. search needs) table-requires returns-3
     (λ c κs. in-amc (c .before .before .before .before .before .before .pre) (search (amc-mode, needs)) .cell-lt)
-    (λ c. to-indices _ (c .indices .result) (search (amc-mode, needs)) (c .indices .ensures)))
+    (λ c. to-table (c .indices .result) (indices-as _ (search (amc-mode, needs))) (c .indices .ensures)))

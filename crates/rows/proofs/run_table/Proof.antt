@@ -1,7 +1,8 @@
 -- `rows::run_table` meets its contract.
 use lib.ListN.{replicate}
 use Rattle.map.proofs.ByMode.{listed-mode, in-pusc-dl, in-pusc-ul}
-use Rattle.rows.proofs.Numbers.{to-clusters, to-tiles, no-runs}
+use Rattle.rows.proofs.Row.{to-table}
+use Rattle.rows.proofs.Numbers.{clusters-as, tiles-as, no-runs}
 use Rattle.rows.proofs.run_table.Statement.{statement}
 use Rattle.rows.proofs.run_table.Tie as tie
 
@@ -10,7 +11,7 @@ run-table-spec =
     tie.close
     (tie.spec
     (λ c κs. (in-pusc-dl (c .before .before .pre .0) (c .if1 .taken) .cell-lt, c .before .before .pre .1))
-    (λ c. to-clusters _ (c .clusters .result) _ (c .before .if1 .taken) (c .clusters .ensures))
+    (λ c. to-table (c .clusters .result) (clusters-as _ _ (c .before .if1 .taken)) (c .clusters .ensures))
     (λ c κs. in-pusc-ul (c .before .before .before .before .pre .0) (c .if2 .taken) .cell-lt)
-    (λ c. to-tiles _ (c .tiles .result) _ (c .before .if2 .taken) (c .tiles .ensures))
+    (λ c. to-table (c .tiles .result) (tiles-as _ _ (c .before .if2 .taken)) (c .tiles .ensures))
     (λ c. no-runs _ (replicate 120 0) _ (listed-mode (c .before .before .before .before .pre .0)) (c .before .before .if1 .left) (c .if2 .left)))

@@ -17,7 +17,7 @@ table-requires c κs =
     (rw (c .width .ensures) (bin-width v (λ z. omega arith) (λ z. omega arith)), rw (c .width .ensures) (in-ofusc v e .cell-lt))
 
 returns-2 : tie.Need-returns-2
-returns-2 c = to-table (c .table .result) (as-2 (c .before .before .if2 .taken)) (rw (c .before .width .ensures) at (c .table .ensures))
+returns-2 c = to-table (c .table .result) (as-2 _ _ (c .before .before .if2 .taken)) (rw (c .before .width .ensures) at (c .table .ensures))
 
 table-requires-2 : tie.Need-table-requires-2
 table-requires-2 c κs =
@@ -25,7 +25,7 @@ table-requires-2 c κs =
 
 returns-3 : tie.Need-returns-3
 returns-3 c =
-    to-table (c .table2 .result) (as-amc (search (listed-mode, needs)))
+    to-table (c .table2 .result) (as-amc _ _ (search (listed-mode, needs)))
     (rw (c .before .before .shape .ensures, c .before .width2 .ensures) at (c .table2 .ensures))
 
 pub table-spec : {M : Type 1} → statement M
