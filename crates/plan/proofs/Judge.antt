@@ -8,21 +8,22 @@ use native.Mathlib.Omega.{arith}
 use lib.Dec.{eqb, ltb}
 use lib.ListN.{length, drop, getD}
 use lib.Seq.{getD-take, getD-drop, length-take-le}
-use borrow.Author.Tests.{eqb-true, ltb-true, ltb-false}
+use borrow.Author.Tests.{eqb-true, lt-ltb, ltb-true, ltb-false}
 use Rattle.base.specs.Answer.{Answer, accepted}
-use Rattle.base.proofs.Chain.{ask-yes, yes-all}
+use Rattle.base.proofs.Chain.{ask-yes, yes-all, number-yes}
 use Rattle.base.proofs.Test.{cases, both-true, up-to}
 use Rattle.map.specs.declared.Setup.{Setup}
 use Rattle.map.specs.Mode.{cells, width}
-use Rattle.map.specs.Question.{isFourSizes, isSize, isCell}
-use Rattle.map.proofs.Accept.{size-most}
+use Rattle.map.specs.Question.{isMode, isFourSizes, isSize, isCell}
+use Rattle.map.specs.Model.{Valid}
+use Rattle.map.proofs.Accept.{valid, size-most}
 use Rattle.mask.specs.Mask.{isMask}
 use Rattle.mask.proofs.Law.{mask-small}
 use Rattle.plan.specs.declared.Zone.{Zone}
 use Rattle.plan.specs.declared.Plan.{Plan}
 use Rattle.plan.specs.declared.Before.{Before}
 use Rattle.plan.specs.declared.Before.the-variants.{First, After}
-use Rattle.plan.specs.Zone.{isCount, isZoneMode, setupOf, isSlots, isOrder, askZone, unused}
+use Rattle.plan.specs.Zone.{isCount, isZoneMode, setupOf, isSlots, isOrder, fieldsRefusal, askZone, unused}
 use Rattle.plan.specs.Write.{isUnused, areUnused, usedZones, askZones, askPlan}
 use Rattle.plan.specs.Model.{planRefusal, Small}
 use Rattle.plan.proofs.Places.{unused-is}
@@ -76,6 +77,24 @@ mode-small m e =
     cases (eqb m 1)
     (λ t. omega (arith, eqb-true m 1 t))
     (λ f. ltb-true m 7 (rw f at e))
+
+-- where a zone's own questions are all answered yes, its setup is valid and its slots are few
+module _ (size : ℕ) (z : Zone) (e : fieldsRefusal size z ≡ 0) where
+  fields-passed : (isZoneMode (z .mode) ≡ true) × (isSize (setupOf size z) ≡ true) × (isCell (setupOf size z) ≡ true) × (isSlots (z .slots) ≡ true)
+  unfolding fieldsRefusal
+  fields-passed =
+      let e₁ = number-yes (isZoneMode (z .mode)) 0 _ e in
+      let e₂ = number-yes (isSize (setupOf size z)) 1 _ (e₁ .1) in
+      let e₃ = number-yes (isCell (setupOf size z)) 2 _ (e₂ .1) in
+      let e₄ = number-yes (isSlots (z .slots)) 12 _ (e₃ .1) in
+      (e₁ .0, e₂ .0, e₃ .0, e₄ .0)
+
+  pub fields-valid : Valid (setupOf size z)
+  unfolding isMode
+  fields-valid = valid (setupOf size z) (lt-ltb (z .mode) 7 (mode-small (z .mode) (fields-passed .0))) (fields-passed .1) (fields-passed .2)
+
+  pub fields-slots : z .slots ≤ 512
+  fields-slots = up-to 512 (z .slots) (fields-passed .3)
 
 cells-small : (setup : Setup) → setup .size ≤ 2048 → cells setup ≤ 2352
 unfolding cells width

@@ -16,7 +16,7 @@ use Rattle.plan.specs.declared.Zone.{Zone}
 use Rattle.plan.specs.declared.Plan.{Plan}
 use Rattle.plan.specs.declared.Before.{Before}
 use Rattle.plan.specs.declared.Before.the-variants.{First, After}
-use Rattle.plan.specs.Zone.{isCount, isZoneMode, setupOf, isSlots, isOrder, askZone, unused}
+use Rattle.plan.specs.Zone.{isCount, isZoneMode, setupOf, isSlots, isOrder, askFields, fieldsRefusal, askZone, unused}
 use Rattle.plan.specs.Write.{areUnused, usedZones, askZones, askPlan}
 use Rattle.plan.specs.Model.{zoneRefusal, zonesRefusal, planRefusal}
 use Rattle.plan.proofs.Places.{used-next, used-none}
@@ -26,38 +26,58 @@ listed : (m : ℕ) → (m ≡ 1 → ⊥) → isZoneMode m ≡ ltb m 7
 unfolding isZoneMode
 listed m h = rw (ne-eqb m 1 h)
 
--- the questions put to a zone in its plan
-module _ (size : ℕ) (before : Before) (z : Zone) where
-  pub zone-uplink : z .mode ≡ 1 → 1 ≡ zoneRefusal size before z
-  unfolding zoneRefusal isZoneMode
-  zone-uplink e = rw e
+-- the questions put to a zone's own values
+module _ (size : ℕ) (z : Zone) where
+  pub fields-uplink : z .mode ≡ 1 → 1 ≡ fieldsRefusal size z
+  unfolding fieldsRefusal isZoneMode
+  fields-uplink e = rw e
 
   -- in any other mode the map's questions, then these
   abbrev pub own : {A : Type 0} → Answer A → Answer A
-  own rest = ask (isSlots (z .slots)) 13 (ask (isMask (z .mode) (z .mask)) 17 (ask (isOrder before size z) 14 rest))
+  own rest = ask (isSlots (z .slots)) 13 (ask (isMask (z .mode) (z .mask)) 17 rest)
 
   module _ (u : z .mode ≡ 1 → ⊥) {r : ℕ} (e : r ≡ setupRefusal (setupOf size z)) where
-    by-setup : {A : Type 0} (rest : Answer A) → askZone size before z rest ≡ numbered r (own rest)
+    by-setup : {A : Type 0} (rest : Answer A) → askFields size z rest ≡ numbered r (own rest)
     unfolding isMode
     by-setup rest = rw (listed (z .mode) u, e) (setup-numbered (setupOf size z) (own rest))
 
-    pub zone-setup : (r ≡ 0 → ⊥) → r ≡ zoneRefusal size before z
-    unfolding zoneRefusal
-    zone-setup h = sym (ap refusalOf (by-setup (accepted tt) ∙ no-first r _ h))
+    pub fields-setup : (r ≡ 0 → ⊥) → r ≡ fieldsRefusal size z
+    unfolding fieldsRefusal
+    fields-setup h = sym (ap refusalOf (by-setup (accepted tt) ∙ no-first r _ h))
 
-    pub zone-rest : r ≡ 0 → refusalOf (own {A = Unit {0}} (accepted tt)) ≡ zoneRefusal size before z
-    unfolding zoneRefusal
-    zone-rest h = sym (ap refusalOf (by-setup (accepted tt) ∙ yes-all r _ h))
+    pub fields-rest : r ≡ 0 → refusalOf (own {A = Unit {0}} (accepted tt)) ≡ fieldsRefusal size z
+    unfolding fieldsRefusal
+    fields-rest h = sym (ap refusalOf (by-setup (accepted tt) ∙ yes-all r _ h))
 
   -- all of them as one chain
-  zone-chain : {A : Type 0} {chain rest : Answer A} {alone : Answer (Unit {0})} → Numbered chain rest alone → Numbered (askZone size before z chain) rest (askZone size before z alone)
-  zone-chain tail =
+  pub fields-chain : {A : Type 0} {chain rest : Answer A} {alone : Answer (Unit {0})} → Numbered chain rest alone → Numbered (askFields size z chain) rest (askFields size z alone)
+  fields-chain tail =
       question (isZoneMode (z .mode)) 0
       (question (isSize (setupOf size z)) 1
       (question (isCell (setupOf size z)) 2
       (question (isSlots (z .slots)) 12
-      (question (isMask (z .mode) (z .mask)) 16
-      (question (isOrder before size z) 13 tail)))))
+      (question (isMask (z .mode) (z .mask)) 16 tail))))
+
+  pub fields-numbered : {A : Type 0} (rest : Answer A) → askFields size z rest ≡ numbered (fieldsRefusal size z) rest
+  unfolding fieldsRefusal
+  fields-numbered rest = fields-chain no-question .is
+
+-- and to the zone in its plan
+module _ (size : ℕ) (before : Before) (z : Zone) where
+  module _ {r : ℕ} (e : r ≡ fieldsRefusal size z) where
+    by-fields : {A : Type 0} (rest : Answer A) → askZone size before z rest ≡ numbered r (ask (isOrder before size z) 14 rest)
+    by-fields rest = rw e (fields-numbered size z (ask (isOrder before size z) 14 rest))
+
+    pub zone-fields : (r ≡ 0 → ⊥) → r ≡ zoneRefusal size before z
+    unfolding zoneRefusal
+    zone-fields h = sym (ap refusalOf (by-fields (accepted tt) ∙ no-first r _ h))
+
+    pub zone-rest : r ≡ 0 → refusalOf (ask {A = Unit {0}} (isOrder before size z) 14 (accepted tt)) ≡ zoneRefusal size before z
+    unfolding zoneRefusal
+    zone-rest h = sym (ap refusalOf (by-fields (accepted tt) ∙ yes-all r _ h))
+
+  zone-chain : {A : Type 0} {chain rest : Answer A} {alone : Answer (Unit {0})} → Numbered chain rest alone → Numbered (askZone size before z chain) rest (askZone size before z alone)
+  zone-chain tail = fields-chain size z (question (isOrder before size z) 13 tail)
 
   pub zone-numbered : {A : Type 0} (rest : Answer A) → askZone size before z rest ≡ numbered (zoneRefusal size before z) rest
   unfolding zoneRefusal

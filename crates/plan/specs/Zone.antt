@@ -4,7 +4,7 @@ use mathlib.Core.List.{List, [], _∷_, _++_}
 use Prim.Native.Nat.{ℕ, zero, suc}
 use lib.Dec.{eqb, ltb, leb}
 use Rattle.base.specs.Choice.{pick, isUpTo}
-use Rattle.base.specs.Answer.{Answer, ask}
+use Rattle.base.specs.Answer.{Answer, accepted, ask, refusalOf}
 use Rattle.map.specs.declared.Setup.{Setup}
 use Rattle.map.specs.Question.{isSize, isCell}
 use Rattle.mask.specs.Mask.{isMask}
@@ -45,15 +45,22 @@ abbrev pub isOrder : (before : Before) (size : ℕ) (zone : Zone) → Bool
 isOrder First size zone = isOpening size zone
 isOrder (After mode) size zone = isFollowing mode zone
 
--- The questions after a zone's four values. Document 02, wish 5: refused 17, mask out of its range, put after 13 in plans.
-abbrev pub askZone : {A : Type 0} → (size : ℕ) (before : Before) (zone : Zone) (rest : Answer A) → Answer A
-askZone size before zone rest =
+-- The questions to a zone's own values. Document 02, wish 5: refused 17, mask out of its range, put after 13 in plans.
+abbrev pub askFields : {A : Type 0} → (size : ℕ) (zone : Zone) (rest : Answer A) → Answer A
+askFields size zone rest =
     ask (isZoneMode (zone .mode)) 1
     (ask (isSize (setupOf size zone)) 2
     (ask (isCell (setupOf size zone)) 3
     (ask (isSlots (zone .slots)) 13
-    (ask (isMask (zone .mode) (zone .mask)) 17
-    (ask (isOrder before size zone) 14 rest)))))
+    (ask (isMask (zone .mode) (zone .mask)) 17 rest))))
+
+-- the number of the first of them that is answered no, 0 where none is
+unfoldable pub fieldsRefusal : (size : ℕ) (zone : Zone) → ℕ
+fieldsRefusal size zone = refusalOf (askFields {A = Unit {0}} size zone (accepted tt))
+
+-- In a plan its place comes after them.
+abbrev pub askZone : {A : Type 0} → (size : ℕ) (before : Before) (zone : Zone) (rest : Answer A) → Answer A
+askZone size before zone rest = askFields size zone (ask (isOrder before size zone) 14 rest)
 
 -- an unused place of a plan
 abbrev pub unused : Zone

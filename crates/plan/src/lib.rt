@@ -6,7 +6,7 @@ ghost use Prim.Native.Nat.{_+_, _≤_};
 ghost use lib.ListN.{length, drop};
 ghost use Rattle.text.specs.Text.{Put};
 ghost use Rattle.base.specs.Answer.{refused as no};
-ghost use Rattle.plan.specs.Zone.{isAmc, isOrder};
+ghost use Rattle.plan.specs.Zone.{isAmc, isOrder, fieldsRefusal};
 ghost use Rattle.plan.specs.Write.{isUnused, areUnused, usedZones, zoneBytes, planBytes, written, writeOf};
 ghost use Rattle.plan.specs.Read.{readZones, finish, planOf, answered};
 ghost use Rattle.plan.specs.Model.{zoneRefusal, zonesRefusal, planRefusal, Small, ZoneAt};
@@ -87,9 +87,9 @@ fn is_order(size: usize, prior: Before, zone: Zone) -> bool
     }
 }
 
-// The number of the first question put to a zone in its plan that is answered no, or 0.
-fn zone_refusal(size: usize, prior: Before, zone: Zone) -> u8
-    ensures { λ r. ⌜ r ≡ zoneRefusal size prior zone ⌝ }
+// The number of the first question put to a zone's own values that is answered no, or 0.
+pub fn fields_refusal(size: usize, zone: Zone) -> u8
+    ensures { λ r. ⌜ r ≡ fieldsRefusal size zone ⌝ }
 {
     if zone.mode == 1 {
         return 1;
@@ -105,8 +105,19 @@ fn zone_refusal(size: usize, prior: Before, zone: Zone) -> u8
     if !base::is_up_to(512, zone.slots) {
         return 13;
     }
-    if !mask::is_mask(zone.mode, zone.mask) {
-        return 17;
+    if mask::is_mask(zone.mode, zone.mask) {
+        return 0;
+    }
+    17
+}
+
+// The number of the first question put to a zone in its plan that is answered no, or 0.
+fn zone_refusal(size: usize, prior: Before, zone: Zone) -> u8
+    ensures { λ r. ⌜ r ≡ zoneRefusal size prior zone ⌝ }
+{
+    let fields = fields_refusal(size, zone);
+    if fields != 0 {
+        return fields;
     }
     if is_order(size, prior, zone) {
         return 0;
