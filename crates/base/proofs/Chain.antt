@@ -4,7 +4,7 @@ use mathlib.Core.Bool.{Bool, true, false}
 use Prim.Native.Nat.{ℕ, suc}
 use native.Mathlib.Omega.{arith}
 use lib.Dec.{eqb}
-use borrow.Author.Tests.{eq-eqb, ne-eqb, eqb-true}
+use borrow.Author.Tests.{eq-eqb, ne-eqb, eqb-true, eqb-false}
 use Rattle.base.specs.Choice.{pick}
 use Rattle.base.specs.Answer.{Answer, accepted, refused, ask, refusalOf}
 use Rattle.base.proofs.Test.{cases}
@@ -63,3 +63,18 @@ number-none n rest e =
     cases (eqb n 0)
     (λ t. (eqb-true n 0 t, rw t at e))
     (λ t. absurd (let h = rw t at e in let z : _≡_ {A = ℕ} 0 1 = cc in omega arith))
+
+-- its number is 0 only where that of what comes after it is
+pub numbered-zero : {A : Type 0} (n : ℕ) (rest : Answer A) → refusalOf (numbered n rest) ≡ 0 → (n ≡ 0) × (refusalOf rest ≡ 0)
+numbered-zero n rest e =
+    cases (eqb n 0)
+    (λ t. (eqb-true n 0 t, rw t at e))
+    (λ f. absurd (eqb-false n 0 f (rw f at e)))
+
+-- a chain of which a function gave the number
+module _ {A : Type 0} {chain : Answer A} (rest : Answer A) (k : ℕ) {n : ℕ} (is : chain ≡ numbered k rest) (e : n ≡ k) where
+  pub chain-no : (n ≡ 0 → ⊥) → chain ≡ refused n
+  chain-no h = is ∙ ap (λ (m : ℕ). numbered m rest) (sym e) ∙ no-first n rest h
+
+  pub chain-yes : n ≡ 0 → chain ≡ rest
+  chain-yes h = is ∙ ap (λ (m : ℕ). numbered m rest) (sym e) ∙ yes-all n rest h

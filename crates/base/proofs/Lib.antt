@@ -6,4 +6,5 @@ pub mod LeaveOut
 pub mod Table
 pub mod Tabulate
 pub mod Rank
+pub mod First
 pub mod Chain

@@ -1,6 +1,6 @@
 -- Tests that are computed, and facts from them.
 use mathlib.Core.Path.{_≡_, refl, sym}
-use mathlib.Core.Bool.{Bool, true, false, not}
+use mathlib.Core.Bool.{Bool, true, false, not, _&&_}
 use Prim.Native.Nat.{ℕ, _≤_}
 use native.Mathlib.Omega.{arith}
 use lib.Dec.{T, ltb, leb}
@@ -35,6 +35,14 @@ true-false e = let z : _≡_ {A = ℕ} 0 1 = cc in omega arith
 pub both-true : (a b : Bool) → pick a b false ≡ true → (a ≡ true) × (b ≡ true)
 both-true true b e = (refl, e)
 both-true false b e = absurd (true-false (sym e))
+
+-- two tests in one, as the code has them
+pub and-is : (a b : Bool) → (a && b) ≡ pick a b false
+and-is true b = refl
+and-is false b = refl
+
+pub and-of : {a b x y : Bool} → a ≡ x → b ≡ y → (a && b) ≡ pick x y false
+and-of {x = x} {y = y} e e′ = rw (e, e′) (and-is x y)
 
 -- a number of 1, 2, .., most is at most that
 pub up-to : (most n : ℕ) → isUpTo most n ≡ true → n ≤ most

@@ -4,4 +4,5 @@ pub mod Answer
 pub mod Steps
 pub mod Tabulate
 pub mod Rank
+pub mod First
 pub mod Model
