@@ -3,13 +3,18 @@ use mathlib.Core.Path.{_≡_, refl}
 use Prim.Native.Nat.{ℕ, _<_}
 use native.Mathlib.Omega.{arith}
 use borrow.Author.Tests.{lt-ltb}
+use Rattle.base.specs.Choice.{isUpTo}
 use Rattle.base.specs.Steps.{skip, unskip}
 use Rattle.base.specs.Tabulate.{tabulate}
 use Rattle.centre.specs.Centre.{fromDc, inRange, onRow}
 use Rattle.map.specs.Place.{usedCarrier, placeOf, locateOf, placeAt, contentOf, dataAt}
 use Rattle.collision.specs.Collision.{countOf, indexIn, columnIn, ofuscHit, amcHit, answerOf, ofuscOf, amcOf}
+use Rattle.mask.specs.Mask.{isMask}
+use Rattle.plan.specs.Zone.{isZoneMode}
 use Rattle.plan.proofs.Points.{any-first-cell, first-refusals}
-use Rattle.known.specs.Table.{Known, AnyCell, setFrom, groups, indices}
+use Rattle.base.specs.First.{firstOf}
+use Rattle.bursts.specs.Owner.{ownerAt, lookedAt, ownerOf}
+use Rattle.known.specs.Table.{Known, AnyCell, setFrom, groups, indices, bursts, corner, check, owner, owns, refusal}
 use Rattle.carriers.specs.Band as band
 use Rattle.carriers.specs.Bin as bin
 use Rattle.pusc_dl.specs.Map as dl
@@ -23,6 +28,7 @@ use Rattle.amc.specs.Map as amc
 use Rattle.amc.specs.Element as element
 use Rattle.map.specs.Mode as mode
 use Rattle.map.specs.Question as question
+use Rattle.bursts.specs.Burst as burst
 
 any-cell : (cell : ℕ) → cell < 32 → AnyCell cell
 unfolding skip unskip inRange onRow locateOf contentOf dataAt mode.cells mode.symbols mode.band mode.isPilot question.isMode question.isSize question.isCell question.isSymbol question.isCarrier band.usedOf band.isGuard band.isDc cluster.isClusterPilot cluster.firstPilot cluster.secondPilot
@@ -41,6 +47,14 @@ at-2048 = refl
 adjacent : setFrom 0 (amcOf 48 176 .hits) ≡ indices
 unfolding setFrom tabulate amcOf answerOf amcHit question.isCell mode.cells amc.traffic amc.elementOf amc.zeroRule amc.off element.add element.times element.sequence
 adjacent = refl
+
+zone-check : (check bursts ≡ 0) × (check (corner 1 2 3 2) ≡ 19) × (check (corner 3 2 3 1) ≡ 18) × (check (corner 3 1 3 0) ≡ 18) × (check (corner 4294967295 2 3 1) ≡ 18) × (check (corner 0 0 0 1) ≡ 18)
+unfolding isUpTo mode.width mode.cells mode.subchannels question.isFourSizes question.isSize question.isCell isMask isZoneMode firstOf burst.isList burst.isWithin burst.isInside burst.isShared burst.isOverlap burst.isApart burst.askEach burst.checkOf
+zone-check = (refl, refl, refl, refl, refl, refl)
+
+zone-owner : (owner 3 1 ≡ owns 0 1) × (owner 4 1 ≡ owns 2 3) × (owner 5 3 ≡ owns 1 2) × (owner 6 1 ≡ owns 64 3) × (owner 512 1 ≡ refusal 4) × (owner 5 4 ≡ refusal 5)
+unfolding isUpTo mode.width mode.cells mode.subchannels question.isFourSizes question.isSize question.isCell question.isSlot question.isSubchannel isMask isZoneMode firstOf burst.isOf burst.isCovering burst.isList burst.isWithin burst.isInside burst.isShared burst.isOverlap burst.isApart burst.askEach ownerAt lookedAt ownerOf
+zone-owner = (refl, refl, refl, refl, refl, refl)
 
 pub known : Known
 unfolding tabulate skip fromDc placeOf usedCarrier placeAt mode.shapeOf mode.width mode.cells mode.subchannels mode.symbols mode.band mode.spotOf question.isMode question.isFourSizes question.isSize question.isCell question.isSlot question.isSubchannel question.isIndex band.carrierOf bin.binPilotPlace bin.usedOfData dl.groupUsed dl.spotOf group.groupIn group.groupSize group.ofSize group.baseOf group.groupData cluster.unrenumber cluster.firstPilot cluster.secondPilot cluster.clusterPlace ul.spotOf tile.tileOf tile.placeSymbol tile.placeTile tile.placeCarrier ofusc.groupOf ofusc.term ofusc.mask ofusc.dataNumber field.modulus field.coefficient field.product field.remainder field.times field.power field.p1 field.p2 amc.off amc.zeroRule amc.elementOf amc.traffic amc.trafficNumber amc.dataNumber element.add element.times element.sequence
@@ -62,4 +76,6 @@ known =
       amc-2x3 = (refl, refl);
       amc-3x2 = refl;
       amc-1x6 = (refl, refl);
+      bursts-check = zone-check;
+      bursts-owner = zone-owner;
     }

@@ -12,6 +12,9 @@ use Rattle.map.specs.Place.{Place, Content, guard, dc, pilot, point, placeOf, l
 use Rattle.collision.specs.Collision.{ofuscOf, amcOf}
 use Rattle.plan.specs.declared.Zone.{Zone}
 use Rattle.plan.specs.Read.{planWith, planOf}
+use Rattle.bursts.specs.declared.Owned.{Owned}
+use Rattle.bursts.specs.Burst.{checkOf}
+use Rattle.bursts.specs.Owner.{ownerOf}
 
 -- a carrier below DC
 abbrev pub minus : (k : ℕ) → ℤ
@@ -47,6 +50,26 @@ indices = 8 ∷ 24 ∷ 32 ∷ []
 -- the zone of line 11 and its twin
 abbrev pub zone : (mode cell slots mask : ℕ) → Zone
 zone mode cell slots mask = record { mode = mode; cell = cell; slots = slots; mask = mask }
+
+-- three bursts: subchannels 0 and 1 in slots 0 to 3, 2 and 3 in all six, 0 and 1 in slots 4 and 5
+abbrev pub bursts : List ℕ
+bursts = 0 ∷ 2 ∷ 0 ∷ 4 ∷ 2 ∷ 2 ∷ 0 ∷ 6 ∷ 0 ∷ 2 ∷ 4 ∷ 2 ∷ []
+
+-- the first of them, and another
+abbrev pub corner : (subchannel subchannels slot slots : ℕ) → List ℕ
+corner subchannel subchannels slot slots = 0 ∷ 2 ∷ 0 ∷ 4 ∷ subchannel ∷ subchannels ∷ slot ∷ slots ∷ []
+
+abbrev pub check : (numbers : List ℕ) → ℕ
+check numbers = checkOf 256 (zone 2 0 6 0) numbers
+
+abbrev pub owner : (slot subchannel : ℕ) → Owned
+owner slot subchannel = ownerOf 256 (zone 2 0 6 0) slot subchannel bursts
+
+abbrev pub owns : (owner looked : ℕ) → Owned
+owns owner looked = record { refusal = 0; owner = owner; looked = looked }
+
+abbrev pub refusal : (number : ℕ) → Owned
+refusal number = record { refusal = number; owner = 64; looked = 0 }
 
 -- what a carrier holds under any PUSC downlink cell
 pub record AnyCell (cell : ℕ) : Type 0 where
@@ -85,3 +108,7 @@ pub record Known : Type 0 where
   pub amc-2x3 : (placeOf (setupWith 4 256 0) 0 5 2 ≡ at 2 (minus 17)) × (placeOf (setupWith 4 2048 629) 511 95 14 ≡ at 1533 (pos 861))
   pub amc-3x2 : placeOf (setupWith 5 256 0) 1 7 2 ≡ at 3 (pos 93)
   pub amc-1x6 : (placeOf (setupWith 6 512 0) 1 47 2 ≡ at 10 (pos 209)) × (placeOf (setupWith 6 512 0) 511 0 41 ≡ at 3071 (minus 208))
+  -- Not starred: bursts, worked out by hand from document 02, wish 7, in a zone of four subchannels by six slots. `bursts` fills it; another beside its first that has one slot and subchannel in common with the first, the corner of both, is refused 19;
+  -- one that ends a subchannel past the zone, has no slots, or has sums that 32 bits would wrap, 18; so is one that is empty and lies in another, since 18 comes before 19.
+  pub bursts-check : (check bursts ≡ 0) × (check (corner 1 2 3 2) ≡ 19) × (check (corner 3 2 3 1) ≡ 18) × (check (corner 3 1 3 0) ≡ 18) × (check (corner 4294967295 2 3 1) ≡ 18) × (check (corner 0 0 0 1) ≡ 18)
+  pub bursts-owner : (owner 3 1 ≡ owns 0 1) × (owner 4 1 ≡ owns 2 3) × (owner 5 3 ≡ owns 1 2) × (owner 6 1 ≡ owns 64 3) × (owner 512 1 ≡ refusal 4) × (owner 5 4 ≡ refusal 5)

@@ -1,0 +1,194 @@
+-- The row of a slot's owners, as its bursts mark it one after the other.
+use mathlib.Core.Path.{_≡_, refl, sym, _∙_}
+use mathlib.Core.Bool.{Bool, true, false}
+use mathlib.Core.List.{List}
+use Prim.Native.Nat.{ℕ, _+_, _<_}
+use native.Mathlib.Omega.{arith}
+use lib.Dec.{eqb, ltb, leb}
+use lib.ListN.{length, set, replicate, length-set, length-replicate, getD-replicate}
+use lib.Seq.{getD-set-same, getD-set-other}
+use borrow.Author.Tests.{lt-ltb, le-ltb, ltb-true, ltb-false, eqb-true, eqb-false, leb-true}
+use Rattle.base.specs.Choice.{pick}
+use Rattle.base.specs.Steps.{entry}
+use Rattle.base.specs.Tabulate.{tabulate}
+use Rattle.base.proofs.Test.{cases, true-false}
+use Rattle.base.proofs.Tabulate.{getD-tabulate, tabulated, length-tabulate}
+use Rattle.map.specs.Mode.{subchannels}
+use Rattle.map.specs.Question.{isSubchannel}
+use Rattle.plan.specs.declared.Zone.{Zone}
+use Rattle.plan.specs.Zone.{setupOf, fieldsRefusal}
+use Rattle.base.specs.First.{firstOf}
+use Rattle.bursts.specs.Burst.{burstAt, burstCount, isOf, isCovering, isOverlap, isApart}
+use Rattle.bursts.specs.Owner.{noOwner, ownerAt, lookedAt, rowAt}
+use Rattle.bursts.specs.Model.{listRefusal, Accepted, marked, markedBy}
+use Rattle.base.proofs.First.{None, none-more, first-before, first-passes, first-is, first-none, none-of}
+use Rattle.bursts.proofs.Cover.{of-is, covering-is, elsewhere, beside, inside-covers, overlap-is}
+use Rattle.bursts.proofs.Each.{Passed, list-yes}
+use Rattle.bursts.proofs.Answer.{zone-limits}
+
+-- one number more
+of-none : (first k : ℕ) → isOf first 0 k ≡ false
+unfolding isOf
+of-none first k =
+    cases (leb first k)
+    (λ e. rw (e, le-ltb k (first + 0) (omega (arith, leb-true first k e))))
+    (λ e. rw e)
+
+of-last : (first m : ℕ) → isOf first (m + 1) (first + m) ≡ true
+of-last first m = of-is first (m + 1) (first + m) (omega arith) (omega arith)
+
+of-other : (first m k : ℕ) → (first + m ≡ k → ⊥) → isOf first (m + 1) k ≡ isOf first m k
+unfolding isOf
+of-other first m k n =
+    cases (ltb k (first + m))
+    (λ e. let l = ltb-true k (first + m) e in rw (e, lt-ltb k (first + (m + 1)) (omega arith)))
+    (λ e. let l = ltb-false k (first + m) e in rw (e, le-ltb k (first + (m + 1)) (omega arith)))
+
+-- a row of which m entries from the first on are set to a value
+pub record Marking (first value : ℕ) (row₀ row : List ℕ) (m : ℕ) : Type 0 where
+  pub long : length row ≡ 192
+  pub entries : (k : ℕ) → k < 192 → entry row k ≡ pick (isOf first m k) value (entry row₀ k)
+
+module _ {first value : ℕ} {row₀ : List ℕ} where
+  pub marking-none : length row₀ ≡ 192 → Marking first value row₀ row₀ 0
+  marking-none e = record { long = e; entries = λ k h. rw (of-none first k) }
+
+  pub marking-next : {row : List ℕ} {m : ℕ} → Marking first value row₀ row m → first + m < 192 → Marking first value row₀ (set row (first + m) value) (m + 1)
+  marking-next {row} {m} w h =
+      record {
+        long = length-set row (first + m) value ∙ w .long;
+        entries = λ k l.
+            cases (eqb (first + m) k)
+            (λ e. let same = eqb-true (first + m) k e in
+            rw (← same, of-last first m) (getD-set-same row (first + m) value 0 (omega (arith, w .long))))
+            (λ e. let other = eqb-false (first + m) k e in
+            rw (of-other first m k other) (getD-set-other row (first + m) k value 0 (λ q. other (sym q)) ∙ w .entries k l));
+      }
+
+  pub marking-all : {row : List ℕ} {m : ℕ} → Marking first value row₀ row m → row ≡ marked first m value row₀
+  marking-all {row} {m} w = tabulated 0 row 192 (λ s. pick (isOf first m s) value (entry row₀ s)) (w .long) (w .entries)
+
+-- which bursts cover a slot and subchannel
+abbrev pub covering : (numbers : List ℕ) (slot s i : ℕ) → Bool
+covering numbers slot s i = isCovering (burstAt numbers i) slot s
+
+-- its owner among the first n bursts
+abbrev pub ownerAmong : (numbers : List ℕ) (slot s n : ℕ) → ℕ
+ownerAmong numbers slot s n = let first = firstOf (covering numbers slot s) n in pick (ltb first n) first noOwner
+
+module _ (numbers : List ℕ) (slot s : ℕ) where
+  abbrev test : ℕ → Bool
+  test = covering numbers slot s
+
+  among-none : ownerAmong numbers slot s 0 ≡ noOwner
+  unfolding firstOf
+  among-none = refl
+
+  -- one burst more: it does not cover, and the owner is as before,
+  among-next : (n : ℕ) → test n ≡ false → ownerAmong numbers slot s (n + 1) ≡ ownerAmong numbers slot s n
+  among-next n e =
+      cases (ltb (firstOf test n) n)
+      (λ t. let l = ltb-true (firstOf test n) n t in
+      rw (first-is test (n + 1) (firstOf test n) (omega arith) (first-before test n) (first-passes test n l), t, lt-ltb (firstOf test n) (n + 1) (omega arith)))
+      (λ t. let l = ltb-false (firstOf test n) n t in
+      rw (first-none test (n + 1) (none-more test n (λ k h. first-before test n k (omega arith)) e), t, le-ltb (n + 1) (n + 1) (omega arith)))
+
+  -- or it does and none before it, and it is the owner
+  among-here : (n : ℕ) → None test n → test n ≡ true → ownerAmong numbers slot s (n + 1) ≡ n
+  among-here n before e = rw (first-is test (n + 1) n (omega arith) before e, lt-ltb n (n + 1) (omega arith))
+
+  -- In an accepted list none before it covers what it covers.
+  pub alone : {subchannelEnd slotEnd n : ℕ} → Passed subchannelEnd slotEnd numbers n → test n ≡ true → None test n
+  unfolding isApart
+  alone {n = n} p e j h =
+      cases (test j)
+      (λ t. absurd (true-false (sym (overlap-is (burstAt numbers j) (burstAt numbers n) slot s t e) ∙ none-of (λ k. isOverlap (burstAt numbers k) (burstAt numbers n)) n (p .apart) j h)))
+      (λ f. f)
+
+-- A burst that covers a slot and subchannel, with none before it, is its owner; where none covers it, it has none.
+module _ (numbers : List ℕ) (slot s : ℕ) where
+  pub owner-here : (i : ℕ) → i < burstCount numbers → None (covering numbers slot s) i → covering numbers slot s i ≡ true → (ownerAt numbers slot s ≡ i) × (lookedAt numbers slot s ≡ i + 1)
+  unfolding ownerAt lookedAt
+  owner-here i h before e =
+      let at = first-is (covering numbers slot s) (burstCount numbers) i h before e in
+      (rw (at, lt-ltb i (burstCount numbers) h), rw (at, lt-ltb i (burstCount numbers) h))
+
+  pub no-owner : None (covering numbers slot s) (burstCount numbers) → (ownerAt numbers slot s ≡ noOwner) × (lookedAt numbers slot s ≡ burstCount numbers)
+  unfolding ownerAt lookedAt
+  no-owner none =
+      let all = first-none (covering numbers slot s) (burstCount numbers) none in
+      let end = le-ltb (burstCount numbers) (burstCount numbers) (omega arith) in
+      (rw (all, end), rw (all, end))
+
+  -- one of the two
+  pub by-owner : {A : Type 0} → ((i : ℕ) → i < burstCount numbers → covering numbers slot s i ≡ true → ownerAt numbers slot s ≡ i → lookedAt numbers slot s ≡ i + 1 → A)
+      → (None (covering numbers slot s) (burstCount numbers) → ownerAt numbers slot s ≡ noOwner → lookedAt numbers slot s ≡ burstCount numbers → A) → A
+  by-owner f g =
+      let test = covering numbers slot s in
+      let n = burstCount numbers in
+      cases (ltb (firstOf test n) n)
+      (λ t. let h = ltb-true (firstOf test n) n t in
+      let passes = first-passes test n h in
+      let here = owner-here (firstOf test n) h (first-before test n) passes in
+      f (firstOf test n) h passes (here .0) (here .1))
+      (λ t. let none : None test n = λ k h. first-before test n k (omega (arith, ltb-false (firstOf test n) n t)) in
+      let nobody = no-owner none in
+      g none (nobody .0) (nobody .1))
+
+-- a row that the first i bursts have marked
+pub record RowMarked (numbers : List ℕ) (slot : ℕ) (row : List ℕ) (i : ℕ) : Type 0 where
+  pub long : length row ≡ 192
+  pub entries : (k : ℕ) → k < 192 → entry row k ≡ ownerAmong numbers slot k i
+
+module _ (numbers : List ℕ) (slot : ℕ) where
+  pub row-none : RowMarked numbers slot (replicate 192 noOwner) 0
+  row-none =
+      record {
+        long = length-replicate 192 noOwner;
+        entries = λ k h. getD-replicate 192 k noOwner 0 h ∙ sym (among-none numbers slot k);
+      }
+
+  module _ {row : List ℕ} {i : ℕ} (w : RowMarked numbers slot row i) where
+    row-skip : isOf (burstAt numbers i .slot) (burstAt numbers i .slots) slot ≡ false → RowMarked numbers slot row (i + 1)
+    row-skip e = record { long = w .long; entries = λ k h. w .entries k h ∙ sym (among-next numbers slot k i (elsewhere (burstAt numbers i) slot k e)) }
+
+    module _ {subchannelEnd slotEnd : ℕ} (p : Passed subchannelEnd slotEnd numbers i) where
+      row-mark : isOf (burstAt numbers i .slot) (burstAt numbers i .slots) slot ≡ true → RowMarked numbers slot (marked (burstAt numbers i .subchannel) (burstAt numbers i .subchannels) i row) (i + 1)
+      row-mark e =
+          record {
+            long = length-tabulate 192 _;
+            entries = λ k h. getD-tabulate 192 _ k 0 h
+                ∙ cases (isOf (burstAt numbers i .subchannel) (burstAt numbers i .subchannels) k)
+                (λ t. let covers = covering-is (burstAt numbers i) slot k t e in rw t (sym (among-here numbers slot k i (alone numbers slot k p covers) covers)))
+                (λ f. rw f (w .entries k h ∙ sym (among-next numbers slot k i (beside (burstAt numbers i) slot k f))));
+          }
+
+      pub row-next : {row′ : List ℕ} → row′ ≡ markedBy (burstAt numbers i) slot i row → RowMarked numbers slot row′ (i + 1)
+      row-next same =
+          rw same
+          (cases (isOf (burstAt numbers i .slot) (burstAt numbers i .slots) slot)
+          (λ t. rw t (row-mark t))
+          (λ f. rw f (row-skip f)))
+
+    pub row-all : i ≡ burstCount numbers → row ≡ tabulate 192 (ownerAt numbers slot)
+    unfolding ownerAt
+    row-all e = tabulated 0 row 192 (ownerAt numbers slot) (w .long) (λ k h. w .entries k h ∙ rw e)
+
+-- a list that is accepted in a zone that its own questions let pass
+module _ (size : ℕ) (zone : Zone) (numbers : List ℕ) (z : fieldsRefusal size zone ≡ 0) (e : listRefusal (subchannels (setupOf size zone)) (zone .slots) numbers ≡ 0) where
+  pub zone-accepted : Accepted numbers
+  zone-accepted = record { subchannelEnd = subchannels (setupOf size zone); slotEnd = zone .slots; at-most-192 = zone-limits size zone z .0; no-refusal = e }
+
+  -- its row has none past the mode's last subchannel
+  row-is : (slot k : ℕ) → ownerAt numbers slot k ≡ rowAt size zone slot numbers k
+  unfolding rowAt isSubchannel
+  row-is slot k =
+      cases (ltb k (subchannels (setupOf size zone)))
+      (λ t. rw t)
+      (λ f. rw f (no-owner numbers slot k (λ i h.
+      cases (isCovering (burstAt numbers i) slot k)
+      (λ c. absurd (let l = inside-covers (burstAt numbers i) (subchannels (setupOf size zone)) (zone .slots) (list-yes (subchannels (setupOf size zone)) (zone .slots) numbers e .1 i h .inside) slot k c .1 in omega (arith, ltb-false k (subchannels (setupOf size zone)) f)))
+      (λ n. n)) .0))
+
+  pub whole-row : (slot : ℕ) → tabulate 192 (ownerAt numbers slot) ≡ tabulate 192 (rowAt size zone slot numbers)
+  whole-row slot = tabulated 0 _ 192 (rowAt size zone slot numbers) (length-tabulate 192 (ownerAt numbers slot)) (λ k h. getD-tabulate 192 (ownerAt numbers slot) k 0 h ∙ row-is slot k)

@@ -1,0 +1,56 @@
+-- What is claimed of a list of bursts and its owners: THE LAW OF THE BURSTS. Its proof is `burst-law`.
+use mathlib.Core.Path.{_≡_}
+use mathlib.Core.Bool.{true, false}
+use mathlib.Core.List.{List}
+use Prim.Native.Nat.{ℕ, _+_, _%_, _<_, _≤_}
+use lib.ListN.{length}
+use Rattle.base.specs.Steps.{entry}
+use Rattle.map.specs.Mode.{subchannels}
+use Rattle.plan.specs.declared.Zone.{Zone}
+use Rattle.plan.specs.Zone.{setupOf, fieldsRefusal}
+use Rattle.bursts.specs.Burst.{burstAt, burstCount, isCovering, checkOf}
+use Rattle.bursts.specs.Owner.{noOwner, ownerOf, ownersOf}
+
+-- the burst at a position of the list covers a subchannel in a slot
+abbrev pub Covers : (numbers : List ℕ) (i slot subchannel : ℕ) → Type 0
+Covers numbers i slot subchannel = isCovering (burstAt numbers i) slot subchannel ≡ true
+
+-- A list that is fit for its zone, by its length and by what its bursts cover.
+pub record Fit (size : ℕ) (zone : Zone) (numbers : List ℕ) : Type 0 where
+  pub four-each : length numbers % 4 ≡ 0
+  pub at-most-64 : burstCount numbers ≤ 64
+  -- none is empty: each covers some subchannel in some slot
+  pub not-empty : (i : ℕ) → i < burstCount numbers → (slot : ℕ) × (subchannel : ℕ) × Covers numbers i slot subchannel
+  -- each lies wholly in the zone
+  pub in-zone : (i slot subchannel : ℕ) → i < burstCount numbers → Covers numbers i slot subchannel → (slot < zone .slots) × (subchannel < subchannels (setupOf size zone))
+  -- and they are pairwise apart: a subchannel in a slot is covered by one at most
+  pub apart : (i j slot subchannel : ℕ) → i < burstCount numbers → j < burstCount numbers → Covers numbers i slot subchannel → Covers numbers j slot subchannel → i ≡ j
+
+pub record BurstLaw (size : ℕ) (zone : Zone) (numbers : List ℕ) : Type 0 where
+  -- A list is accepted exactly when it is fit, in a zone that its own questions let pass.
+  pub accepted-zone : checkOf size zone numbers ≡ 0 → fieldsRefusal size zone ≡ 0
+  pub accepted-fit : checkOf size zone numbers ≡ 0 → Fit size zone numbers
+  pub fit-accepted : fieldsRefusal size zone ≡ 0 → Fit size zone numbers → checkOf size zone numbers ≡ 0
+  -- The calls refuse a list alike: one that is accepted once has an answer for every slot below 512 and every subchannel, and only such a list has one.
+  pub owner-alike : (slot subchannel : ℕ) → slot < 512 → subchannel < subchannels (setupOf size zone) → ownerOf size zone slot subchannel numbers .refusal ≡ checkOf size zone numbers
+  pub owner-accepted : (slot subchannel : ℕ) → ownerOf size zone slot subchannel numbers .refusal ≡ 0 → checkOf size zone numbers ≡ 0
+  pub row-alike : (slot : ℕ) → slot < 512 → ownersOf size zone slot numbers .refusal ≡ checkOf size zone numbers
+  pub row-accepted : (slot : ℕ) → ownersOf size zone slot numbers .refusal ≡ 0 → checkOf size zone numbers ≡ 0
+  -- The first owner is the only one: a burst that covers a subchannel in a slot is its owner,
+  pub only-owner : (slot subchannel i : ℕ) → ownerOf size zone slot subchannel numbers .refusal ≡ 0 → i < burstCount numbers → Covers numbers i slot subchannel
+      → (ownerOf size zone slot subchannel numbers .owner ≡ i) × (ownerOf size zone slot subchannel numbers .looked ≡ i + 1)
+  -- an owner is a burst that covers it,
+  pub owner-covers : (slot subchannel : ℕ) → ownerOf size zone slot subchannel numbers .owner < noOwner
+      → (ownerOf size zone slot subchannel numbers .owner < burstCount numbers) × Covers numbers (ownerOf size zone slot subchannel numbers .owner) slot subchannel
+  -- and where there is none, no burst covers it and all were looked at.
+  pub no-owner : (slot subchannel : ℕ) → ownerOf size zone slot subchannel numbers .refusal ≡ 0 → ownerOf size zone slot subchannel numbers .owner ≡ noOwner
+      → (ownerOf size zone slot subchannel numbers .looked ≡ burstCount numbers) × ((i : ℕ) → i < burstCount numbers → isCovering (burstAt numbers i) slot subchannel ≡ false)
+  -- "Never above 64."
+  pub looked-most : (slot subchannel : ℕ) → ownerOf size zone slot subchannel numbers .looked ≤ 64
+  -- "A slot below 512 but past the zone has no owner."
+  pub past-zone : (slot subchannel : ℕ) → zone .slots ≤ slot → ownerOf size zone slot subchannel numbers .owner ≡ noOwner
+  -- The row at each subchannel (a zone has 192 at most) is the owner that the other call gives, and none past the mode's last.
+  pub at-most-192 : fieldsRefusal size zone ≡ 0 → subchannels (setupOf size zone) ≤ 192
+  pub row-long : (slot : ℕ) → length (ownersOf size zone slot numbers .owners) ≡ 192
+  pub row-owner : (slot subchannel : ℕ) → subchannel < subchannels (setupOf size zone) → subchannel < 192 → entry (ownersOf size zone slot numbers .owners) subchannel ≡ ownerOf size zone slot subchannel numbers .owner
+  pub row-past : (slot subchannel : ℕ) → subchannels (setupOf size zone) ≤ subchannel → subchannel < 192 → entry (ownersOf size zone slot numbers .owners) subchannel ≡ noOwner

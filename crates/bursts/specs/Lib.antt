@@ -1,0 +1,4 @@
+pub mod Burst
+pub mod Owner
+pub mod Law
+pub mod Model
