@@ -76,9 +76,9 @@ extern "C" {
  * libbellpulsar.so.4. Version 4 has the mask: after the cell in bp_ground, bp_lay, bp_empty and bp_look, and as the fourth
  * number of a plan's place, so that bp_zone_plan_read and bp_zone_plan_write with zones[32] are in place of bp_plan_read and
  * bp_plan_write with zones[24]. Since version 3 a slot is filled in two moves, bp_ground and bp_lay, and there is no bp_fill.
- * Since version 2 carriers are signed and count from DC; before that they were 0..size-1. bp_empty_first was added to version 4
- * and changed no other call, so the version stayed 4: a program that calls it needs a library that has it, and all others run
- * with either. A caller can hold itself to it:
+ * Since version 2 carriers are signed and count from DC; before that they were 0..size-1. bp_empty_first, and then
+ * bp_bursts_check, bp_burst_owner and bp_burst_owners, were added to version 4 and changed no other call, so the version stayed
+ * 4: a program that calls one of them needs a library that has it, and all others run with any. A caller can hold itself to it:
  *
  *     #if BP_VERSION != 4
  *     #error "this program is written for version 4 of bellpulsar.h"
@@ -88,6 +88,9 @@ extern "C" {
 
 /* The mask of mode 0 that lights every major group. */
 #define BP_ALL_GROUPS 63
+
+/* In place of a burst's position: no burst is there. No list has more than 64 bursts, so their positions are 0..63. */
+#define BP_NO_BURST 64
 
 /* Numbers by name: modes, kinds and refusals, which are uint32_t wherever a call takes or gives one. */
 enum bp_mode {
@@ -111,7 +114,7 @@ enum bp_kind {
 
 enum bp_refusal {
     BP_ACCEPTED = 0,
-    BP_REFUSED_MODE = 1,        /* the mode is none of 0 to 6 (in a zone plan: none of 0 and 2 to 6) */
+    BP_REFUSED_MODE = 1,        /* the mode is none of 0 to 6 (in a zone plan and of bursts: none of 0 and 2 to 6) */
     BP_REFUSED_SIZE = 2,        /* the size is not one of that mode's (of a plan: none of 256, 512, 1024, 2048) */
     BP_REFUSED_CELL = 3,        /* the cell is out of range */
     BP_REFUSED_SLOT = 4,        /* the slot, or the zone's symbol, is out of range */
@@ -127,7 +130,9 @@ enum bp_refusal {
     BP_REFUSED_ORDER = 14,      /* at size 2048 the first zone is not mode 0; another mode follows AMC (modes 3 to 6) */
     BP_REFUSED_LEFT_OVER = 15,  /* bytes are left over behind a plan */
     BP_REFUSED_DEST_LEN = 16,   /* the destination is too short for the plan */
-    BP_REFUSED_MASK = 17        /* the mask is not 1 to 63 in mode 0, or not 0 in another mode */
+    BP_REFUSED_MASK = 17,       /* the mask is not 1 to 63 in mode 0, or not 0 in another mode */
+    BP_REFUSED_BURST = 18,      /* more than 64 bursts, not four numbers each, or one is empty or not wholly in its zone */
+    BP_REFUSED_OVERLAP = 19     /* a burst overlaps an earlier one */
 };
 
 /* Where point `index` of a subchannel lies in a slot.
@@ -264,6 +269,43 @@ uint32_t bp_zone_plan_read(const uint8_t *bytes, size_t len, uint32_t *count, ui
  * 3 cell, 13 slots, 17 mask, 14 order; at the end 16 dest_len. */
 uint32_t bp_zone_plan_write(uint32_t count, uint32_t size, const uint32_t zones[32],
                             uint8_t *dest, size_t dest_len, uint32_t *written);
+
+/* A burst (data region) is a rectangle of subchannels by slots in one zone. A list of bursts is four numbers each, one burst
+ * after the other: first subchannel, how many, first slot, how many; bursts_len counts these numbers, so it is four times the
+ * bursts. The zone is that of a plan, wherever it stands there: mode (0 or 2 to 6), size, cell, slots (1..512, how many it has)
+ * and mask. Its slots count from 0, and so do a list's positions. Subchannels that are unlit count like those that are lit.
+ *
+ * Each of the three calls puts the same questions to a list, after those to the zone and to its own fields: 18 bursts_len is a
+ * multiple of four and at most 256; then for each burst in the list's order 18, neither count is 0 and it lies wholly in the
+ * zone, and 19, it overlaps none before it. Any number may stand in a burst: no sum of two wraps. A list of length 0 is
+ * accepted. In a list that is accepted, a subchannel in a slot is of one burst at most, its owner. */
+
+/* Is a list of bursts fit for its zone?
+ *
+ * Refusals, in this order: 1 mode, 2 size, 3 cell, 13 slots, 17 mask, 18 bursts_len; for each burst in turn 18 empty or not
+ * wholly in the zone, 19 overlap. */
+uint32_t bp_bursts_check(uint32_t mode, uint32_t size, uint32_t cell, uint32_t slots, uint32_t mask,
+                         const uint32_t *bursts, size_t bursts_len);
+
+/* The burst that a subchannel in a slot belongs to.
+ *
+ * slot: 0..511, also past the zone's last, where no burst is.
+ * Written where it is accepted: *owner, the burst's position in the list, or BP_NO_BURST (64); and *looked, how many bursts
+ * were looked at to find it: its position plus 1, or all of the list where there is none, so never more than 64.
+ * Refusals, in this order: 1 mode, 2 size, 3 cell, 13 slots, 17 mask, 4 slot, 5 subchannel, then 18 and 19 as
+ * bp_bursts_check. */
+uint32_t bp_burst_owner(uint32_t mode, uint32_t size, uint32_t cell, uint32_t slots, uint32_t mask,
+                        uint32_t slot, uint32_t subchannel, const uint32_t *bursts, size_t bursts_len,
+                        uint32_t *owner, uint32_t *looked);
+
+/* The bursts that all subchannels of one slot belong to.
+ *
+ * slot: as in bp_burst_owner.
+ * Written where it is accepted: all of owners, owners[s] being what bp_burst_owner gives for subchannel s, and BP_NO_BURST
+ * (64) past the mode's last subchannel.
+ * Refusals, in this order: 1 mode, 2 size, 3 cell, 13 slots, 17 mask, 4 slot, then 18 and 19 as bp_bursts_check. */
+uint32_t bp_burst_owners(uint32_t mode, uint32_t size, uint32_t cell, uint32_t slots, uint32_t mask,
+                         uint32_t slot, const uint32_t *bursts, size_t bursts_len, uint8_t owners[192]);
 
 #ifdef __cplusplus
 }

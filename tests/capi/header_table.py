@@ -1,4 +1,5 @@
-"""Fails where the header's table of ranges and lengths, or the groups that it has beside it, are not the reference's.
+"""Fails where the header's table of ranges and lengths, the groups that it has beside it, or what it says of lists of
+bursts, are not the reference's.
 
     python3 tests/capi/header_table.py
 """
@@ -52,6 +53,11 @@ def main():
         sys.exit("the header does not have the reference's groups: %s" % groups())
     if "#define BP_ALL_GROUPS %d" % ref.full_mask(ref.PUSC_DL) not in lines:
         sys.exit("the header's BP_ALL_GROUPS is not the reference's full mask")
+    if "#define BP_NO_BURST %d" % ref.NO_BURST not in lines:
+        sys.exit("the header's BP_NO_BURST is not the reference's")
+    for told in ("multiple of four and at most %d;" % (4 * ref.MOST_BURSTS), "uint8_t owners[%d]);" % ref.ROW):
+        if not any(told in line for line in lines):
+            sys.exit("the header does not have the reference's length of a list or of a row: %s" % told)
     print("capi: the header's ranges are the reference's")
 
 

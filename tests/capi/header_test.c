@@ -21,7 +21,7 @@ static complex_float points[192], back[192], grid[256], sector[960], sector_back
 
 static float *floats(complex_float *numbers) { return (float *)numbers; }
 
-/* The calls that have a carrier or a mask, by their whole types: a compiler takes no other. */
+/* The calls that have a carrier, a mask or bursts, by their whole types: a compiler takes no other. */
 static uint32_t (*const place)(uint32_t, uint32_t, uint32_t, uint32_t, uint32_t, uint32_t, uint32_t *, int32_t *) = bp_place;
 static uint32_t (*const locate)(uint32_t, uint32_t, uint32_t, uint32_t, int32_t, uint32_t *, uint32_t *, uint32_t *,
                                 uint32_t *) = bp_locate;
@@ -35,6 +35,11 @@ static uint32_t (*const empty_first)(uint32_t, uint32_t, uint32_t, uint32_t, uin
                                      float *, size_t) = bp_empty_first;
 static uint32_t (*const look)(uint32_t, uint32_t, uint32_t, uint32_t, uint32_t, const float *, size_t, int32_t, uint32_t *,
                               float *, uint32_t *, uint32_t *, uint32_t *) = bp_look;
+static uint32_t (*const check)(uint32_t, uint32_t, uint32_t, uint32_t, uint32_t, const uint32_t *, size_t) = bp_bursts_check;
+static uint32_t (*const owner_of)(uint32_t, uint32_t, uint32_t, uint32_t, uint32_t, uint32_t, uint32_t, const uint32_t *,
+                                  size_t, uint32_t *, uint32_t *) = bp_burst_owner;
+static uint32_t (*const owners_of)(uint32_t, uint32_t, uint32_t, uint32_t, uint32_t, uint32_t, const uint32_t *, size_t,
+                                   uint8_t *) = bp_burst_owners;
 
 static int map_is_right(void)
 {
@@ -191,7 +196,8 @@ static int refusals_are_right(void)
     float pilot[2] = {0, 0};
     uint8_t none[1] = {0x80}, form[2] = {0x81, 0}, count[1] = {9}, slots[7] = {1, 0x80, 8, 2, 0, 0, 0};
     uint8_t order[7] = {1, 0x80, 0x10, 2, 0, 1, 0}, over[8] = {1, 0x80, 8, 2, 0, 1, 0, 0};
-    const uint32_t met[18] = {
+    const uint32_t twice[8] = {0, 1, 0, 1, 0, 1, 0, 1};
+    const uint32_t met[20] = {
         bp_place(BP_AMC, 256, 2351, 511, 3, 47, &u[0], &carrier),
         bp_place(7, 256, 0, 0, 0, 0, &u[0], &carrier),
         bp_place(BP_PUSC_DL, 256, 0, 0, 0, 0, &u[0], &carrier),
@@ -210,14 +216,16 @@ static int refusals_are_right(void)
         bp_zone_plan_read(over, 8, &u[0], &u[1], zones),
         bp_zone_plan_write(1, 256, zones, none, 1, &u[0]),
         ground(BP_OFUSC, 256, 0, BP_ALL_GROUPS, 512, pilot, floats(grid), 511),
+        check(BP_OFUSC, 256, 0, 1, 0, twice, 7),
+        check(BP_OFUSC, 256, 0, 1, 0, twice, 8),
     };
-    const uint32_t named[18] = {
+    const uint32_t named[20] = {
         BP_ACCEPTED,           BP_REFUSED_MODE,       BP_REFUSED_SIZE,     BP_REFUSED_CELL,      BP_REFUSED_SLOT,
         BP_REFUSED_SUBCHANNEL, BP_REFUSED_INDEX,      BP_REFUSED_CARRIER,  BP_REFUSED_POINTS_LEN, BP_REFUSED_GRID_LEN,
         BP_REFUSED_CUT_SHORT,  BP_REFUSED_FORM,       BP_REFUSED_COUNT,    BP_REFUSED_ZONE_SLOTS, BP_REFUSED_ORDER,
-        BP_REFUSED_LEFT_OVER,  BP_REFUSED_DEST_LEN,   BP_REFUSED_MASK,
+        BP_REFUSED_LEFT_OVER,  BP_REFUSED_DEST_LEN,   BP_REFUSED_MASK,     BP_REFUSED_BURST,     BP_REFUSED_OVERLAP,
     };
-    for (uint32_t n = 0; n < 18; n++)
+    for (uint32_t n = 0; n < 20; n++)
         if (met[n] != n || named[n] != n)
             return 0;
     return 1;
@@ -248,10 +256,37 @@ static int plan_is_right(void)
     return 1;
 }
 
+/* A zone of three slots of optional FUSC at 256, which has four subchannels: all of slot 0, and subchannel 2 of the others. The
+   row has no burst past the last subchannel, and a slot past the zone has none at all. */
+static int bursts_are_right(void)
+{
+    const uint32_t bursts[8] = {0, 4, 0, 1, 2, 1, 1, 2}, wanted[4] = {BP_NO_BURST, BP_NO_BURST, 1, BP_NO_BURST};
+    uint32_t owner, looked;
+    uint8_t owners[192];
+    if (check(BP_OFUSC, 256, 15, 3, 0, bursts, 8) != BP_ACCEPTED || check(BP_OFUSC, 256, 15, 1, 0, NULL, 0) != BP_ACCEPTED ||
+        check(BP_OFUSC, 256, 15, 2, 0, bursts, 8) != BP_REFUSED_BURST ||
+        check(BP_PUSC_UL, 2048, 0, 3, 0, bursts, 8) != BP_REFUSED_MODE)
+        return 0;
+    for (uint32_t s = 0; s < 4; s++)
+        if (owner_of(BP_OFUSC, 256, 15, 3, 0, 0, s, bursts, 8, &owner, &looked) != BP_ACCEPTED || owner != 0 || looked != 1 ||
+            owner_of(BP_OFUSC, 256, 15, 3, 0, 2, s, bursts, 8, &owner, &looked) != BP_ACCEPTED || owner != wanted[s] ||
+            looked != 2 || owner_of(BP_OFUSC, 256, 15, 3, 0, 511, s, bursts, 8, &owner, &looked) != BP_ACCEPTED ||
+            owner != BP_NO_BURST || looked != 2)
+            return 0;
+    if (owner_of(BP_OFUSC, 256, 15, 3, 0, 512, 4, bursts, 7, &owner, &looked) != BP_REFUSED_SLOT ||
+        owner_of(BP_OFUSC, 256, 15, 3, 0, 511, 4, bursts, 7, &owner, &looked) != BP_REFUSED_SUBCHANNEL ||
+        owners_of(BP_OFUSC, 256, 15, 3, 0, 1, bursts, 8, owners) != BP_ACCEPTED)
+        return 0;
+    for (int s = 0; s < 192; s++)
+        if (owners[s] != (s == 2 ? 1 : BP_NO_BURST))
+            return 0;
+    return owners_of(BP_OFUSC, 256, 15, 3, 0, 512, bursts, 7, owners) == BP_REFUSED_SLOT;
+}
+
 int main(void)
 {
     if (map_is_right() && shapes_are_right() && ground_is_right() && grid_is_right() && arrival_is_right() &&
-        sector_is_right() && refusals_are_right() && collisions_are_right() && plan_is_right())
+        sector_is_right() && refusals_are_right() && collisions_are_right() && plan_is_right() && bursts_are_right())
         return 0;
     puts("a call through the header gave a wrong answer");
     return 1;

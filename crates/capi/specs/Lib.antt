@@ -3,3 +3,4 @@ pub mod Map
 pub mod Collision
 pub mod Grid
 pub mod Plan
+pub mod Burst
