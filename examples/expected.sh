@@ -33,14 +33,14 @@ expect 0 "symbol 0 carrier 838
 holds slot 0 subchannel 1 index 11" point 0 2048 0 0 1 11
 expect 0 "symbol 4 carrier -6
 holds slot 1 subchannel 5 index 1" point 4 256 176 1 5 1
-expect 1 "refused 1: Is the mode listed (in a plan: 0 or 2 to 6)?" point 7 1024 256 0 0 0
+expect 1 "refused 1: Is the mode listed (in a plan and of bursts: 0 or 2 to 6)?" point 7 1024 256 0 0 0
 expect 1 "refused 2: Is the size that mode's (of a plan: 256, 512, 1024 or 2048)?" point 2 128 256 0 0 0
 expect 1 "refused 3: Is the cell in range?" point 2 1024 256 0 0 0
 expect 1 "refused 4: Is the slot below 512, the zone's symbol below 512 times the slot length?" point 3 256 2351 512 0 0
 expect 1 "refused 5: Is the subchannel in range (of a lay: and lit)?" point 1 2048 69 511 70 48
 expect 1 "refused 6: Is the index below 48?" point 2 1024 17 0 0 48
 # A number that 32 bits do not hold is refused, not cut to one that they hold.
-expect 1 "refused 1: Is the mode listed (in a plan: 0 or 2 to 6)?" point 4294967298 1024 17 0 0 0
+expect 1 "refused 1: Is the mode listed (in a plan and of bursts: 0 or 2 to 6)?" point 4294967298 1024 17 0 0 0
 expect 1 "refused 3: Is the cell in range?" point 2 1024 -1 0 0 0
 expect 1 "refused 6: Is the index below 48?" point 2 1024 17 0 0 340282366920938463463374607431768211456
 for word in first "" " 3" "3 " "	3" " -18446744073709551615" "- 3" - --3 +3 1_0 0x1 1.0 1e3 "٣"; do
@@ -142,7 +142,7 @@ expect 0 "1024 of 4096 carriers: 240 of 960 points
 3072 of 4096 carriers: 720 of 960 points
 4096 of 4096 carriers: 960 of 960 points
 points as emptied at once" capture 0 2048 5 3 3
-expect 1 "refused 1: Is the mode listed (in a plan: 0 or 2 to 6)?" capture 7 2048 5 3 3
+expect 1 "refused 1: Is the mode listed (in a plan and of bursts: 0 or 2 to 6)?" capture 7 2048 5 3 3
 expect 1 "refused 2: Is the size that mode's (of a plan: 256, 512, 1024 or 2048)?" capture 2 0 0 0 0
 expect 1 "refused 3: Is the cell in range?" capture 0 2048 32 64 512
 expect 1 "$mask" capture 0 2048 31 64 512
@@ -175,6 +175,65 @@ expect 1 "refused 10: Do the bytes reach to the value's end or its third group?"
 for word in 100 1 0x1 " 1" -1 +1 0g ""; do
     expect 2 "" plan "$word"
 done
+
+# A map message over all subchannels of the first slot, and two bursts behind it.
+expect 0 "3 bursts
+slot 3 subchannel 25: burst 2, 3 looked at
+subchannels 0 to 19: burst 1
+subchannels 20 to 49: burst 2
+subchannels 50 to 59: no burst" bursts 0 2048 5 12 63 3 25 0 60 0 1 0 20 1 11 20 30 1 6
+expect 0 "3 bursts
+slot 0 subchannel 59: burst 0, 1 looked at
+subchannels 0 to 59: burst 0" bursts 0 2048 5 12 63 0 59 0 60 0 1 0 20 1 11 20 30 1 6
+expect 0 "3 bursts
+slot 7 subchannel 20: no burst, 3 looked at
+subchannels 0 to 19: burst 1
+subchannels 20 to 59: no burst" bursts 0 2048 5 12 63 7 20 0 60 0 1 0 20 1 11 20 30 1 6
+# Unlit subchannels count like lit ones; a slot past the zone's has no burst.
+expect 0 "1 bursts
+slot 11 subchannel 59: burst 0, 1 looked at
+subchannels 0 to 58: no burst
+subchannels 59 to 59: burst 0" bursts 0 2048 5 12 1 11 59 59 1 11 1
+expect 0 "1 bursts
+slot 511 subchannel 191: no burst, 1 looked at
+subchannels 0 to 191: no burst" bursts 6 2048 2351 511 0 511 191 0 192 0 511
+expect 0 "0 bursts
+slot 0 subchannel 0: no burst, 0 looked at
+subchannels 0 to 3: no burst" bursts 2 256 15 1 0 0 0
+expect 1 "refused 1: Is the mode listed (in a plan and of bursts: 0 or 2 to 6)?" bursts 1 2048 0 1 0 0 0
+expect 1 "refused 2: Is the size that mode's (of a plan: 256, 512, 1024 or 2048)?" bursts 0 1024 32 0 64 512 60 0 0 0 0
+expect 1 "refused 3: Is the cell in range?" bursts 0 2048 32 0 64 512 60 0 0 0 0
+for word in 0 513 -1 4294967297; do
+    expect 1 "refused 13: Are the slots 1 to 512?" bursts 0 2048 31 "$word" 64 512 60 0 0 0 0
+done
+expect 1 "$mask" bursts 0 2048 31 512 64 512 60 0 0 0 0
+expect 1 "refused 4: Is the slot below 512, the zone's symbol below 512 times the slot length?" bursts 0 2048 31 512 63 512 60
+expect 1 "refused 5: Is the subchannel in range (of a lay: and lit)?" bursts 0 2048 31 512 63 511 60
+burst="refused 18: Are the bursts at most 64, of four numbers each, none empty and each wholly in its zone?"
+for numbers in "0 0 0 1" "0 1 0 0" "0 61 0 1" "60 1 0 1" "59 2 0 1" "0 1 0 13" "0 1 12 1" "0 1 11 2" "-1 2 0 1" \
+    "4294967295 2 0 1" "1 4294967295 0 1" "0 1 4294967290 8" "4294967296 1 0 1" "0 1 18446744073709551616 1"; do
+    expect 1 "$burst" bursts 0 2048 5 12 63 0 0 $numbers
+    expect 1 "$burst" bursts 0 2048 5 12 63 0 0 2 3 4 5 $numbers 3 1 4 1
+done
+overlap="refused 19: Is the burst apart from every earlier one?"
+for numbers in "2 3 4 5" "4 9 8 4" "0 3 0 5" "0 60 8 1" "3 1 4 1"; do
+    expect 1 "$overlap" bursts 0 2048 5 12 63 0 0 2 3 4 5 $numbers 0 0 0 0
+done
+for numbers in "5 1 4 5" "0 2 0 12" "2 3 0 4" "2 3 9 3" "5 55 9 3"; do
+    expect 0 "2 bursts
+slot 12 subchannel 0: no burst, 2 looked at
+subchannels 0 to 59: no burst" bursts 0 2048 5 12 63 12 0 2 3 4 5 $numbers
+done
+all=$(for n in $(seq 0 63); do echo "$n 1 0 1"; done)
+expect 0 "64 bursts
+slot 0 subchannel 64: no burst, 64 looked at
+$(for n in $(seq 0 63); do echo "subchannels $n to $n: burst $n"; done)
+subchannels 64 to 191: no burst" bursts 6 2048 0 1 0 0 64 $all
+expect 1 "$burst" bursts 6 2048 0 1 0 0 64 $all 64 1 0 1
+for numbers in "0" "0 1" "0 1 0" "0 1 0 1 1" "0 1 0 x" "0,1,0,1" "0 1 0 +1"; do
+    expect 2 "" bursts 0 2048 5 12 63 0 0 $numbers
+done
+expect 2 "" bursts 0 2048 5 12 63 0
 
 expect 2 "" point "$(printf '\377')" 1024 17 0 0 0
 

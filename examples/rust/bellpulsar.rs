@@ -62,6 +62,17 @@ mod c {
         pub fn bp_zone_plan_write(
             count: u32, size: u32, zones: *const u32, dest: *mut u8, dest_len: usize, written: *mut u32,
         ) -> u32;
+        pub fn bp_bursts_check(
+            mode: u32, size: u32, cell: u32, slots: u32, mask: u32, bursts: *const u32, bursts_len: usize,
+        ) -> u32;
+        pub fn bp_burst_owner(
+            mode: u32, size: u32, cell: u32, slots: u32, mask: u32, slot: u32, subchannel: u32,
+            bursts: *const u32, bursts_len: usize, owner: *mut u32, looked: *mut u32,
+        ) -> u32;
+        pub fn bp_burst_owners(
+            mode: u32, size: u32, cell: u32, slots: u32, mask: u32, slot: u32,
+            bursts: *const u32, bursts_len: usize, owners: *mut u8,
+        ) -> u32;
     }
 }
 
@@ -73,7 +84,7 @@ impl Refusal {
     /// The question in words.
     pub fn question(self) -> &'static str {
         match self.0 {
-            1 => "Is the mode listed (in a plan: 0 or 2 to 6)?",
+            1 => "Is the mode listed (in a plan and of bursts: 0 or 2 to 6)?",
             2 => "Is the size that mode's (of a plan: 256, 512, 1024 or 2048)?",
             3 => "Is the cell in range?",
             4 => "Is the slot below 512, the zone's symbol below 512 times the slot length?",
@@ -90,6 +101,8 @@ impl Refusal {
             15 => "Are the bytes used up?",
             16 => "Is the destination long enough?",
             17 => "Is the mask 1 to 63 in mode 0, 0 in the others?",
+            18 => "Are the bursts at most 64, of four numbers each, none empty and each wholly in its zone?",
+            19 => "Is the burst apart from every earlier one?",
             _ => "A question that document 01 does not have",
         }
     }
@@ -177,6 +190,24 @@ pub struct Plan {
     pub count: u32,
     pub size: u32,
     pub zones: [Zone; 8],
+}
+
+/// A rectangle of subchannels by slots in one zone (a data region): the first subchannel and how many, the first slot and
+/// how many.
+#[repr(C)] // Four numbers in this order: a slice of bursts is the list that the engine takes.
+#[derive(Clone, Copy, Debug, Default, PartialEq, Eq)]
+pub struct Burst {
+    pub subchannel: u32,
+    pub subchannels: u32,
+    pub slot: u32,
+    pub slots: u32,
+}
+
+/// The position of the burst that owns a subchannel in a slot, if one does, and how many bursts were looked at to find it.
+#[derive(Clone, Copy, Debug, PartialEq, Eq)]
+pub struct Owner {
+    pub burst: Option<usize>,
+    pub looked: usize,
 }
 
 /// Where a point lies.
@@ -476,4 +507,104 @@ pub fn plan_write(plan: &Plan, dest: &mut [u8]) -> Result<usize, Refusal> {
         )
     })?;
     Ok(written as usize)
+}
+
+/// In place of a burst's position: none.
+fn position(burst: u32) -> Option<usize> {
+    if burst == 64 {
+        None
+    } else {
+        Some(burst as usize)
+    }
+}
+
+/// Is a list of bursts fit for its zone: at most 64, none empty, each wholly in the zone and apart from every earlier one?
+pub fn bursts_check(size: u32, zone: Zone, bursts: &[Burst]) -> Result<(), Refusal> {
+    let Zone {
+        mode,
+        cell,
+        slots,
+        mask,
+    } = zone;
+    // Safety: a burst is four u32 in a row, so the list has four times as many as there are bursts.
+    done(unsafe {
+        c::bp_bursts_check(
+            mode,
+            size,
+            cell,
+            slots,
+            mask,
+            bursts.as_ptr().cast(),
+            4 * bursts.len(),
+        )
+    })
+}
+
+/// The burst that a subchannel in a slot belongs to. The slot may be past the zone's last, where none is.
+pub fn burst_owner(
+    size: u32,
+    zone: Zone,
+    slot: u32,
+    subchannel: u32,
+    bursts: &[Burst],
+) -> Result<Owner, Refusal> {
+    let Zone {
+        mode,
+        cell,
+        slots,
+        mask,
+    } = zone;
+    let (mut owner, mut looked) = (0, 0);
+    // Safety: as in `bursts_check`, and the out parameters are distinct variables.
+    done(unsafe {
+        c::bp_burst_owner(
+            mode,
+            size,
+            cell,
+            slots,
+            mask,
+            slot,
+            subchannel,
+            bursts.as_ptr().cast(),
+            4 * bursts.len(),
+            &mut owner,
+            &mut looked,
+        )
+    })?;
+    Ok(Owner {
+        burst: position(owner),
+        looked: looked as usize,
+    })
+}
+
+/// The bursts that all subchannels of one slot belong to: what `burst_owner` gives for each, and None past the mode's last
+/// subchannel.
+pub fn burst_owners(
+    size: u32,
+    zone: Zone,
+    slot: u32,
+    bursts: &[Burst],
+) -> Result<[Option<usize>; 192], Refusal> {
+    let Zone {
+        mode,
+        cell,
+        slots,
+        mask,
+    } = zone;
+    let mut owners = [0u8; 192];
+    // Safety: as in `bursts_check`, and `owners` has the 192 bytes that are written.
+    done(unsafe {
+        c::bp_burst_owners(
+            mode,
+            size,
+            cell,
+            slots,
+            mask,
+            slot,
+            bursts.as_ptr().cast(),
+            4 * bursts.len(),
+            owners.as_mut_ptr(),
+        )
+    })?;
+    Ok(owners.map(|owner| position(owner.into())))
 }

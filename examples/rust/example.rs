@@ -10,10 +10,14 @@
 //!                                                      it, half a symbol at a time
 //!     plan BYTE..                                      reads a zone plan (each byte two hex digits),
 //!                                                      prints its zones, and writes it again
+//!     bursts MODE SIZE CELL SLOTS MASK SLOT SUBCHANNEL NUMBER..
+//!                                                      checks a list of bursts (first subchannel, how many, first
+//!                                                      slot, how many of each), and tells whose a subchannel in a
+//!                                                      slot is and whose all subchannels of that slot are
 
 mod bellpulsar;
 
-use bellpulsar::{Address, Collisions, Content, Place, Refusal, Seen, Setup};
+use bellpulsar::{Address, Burst, Collisions, Content, Place, Refusal, Seen, Setup, Zone};
 use std::io::Write;
 use std::num::{IntErrorKind, ParseIntError};
 use std::process::exit;
@@ -23,7 +27,8 @@ const USAGE: &str = "usage: point MODE SIZE CELL SLOT SUBCHANNEL INDEX
        collisions SIZE CELL SUBCHANNEL CELL SUBCHANNEL, or collisions CELL CELL
        slot MODE SIZE CELL MASK SLOT
        capture MODE SIZE CELL MASK SLOT
-       plan BYTE..";
+       plan BYTE..
+       bursts MODE SIZE CELL SLOTS MASK SLOT SUBCHANNEL [SUBCHANNEL SUBCHANNELS SLOT SLOTS]..";
 
 /// Ends a program that is misused. (eprintln! would panic where nothing can be written.)
 fn misused(text: &str) -> ! {
@@ -69,6 +74,16 @@ fn byte(word: &str) -> u8 {
         misused(&format!("not two hex digits: {word}"))
     }
     u8::from_str_radix(word, 16).unwrap()
+}
+
+/// A burst from its four numbers.
+fn burst(four: &[u32]) -> Burst {
+    Burst {
+        subchannel: four[0],
+        subchannels: four[1],
+        slot: four[2],
+        slots: four[3],
+    }
 }
 
 fn point(setup: Setup, address: Address) -> Result<String, Refusal> {
@@ -213,6 +228,36 @@ fn plan(bytes: &[u8]) -> Result<String, Refusal> {
     Ok(text + &format!("bytes{bytes}\n"))
 }
 
+fn owned_by(burst: Option<usize>) -> String {
+    burst.map_or("no burst".to_string(), |position| {
+        format!("burst {position}")
+    })
+}
+
+fn bursts(
+    size: u32,
+    zone: Zone,
+    slot: u32,
+    subchannel: u32,
+    list: &[Burst],
+) -> Result<String, Refusal> {
+    bellpulsar::bursts_check(size, zone, list)?;
+    let owner = bellpulsar::burst_owner(size, zone, slot, subchannel, list)?;
+    let owners = bellpulsar::burst_owners(size, zone, slot, list)?;
+    let (count, looked) = (list.len(), owner.looked);
+    let mut text = format!("{count} bursts\nslot {slot} subchannel {subchannel}: ");
+    text += &format!("{}, {looked} looked at\n", owned_by(owner.burst));
+
+    // The row has a place for each of 192 subchannels; the mode has as many as there are points for.
+    let mut first = 0;
+    for run in owners[..bellpulsar::points_len(zone.mode, size) / 96].chunk_by(|a, b| a == b) {
+        let last = first + run.len() - 1;
+        text += &format!("subchannels {first} to {last}: {}\n", owned_by(run[0]));
+        first = last + 1;
+    }
+    Ok(text)
+}
+
 /// What an example prints.
 fn run(name: &str, words: &[String]) -> Result<String, Refusal> {
     if name == "plan" {
@@ -252,6 +297,18 @@ fn run(name: &str, words: &[String]) -> Result<String, Refusal> {
         }
         ("capture", &[mode, size, cell, mask, slot]) => {
             capture(Setup { mode, size, cell }, mask, slot)
+        }
+        ("bursts", &[mode, size, cell, slots, mask, slot, subchannel, ref list @ ..])
+            if list.len() % 4 == 0 =>
+        {
+            let zone = Zone {
+                mode,
+                cell,
+                slots,
+                mask,
+            };
+            let list: Vec<Burst> = list.chunks(4).map(burst).collect();
+            bursts(size, zone, slot, subchannel, &list)
         }
         _ => usage(),
     }
