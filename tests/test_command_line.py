@@ -6,6 +6,7 @@
 
 import contextlib
 import io
+import itertools
 import os
 import re
 import shlex
@@ -218,6 +219,18 @@ class Words(Case):
         self.refused(17, "plan write 2048 0,0,1,1 2,0,1,1", "zone 2: mask 1 is not one of mode 2's: 0")
         self.refused(15, "plan read %s 00" % EXAMPLE, "13 bytes are given, and the plan ends after 12")
 
+    def test_of_bursts(self):
+        for what in ("bursts 0 2048 5 12", "owner 0 2048 5 12 0 0", "owners 0 2048 5 12 0", "picture zone 0 2048 5 12"):
+            words = "burst 1 is 50,11,2,1: subchannels 50 to 60 are not all of mode 0's: 0 to 59"
+            self.refused(18, what + " 0,60,0,2 50,11,2,1", words)
+            words = "burst 0 is 0,60,11,2: slots 11 to 12 are not all of the zone's: 0 to 11"
+            self.refused(18, what + " 0,60,11,2", words)
+            self.refused(18, what + " 0,60,0,0", "burst 0 is 0,60,0,0: 0 slots, not 1 or more")
+            self.refused(18, what + " 0,-1,0,0", "burst 0 is 0,-1,0,0: -1 subchannels, not 1 or more")
+            self.refused(18, what + " 0,1,0,1" * 65, "65 bursts are given, not 64 or fewer")
+            words = "burst 2 is 20,3,1,5: it overlaps burst 1, which is 21,1,5,1"
+            self.refused(19, what + " 0,20,0,12 21,1,5,1 20,3,1,5 0,0,0,0", words)
+
 
 class Collisions(Case):
     def test_optional_fusc(self):
@@ -311,6 +324,186 @@ class Plans(Case):
         self.refused(14, "plan write 1024 3,0,1,0 2,0,1,0")
         self.refused(14, "plan write 2048 0,0,1,63 6,0,1,0 0,0,1,63")
         self.refused(14, "plan write 2048 4,0,1,0")
+
+
+# --- bursts -----------------------------------------------------------------------------------
+
+
+def rows_text(line, bursts):
+    """What `owners` says of the slot that a line has, from the reference."""
+    mode, size, cell, slots, slot = map(int, line.split())
+    numbers = [number for burst in bursts for number in burst]
+    row = ref.burst_owners(mode, size, cell, slots, ref.full_mask(mode), slot, numbers)[1]
+    row, text = row[: ref.subchannels(mode, size)], ""
+    for owner, run in itertools.groupby(enumerate(row), key=lambda place: place[1]):
+        subchannels = [subchannel for subchannel, _ in run]
+        name = "none" if owner == ref.NO_BURST else owner
+        text += "subchannels %d to %d burst %s\n" % (subchannels[0], subchannels[-1], name)
+    return text
+
+
+def as_words(bursts):
+    return " ".join(",".join(map(str, burst)) for burst in bursts)
+
+
+MAP = [(0, 60, 0, 1), (0, 20, 1, 11), (20, 30, 1, 6), (59, 1, 11, 1)]  # of a zone of PUSC downlink with 12 slots
+FULL = [(at, 1, slot, 1) for slot in (1, 0) for at in range(32)]  # 64, of the smallest zone that has room
+
+
+class Bursts(Case):
+    def test_a_list(self):
+        self.prints(
+            "bursts 0 2048 5 12 " + as_words(MAP),
+            "burst 0 subchannels 0 to 59 slots 0 to 0 takes 60\n"
+            "burst 1 subchannels 0 to 19 slots 1 to 11 takes 220\n"
+            "burst 2 subchannels 20 to 49 slots 1 to 6 takes 180\n"
+            "burst 3 subchannels 59 to 59 slots 11 to 11 takes 1\n"
+            "bursts 4 take 461 of 720 free 259\n",
+        )
+        self.prints("bursts 6 2048 0 512 --list /dev/null", "bursts 0 take 0 of 98304 free 98304\n")
+        one = "burst 0 subchannels 0 to 191 slots 0 to 511 takes 98304\nbursts 1 take 98304 of 98304 free 0\n"
+        self.prints("bursts 6 2048 2351 512 0,192,0,512", one)
+        done = asked(*("bursts 2 2048 0 2 " + as_words(FULL)).split())
+        self.assertEqual(done.stdout.decode().splitlines()[-1], "bursts 64 take 64 of 64 free 0")
+        self.assertEqual(len(done.stdout.decode().splitlines()), 65)
+
+    def test_an_owner(self):
+        where = {(0, 59): 0, (1, 0): 1, (11, 19): 1, (6, 49): 2, (11, 59): 3}
+        where.update(dict.fromkeys([(7, 20), (6, 50), (11, 58), (12, 0), (511, 59)]))
+        for (slot, subchannel), owner in where.items():
+            looked = 4 if owner is None else owner + 1
+            told = "burst %s looked %d\n" % ("none" if owner is None else owner, looked)
+            self.prints("owner 0 2048 5 12 %d %d %s" % (slot, subchannel, as_words(MAP)), told)
+        self.prints("owner 2 256 0 1 0 0 --list /dev/null", "burst none looked 0\n")
+        self.prints("owner 2 2048 0 2 0 31 " + as_words(FULL), "burst 63 looked 64\n")
+
+    def test_owners(self):
+        for slot in range(14):
+            line = "0 2048 5 12 %d" % slot
+            self.prints("owners %s %s" % (line, as_words(MAP)), rows_text(line, MAP))
+        self.prints(
+            "owners 0 2048 5 12 11 " + as_words(MAP),
+            "subchannels 0 to 19 burst 1\nsubchannels 20 to 58 burst none\nsubchannels 59 to 59 burst 3\n",
+        )
+        for mode in (0, 2, 3, 4, 5, 6):
+            for size in ref.sizes(mode):
+                last = ref.subchannels(mode, size)
+                bursts = [(last - 1, 1, 0, 3), (0, 1, 1, 1), (1, last // 2, 1, 2)]
+                for slot in (0, 1, 2, 3, 511):
+                    line = "%d %d 1 3 %d" % (mode, size, slot)
+                    self.prints("owners %s %s" % (line, as_words(bursts)), rows_text(line, bursts))
+
+    def test_unlit_subchannels_count(self):
+        for mask in (1, "0x1", "0b000001", 63):
+            self.prints("owner 0 2048 5 12 0 59 --mask %s %s" % (mask, as_words(MAP)), "burst 0 looked 1\n")
+            self.prints("owners 0 2048 5 12 0 --mask %s %s" % (mask, as_words(MAP)), "subchannels 0 to 59 burst 0\n")
+
+    def test_options_among_the_words(self):
+        told = "burst 2 looked 3\n"
+        words = as_words(MAP).split()
+        for line in (
+            ["owner", 0, 2048, 5, 12, 1, 20, "--mask", 3, *words],
+            ["owner", 0, 2048, 5, 12, 1, 20, words[0], "--mask=3", *words[1:]],
+            ["owner", 0, 2048, 5, 12, 1, "--mask", "3", 20, *words],
+            ["owner", 0, 2048, 5, 12, 1, 20, *words, "--mask=3"],
+            ["owner", 0, 2048, 5, 12, 1, 20, "--mask=3", "--", *words],
+            ["owner", "--mask=3", "--", 0, 2048, 5, 12, 1, 20, *words],
+        ):
+            self.prints(shlex.join(map(str, line)), told)
+        words = "burst 0 is -1,1,0,1: subchannel -1 is not one of mode 0's: 0 to 59"
+        self.refused(18, "bursts 0 2048 5 12 -1,1,0,1", words)
+        self.refused(18, "bursts 0 2048 5 12 -- -1,1,0,1", words)
+        self.refused(1, "bursts -1 2048 5 12 -1,1,0,1")
+
+    def test_lists_from_files(self):
+        answer = asked(*("bursts 0 2048 5 12 " + as_words(MAP)).split()).stdout.decode()
+        plain = "".join("%d %d %d %d\n" % burst for burst in MAP)
+        commas = as_words(MAP).replace(" ", "\n")
+        mixed = "# of a frame\r\n\r\n 0,60,0,1\t# the map\r\n0 , 20 ,1\t 11#x\n\n\n\t20 30, 1 6  \n59,1 11,1\n#"
+        for text in (plain, commas, mixed, "\ufeff" + plain, plain + "# \u00fc\ud83d\n", plain.rstrip()):
+            data = text.encode("utf-8", "surrogatepass")
+            self.prints("bursts 0 2048 5 12 --list -", answer, input=data)
+            with tempfile.TemporaryDirectory() as directory:
+                path = os.path.join(directory, "a list")
+                with open(path, "wb") as file:
+                    file.write(data)
+                self.prints("bursts 0 2048 5 12 --list '%s'" % path, answer)
+                self.prints("owner 0 2048 5 12 --list='%s' 6 49" % path, "burst 2 looked 3\n")
+                self.prints("owners 0 2048 5 12 0 --list '%s'" % path, "subchannels 0 to 59 burst 0\n")
+                drawn = asked("picture", "zone", 0, 2048, 5, 12, "--list", path).stdout
+                self.assertEqual(drawn, asked("picture", "zone", 0, 2048, 5, 12, *as_words(MAP).split()).stdout)
+                os.rename(path, os.path.join(directory, "-1"))
+                self.prints("bursts 0 2048 5 12 --list -1", answer, cwd=directory)
+        for text in (b"", b"\n\n", b"# 1 2 3 4", b" \t\r\n#"):
+            self.prints("owner 2 256 0 1 0 0 --list -", "burst none looked 0\n", input=text)
+        many = b"%d 1 0 1\n"
+        every = b"".join(many % at for at in range(64))
+        self.prints("owner 6 2048 0 1 0 63 --list -", "burst 63 looked 64\n", input=every)
+        words = "65 bursts are given, not 64 or fewer"
+        self.refused(18, "owner 6 2048 0 1 0 63 --list -", words, input=every + many % 64)
+        self.refused(18, "bursts 0 2048 5 12 --list -", input=b"0 1 0 %s\n" % (b"9" * 6000))
+
+    def test_lists_that_are_not_understood(self):
+        good = "0 60 0 1\n"
+        for text, line, word in (
+            (good + "1 2 3\n", 2, "'1 2 3' is not a burst: SUBCHANNEL,SUBCHANNELS,SLOT,SLOTS is needed"),
+            ("\n# x\n1 2 3 4 5 # y", 3, "'1 2 3 4 5' is not a burst: SUBCHANNEL,SUBCHANNELS,SLOT,SLOTS is needed"),
+            ("1,2,,4\n", 1, "'' is not a number"),
+            (good * 3 + "1 2 x 4\n" + good, 4, "'x' is not a number"),
+            ("1 2 3 4,", 1, "'1 2 3 4,' is not a burst: SUBCHANNEL,SUBCHANNELS,SLOT,SLOTS is needed"),
+            ("1;2;3;4", 1, "'1;2;3;4' is not a burst: SUBCHANNEL,SUBCHANNELS,SLOT,SLOTS is needed"),
+            ("1 2 3 0x4", 1, "'0x4' is not a number"),
+            ("1 2 3 +4", 1, "'+4' is not a number"),
+            ("1 2 3 - 4", 1, "'1 2 3 - 4' is not a burst: SUBCHANNEL,SUBCHANNELS,SLOT,SLOTS is needed"),
+            ("1 2 3\v4", 1, r"'1 2 3\x0b4' is not a burst: SUBCHANNEL,SUBCHANNELS,SLOT,SLOTS is needed"),
+        ):
+            done = run("bursts", 7, 2048, 5, 12, "--list", "-", input=text.encode())
+            told = "bellpulsar bursts: error: argument --list: -, line %d: %s\n" % (line, word)
+            self.assertEqual((done.stdout, done.returncode), (b"", 2))
+            self.assertTrue(done.stderr.decode().endswith(told), done.stderr)
+        odd = [b"\0000 60 0 1", b"0 60 0 \0001", b"\xff 60 0 1", "\u0663 1 0 1".encode(), b"1\xa02\xa03\xa04"]
+        for data in (*odd, b"0 60 0 1\f", b"\v0 60 0 1", "0 60 0 1\u00a0".encode()):
+            done = run("bursts", 0, 2048, 5, 12, "--list", "-", input=data)
+            self.assertEqual((done.stdout, done.returncode), (b"", 2))
+            self.assertIn(b"argument --list: -, line 1: ", done.stderr)
+        done = run("bursts", 0, 2048, 5, 12, "--list", "/dev/zero")
+        self.assertEqual((done.stdout, done.returncode), (b"", 2))
+        self.assertTrue(done.stderr.endswith(b"argument --list: /dev/zero has more than 1048576 bytes\n"), done.stderr)
+
+    def test_either_words_or_a_list(self):
+        told = "error: give the bursts either as BURST words or by --list\n"
+        for what in ("bursts 0 2048 5 12", "owner 0 2048 5 12 0 0", "owners 0 2048 5 12 0", "picture zone 0 2048 5 12"):
+            for more in ("", "0,1,0,1 --list /dev/null", "--list /dev/null 0,1,0,1"):
+                done = asked(*(what + " " + more).split())
+                self.assertEqual((done.stdout, done.returncode), (b"", 2))
+                self.assertTrue(done.stderr.decode().endswith(told), done.stderr)
+            self.not_understood(*what.split(), "--list")
+            self.assertEqual(asked(*what.split(), "--list", "/dev/null").returncode, 0)
+            for word in ("1,2,3", "1,2,3,4,5", "", "1 2 3 4", "1;2;3;4"):
+                done = asked(*what.split(), word)
+                fault = "argument BURST: %r is not a burst: SUBCHANNEL,SUBCHANNELS,SLOT,SLOTS is needed\n" % word
+                self.assertEqual((done.stdout, done.returncode), (b"", 2))
+                self.assertTrue(done.stderr.decode().endswith(fault), done.stderr)
+
+    def test_refusals(self):
+        zones = [("1 2048 32 513", 64, 1), ("7 2048 32 513", 64, 1), ("0 1024 32 513", 64, 2), ("0 2048 32 513", 64, 3)]
+        zones += [("0 2048 31 %d" % slots, 64, 13) for slots in (513, 0, -1, 2**32 + 1)]
+        zones += [("0 2048 31 12", 64, 17), ("2 256 15 512", 63, 17), ("0 2048 31 12", 0, 17)]
+        for zone, mask, number in zones:
+            self.refused(number, "bursts %s 0,0,0,0 --mask %s" % (zone, mask))
+            self.refused(number, "owner %s 512 60 0,0,0,0 --mask %s" % (zone, mask))
+            self.refused(number, "owners %s 512 0,0,0,0 --mask %s" % (zone, mask))
+            self.refused(number, "picture zone %s 0,0,0,0 --mask %s" % (zone, mask))
+        self.refused(4, "owner 0 2048 31 12 512 60 0,0,0,0", "slot 512 is not one of a zone's: 0 to 511")
+        self.refused(4, "owners 0 2048 31 12 -1 0,0,0,0")
+        self.refused(5, "owner 0 2048 31 12 511 60 0,0,0,0", "subchannel 60 is not one of mode 0's: 0 to 59")
+        self.refused(5, "owner 6 2048 31 12 511 192 0,0,0,0")
+        self.refused(18, "owner 0 2048 31 12 511 59 0,0,0,0")
+        self.refused(18, "bursts 0 2048 31 12 0,1,0,1 %d,1,0,1" % 2**32)
+        self.refused(18, "bursts 0 2048 31 12 0,1,0,1 0,1,0,%s" % ("9" * 6000))
+        self.refused(18, "bursts 0 2048 31 12 0,1,0,1 1,1,4294967295,2")
+        self.refused(19, "bursts 0 2048 31 12 0,2,0,2 1,2,1,2")
+        self.refused(1, "bursts 1 2048 0 1 0,1,0,1", "mode 1 is not one of a plan's: 0, 2, 3, 4, 5, 6")
 
 
 # --- a capture --------------------------------------------------------------------------------
@@ -660,6 +853,86 @@ class Pictures(Case):
             title = "AMC %dx%d (mode %d), size 256, cell 176, slot 1, subchannel 0 picked out" % (bins, symbols, mode)
             self.assertEqual(root.find(SVG + "title").text, title)
 
+    def bursts_of_a_zone(self, root, zone, mask, bursts):
+        """What is drawn of them, and told, is the list's, by the scale of the zone's frame."""
+        mode, size, cell, slots = zone
+        subchannels, panel = ref.subchannels(mode, size), of_class(root, "g", "zone")[0]
+        free, *boxes = [box for box in panel.iter(SVG + "rect") if box.find(SVG + "title") is not None]
+        self.assertEqual((free.find(SVG + "title").text, free.get("fill")), ("free", "#ffffff"))
+        slot, row = float(free.get("width")) / slots, float(free.get("height")) / subchannels
+        self.assertTrue(2.5 <= slot <= 80 and 4 <= row <= 24)
+        drawn = [tuple(float(box.get(side)) for side in ("x", "y", "width", "height")) for box in boxes]
+        found = [(y / row, height / row, x / slot, width / slot) for x, y, width, height in drawn]
+        self.assertEqual([tuple(round(number, 2) for number in burst) for burst in found], bursts)
+        for number, (box, (first, count, slot_0, count_0)) in enumerate(zip(boxes, bursts)):
+            told = (number, first, first + count - 1, slot_0, slot_0 + count_0 - 1)
+            title = "burst %d: subchannels %d to %d, slots %d to %d" % told
+            self.assertEqual(box.find(SVG + "title").text, title)
+        self.numbers_fit(panel, drawn)
+        fills = [box.get("fill") for box in boxes]
+        self.assertEqual(len({*fills, "#ffffff"}), len(bursts) + 1)
+        legends = of_class(root, "g", "legend")
+        if bursts:
+            self.assertEqual([box.get("fill") for box in legends[1].iter(SVG + "rect")], fills)
+            self.assertEqual(texts(legends[1]), ["bursts, by position:", *numbered(len(bursts))])
+        unlit = [s for s in range(subchannels) if s not in ref.lit_subchannels(mode, size, mask)]
+        strips = [(float(box.get("y")), float(box.get("height"))) for box in of_class(panel, "rect", "unlit")]
+        hatched = [s for y, height in strips for s in range(round(y / row), round((y + height) / row))]
+        self.assertEqual(hatched, unlit)
+        self.assertEqual(texts(legends[0]), ["free", "subchannel, unlit"] if unlit else ["free"])
+        title = "%s (mode %d), size %d, cell %d, slots %d" % (refusals.MODES[mode].name, *zone)
+        title += (", mask %d" % mask if unlit else "") + ", bursts %d" % len(bursts)
+        self.assertEqual(root.find(SVG + "title").text, title)
+        self.axis(panel, "middle", "x", slots, slot, 30)
+        self.axis(panel, "end", "y", subchannels, row, 12)
+        self.assertLessEqual({"slot", "subchannel"}, set(texts(panel)))
+
+    def numbers_fit(self, panel, drawn):
+        """Each box has its number in its middle, or no room for it."""
+        labels = [label for label in panel.iter(SVG + "text") if label.get("pointer-events")]
+        places = {label.text: (float(label.get("x")), float(label.get("y")) - 4) for label in labels}
+        self.assertEqual(len(places), len(labels))
+        for number, (x, y, width, height) in enumerate(drawn):
+            has_room = width >= 8 * len(str(number)) and height >= 12
+            self.assertEqual(str(number) in places, has_room)
+            if has_room:
+                middle = places[str(number)]
+                self.assertTrue(abs(middle[0] - x - width / 2) < 0.01 and abs(middle[1] - y - height / 2) < 0.01)
+
+    def axis(self, panel, anchor, side, count, scale, room):
+        """The first and the last are numbered, each number stands where it belongs, and none on another."""
+        labels = [label for label in panel.iter(SVG + "text") if label.get("text-anchor") == anchor]
+        labels = [label for label in labels if label.text.isdigit() and not label.get("pointer-events")]
+        told = [int(label.text) for label in labels]
+        places = [float(label.get(side)) - (4 if side == "y" else 0) for label in labels]
+        self.assertEqual((told[0], told[-1], sorted(set(told))), (0, count - 1, told))
+        for number, place in zip(told, places):
+            self.assertLess(abs(place - (number + 0.5) * scale), 0.01)
+        for one, other in zip(places, places[1:]):
+            self.assertGreaterEqual(other - one, room)
+            self.assertLessEqual(other - one, max(4 * room, 2 * scale))
+
+    def test_bursts_of_zones(self):
+        corners = [(0, 1, 0, 1), (191, 1, 511, 1), (0, 1, 511, 1), (191, 1, 0, 1), (1, 3, 1, 6), (1, 4, 20, 3)]
+        zones = [((0, 2048, 5, 12), 63, MAP), ((0, 2048, 5, 12), 3, MAP), ((0, 2048, 31, 1), 42, [(0, 60, 0, 1)])]
+        zones += [((6, 2048, 2351, 512), 0, corners), ((6, 2048, 0, 512), 0, [(0, 192, 0, 512)])]
+        zones += [((2, 256, 15, 1), 0, [(3, 1, 0, 1), (0, 1, 0, 1)]), ((3, 256, 0, 1), 0, []), ((5, 512, 9, 98), 0, [])]
+        zones += [((2, 2048, 1023, 2), 0, FULL), ((4, 1024, 176, 37), 0, [(0, 48, 0, 36), (0, 48, 36, 1)])]
+        for zone, mask, bursts in zones:
+            words = as_words(bursts).split() or ["--list", "/dev/null"]
+            self.bursts_of_a_zone(drawing("zone", *zone, *words, "--mask", mask), zone, mask, bursts)
+
+    def test_zones_of_any_number_of_slots(self):
+        for slots in (*range(1, 70), 127, 128, 129, 200, 255, 256, 257, 300, 400, 511, 512):
+            root = drawing("zone", 2, 256, 0, slots, "0,1,%d,1" % (slots - 1), "1,3,0,%d" % slots)
+            self.bursts_of_a_zone(root, (2, 256, 0, slots), 0, [(0, 1, slots - 1, 1), (1, 3, 0, slots)])
+            self.assertEqual(root.get("width"), "1380")
+
+    def test_a_zone_whose_mask_lights_all(self):
+        plain = asked("picture", "zone", 0, 2048, 5, 12, "0,60,0,1").stdout
+        self.assertNotIn(b"hatch", plain)
+        self.assertEqual(asked("picture", "zone", 0, 2048, 5, 12, "0,60,0,1", "--mask", "0x3f").stdout, plain)
+
     def test_subchannels(self):
         cases = [(0, 2048, [0, 1, 31], 3, 1), (1, 2048, [7], 0, 69), (2, 512, [9, 9], 4, 7), (3, 1024, [48, 176], 5, 2)]
         cases += [(4, 256, [0, 7], 511, 0), (5, 512, [2351, 48], 1, 15), (6, 256, [3], 0, 12)]
@@ -782,14 +1055,15 @@ def numbered(count):
 
 # --- usage ------------------------------------------------------------------------------------
 
-COMMANDS = "place|locate|first|collisions ofusc|collisions amc|plan read|plan write|show"
-COMMANDS += "|picture slot|picture subchannel"
+COMMANDS = "place|locate|first|collisions ofusc|collisions amc|plan read|plan write|bursts|owner|owners|show"
+COMMANDS += "|picture slot|picture zone|picture subchannel"
+OF_BURSTS = ("bursts", "owner", "owners", "picture zone")
 
 
 class Usage(Case):
     def test_help(self):
         text = run("--help").stdout.decode()
-        for word in "place locate first collisions plan show picture refused".split():
+        for word in "place locate first collisions plan bursts owner owners show picture refused".split():
             self.assertIn(word, text)
         for words in ("PUSC downlink", "PUSC uplink", "optional FUSC", "AMC 6x1", "256 512 1024 2048", "0..2351"):
             self.assertIn(words, text)
@@ -802,7 +1076,9 @@ class Usage(Case):
         self.assertIn("%s and %s." % (", ".join(told[:-1]), told[-1]), command_line.RANGES.replace("\n", " "))
         for name in COMMANDS.split("|"):
             text = asked(*name.split(), "--help").stdout.decode()
-            self.assertEqual("--mask MASK" in text, name in ("first", "show", "picture slot"), name)
+            self.assertEqual("--mask MASK" in text, name in ("first", "show", "picture slot", *OF_BURSTS), name)
+            self.assertEqual("--list FILE" in text, name in OF_BURSTS, name)
+            self.assertEqual("[BURST ...]" in text, name in OF_BURSTS, name)
             self.assertEqual("MODE,CELL,SLOTS,MASK" in text, name == "plan write", name)
             self.assertEqual("--carriers CARRIERS" in text, name == "picture slot", name)
 
@@ -838,7 +1114,7 @@ class Usage(Case):
             if output:
                 self.prints(line.removeprefix("./bellpulsar "), "".join(part + "\n" for part in output))
                 tried += 1
-        self.assertGreaterEqual(tried, 7)
+        self.assertGreaterEqual(tried, 10)
 
     def test_examples_of_the_readme(self):
         with open(os.path.join(ROOT, "README.md")) as file:
@@ -856,6 +1132,13 @@ class Usage(Case):
         lines += ["place 0 2048 0 0 0 0 --mask 63", "locate 0 2048 0 0 0 --mask 63", "show 0 2048 0 0 63"]
         lines += ["picture subchannel 0 2048 0 0 0 --mask 63", "first 2 256 0 0", "first 2 256 0 0 128 0"]
         lines += ["first 2 256 0 0 --carriers 128", "first 2 256 0 0 128 --subchannel 1", "first 0 2048 0 0 0 --mask"]
+        lines += ["bursts 2 256 0", "bursts 2 256 0 0,1,0,1", "owner 2 256 0 1 0 0,1,0,1", "owners 2 256 0 1 0,1,0,1"]
+        lines += ["bursts 2 256 0 1 0,1,0,1 0", "bursts 2 256 0 1 0,1,0,1 --output x", "owner 2 256 0 1 0 0 0 0,1,0,1"]
+        lines += ["bursts 2 256 0 1 0,1,0,1 --file x", "plan write 256 2,0,1,0 --list x", "picture zone 2 256 0"]
+        # Options stand behind the command's words.
+        lines += ["--mask 3 owner 0 2048 5 12 1 20 0,60,0,1", "--mask=3 owner 0 2048 5 12 1 20 0,60,0,1"]
+        lines += ["--mask 3 show 0 2048 5 3", "--list x bursts 0 2048 5 12", "--output x picture slot 2 256 0 0"]
+        lines += ["picture --output x slot 2 256 0 0", "picture --mask=3 zone 0 2048 5 12 0,60,0,1", "plan --file x read 01"]
         for line in lines:
             self.not_understood(*line.split())
         done = run("place", 2, 1024, 17, 0, 0, " 1")
@@ -869,6 +1152,9 @@ class Usage(Case):
             self.not_understood("first", 2, 1024, 17, 0, word)
             self.not_understood("show", 2, 1024, 17, 0, "--subchannel", word)
             self.not_understood("plan", "write", 1024, "2,%s,1,0" % word)
+            self.not_understood("bursts", 2, 256, 0, 1, "0,1,0,%s" % word)
+            self.not_understood("owner", 2, 256, 0, 1, 0, 0, "0,1,0,1", "%s,1,0,1" % word)
+            self.not_understood("owners", 2, 256, 0, 1, word, "0,1,0,1")
             if word != "0x10":
                 self.not_understood("plan", "write", 1024, "2,0,1,%s" % word)
                 self.not_understood("show", 0, 2048, 17, 0, "--mask", word)
@@ -886,6 +1172,12 @@ class Failures(Case):
     def test_input_that_cannot_be_read(self):
         self.fails("bellpulsar: /none/plan: No such file or directory\n", "plan", "read", "--file", "/none/plan")
         self.fails("bellpulsar: /: Is a directory\n", "plan", "read", "--file", "/")
+        for zone in (("bursts", 0, 2048, 5, 12), ("picture", "zone", 0, 2048, 5, 12)):
+            self.fails("bellpulsar: /none/list: No such file or directory\n", *zone, "--list", "/none/list")
+            self.fails("bellpulsar: /: Is a directory\n", *zone, "--list", "/")
+        done = run_shell("'%s' bursts 0 2048 5 12 --list - <&-" % COMMAND)
+        closed = b"bellpulsar: standard input is closed\n"
+        self.assertEqual((done.stdout, done.stderr, done.returncode), (b"", closed, 2))
 
     def test_output_that_cannot_be_written(self):
         arguments = ("picture", "slot", 2, 256, 0, 0, "--output")

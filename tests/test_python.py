@@ -20,6 +20,7 @@ import tracemalloc
 import unittest
 from array import array
 
+import burst_lists
 import reference as ref
 
 ROOT = os.path.dirname(os.path.dirname(os.path.abspath(__file__)))
@@ -268,6 +269,34 @@ def look_with(mode, size, cell, mask, symbol, grid_len, carrier):
     bp.look(mode, size, cell, symbol, floats(grid_len), carrier, mask=mask)
 
 
+def check_with(mode, size, cell, slots, mask, count):
+    bp.bursts_check(mode, size, cell, slots, [(0, count, 0, 1)], mask=mask)
+
+
+def owner_with(mode, size, cell, slots, mask, slot, subchannel, count):
+    bp.burst_owner(mode, size, cell, slots, slot, subchannel, [(0, count, 0, 1)], mask=mask)
+
+
+def owners_with(mode, size, cell, slots, mask, slot, count):
+    bp.burst_owners(mode, size, cell, slots, slot, [(0, count, 0, 1)], mask=mask)
+
+
+def of_a_list(expected):
+    """A refusal of the reference's, with one burst of so many subchannels in slot 0 for a list."""
+    return lambda *fields: expected(*fields[:-1], [0, fields[-1], 0, 1])
+
+
+def burst_calls_of(mode, size):
+    """Those of calls_of that have a list of bursts."""
+    subs = ref.subchannels(mode, size)
+    good = (mode, size, ref.cells(mode, size) - 1, 512, ref.full_mask(mode))
+    past = (7, size + 1, good[2] + 1, 513, good[4] + 1)
+    yield check_with, of_a_list(ref.bursts_check), (*good, subs), (*past, subs + 1)
+    every = (*good, 511, subs - 1, subs), (*past, 512, subs, subs + 1)
+    yield owner_with, of_a_list(ref.burst_owner_refusal), *every
+    yield owners_with, of_a_list(ref.burst_owners_refusal), (*good, 511, subs), (*past, 512, subs + 1)
+
+
 def calls_of(mode, size):
     """(call, its refusal in the reference, the last field values in range, a value out of range for each)."""
     cells, subs = ref.cells(mode, size), ref.subchannels(mode, size)
@@ -288,6 +317,8 @@ def calls_of(mode, size):
         (*lit, symbols - 1, grid, size // 2 - 1),
         (*unlit, symbols, grid + 2, size // 2),
     )
+    if mode != ref.PUSC_UL:
+        yield from burst_calls_of(mode, size)
     if mode == ref.OFUSC:
         yield (
             bp.ofusc_collisions,
@@ -304,6 +335,7 @@ def amc_refusal(cell_a, cell_b):
 AMC_COLLISIONS = (bp.amc_collisions, amc_refusal, (2351, 2351), (2352, 2352))
 LENGTHS = {ground_with: (5,), lay_with: (6, 7), fill_with: (5, 6), empty_with: (5, 6), look_with: (5,)}
 LENGTHS[empty_first_with] = (5, 6)
+MASKS = {**dict.fromkeys(LENGTHS, 3), check_with: 4, owner_with: 4, owners_with: 4}
 CARRIERS = {bp.locate: 4, look_with: 6}
 
 
@@ -384,7 +416,7 @@ class Refusals(unittest.TestCase):
         for value in (1.0, "1", None, b"1", 2 + 0j):
             for call, _, good, _ in calls_of(2, 256):
                 for at in range(len(good)):
-                    no_mask = value is None and call in LENGTHS and at == 3  # which lights all
+                    no_mask = value is None and at == MASKS.get(call)  # which lights all
                     if at not in LENGTHS.get(call, ()) and not no_mask:
                         with self.assertRaises(TypeError):
                             call(*good[:at], value, *good[at + 1 :])
@@ -424,6 +456,9 @@ class Refusals(unittest.TestCase):
             look_with: "mode size cell mask symbol grid carrier",
             bp.ofusc_collisions: "size cell_a subchannel_a cell_b subchannel_b",
             bp.amc_collisions: "cell_a cell_b",
+            check_with: "mode size cell slots mask burst",
+            owner_with: "mode size cell slots mask slot subchannel burst",
+            owners_with: "mode size cell slots mask slot burst",
         }
         buffers = "mode size cell mask slot points grid"
         for call, _, good, past in all_calls():
@@ -433,8 +468,14 @@ class Refusals(unittest.TestCase):
                 if name in ("points", "grid"):
                     self.assertEqual(told, "%s of %d floats, not %d" % (name, past[at], good[at]))
                     continue
+                if name == "burst":
+                    outside = "burst 0 is 0,%d,0,1: subchannels 0 to %d are not all of mode %d's"
+                    self.assertTrue(told.startswith(outside % (past[at], good[at], mode)), told)
+                    self.assertTrue(told.endswith(": 0 to %d" % (good[at] - 1)), told)
+                    continue
                 self.assertTrue(told.startswith("%s %d is not one of " % (name, past[at])), told)
-                accepted = {"mode": "0 to 6", "size": ", ".join(map(str, ref.sizes(mode)))}
+                modes = "0, 2, 3, 4, 5, 6" if "burst" in names.get(call, "") else "0 to 6"
+                accepted = {"mode": modes, "size": ", ".join(map(str, ref.sizes(mode))), "slots": "1 to 512"}
                 accepted["carrier"] = "%d to %d" % (-good[at] - 1, good[at])
                 accepted["mask"] = "1 to 63" if mode == 0 else "0"
                 self.assertEqual(told.split(": ")[1], accepted.get(name, "0 to %d" % good[at]))
@@ -520,6 +561,41 @@ class Refusals(unittest.TestCase):
         self.assertEqual(write(1, 1024, (2, 200, 1, 0), room=3), "dest of 3 bytes, not 8 or more")
         self.assertEqual(words(bp.plan_bytes, 1024, [(2, 0, 1, 0)] * 9), "count 9 is not one of a plan's: 1 to 8")
 
+    def test_words_of_bursts(self):
+        def told(*bursts, mode=0, size=2048, slots=12):
+            return words(bp.bursts_check, mode, size, 0, slots, bursts)
+
+        good = (0, 60, 0, 2)
+        side = "burst 1 is %s: %s are not all of %s: 0 to %d"
+        self.assertEqual(told(good, (50, 11, 2, 1)), side % ("50,11,2,1", "subchannels 50 to 60", "mode 0's", 59))
+        self.assertEqual(told(good, (0, 1, 2, 11)), side % ("0,1,2,11", "slots 2 to 12", "the zone's", 11))
+        self.assertEqual(told(good, (-2, 4, 2, 1)), side % ("-2,4,2,1", "subchannels -2 to 1", "mode 0's", 59))
+        most = side % ("0,%d,2,1" % MOST, "subchannels 0 to %d" % (MOST - 1), "mode 0's", 59)
+        self.assertEqual(told(good, (0, MOST, 2, 1)), most)
+        huge = side % ("5,of more than 20 digits,2,1", "its subchannels", "mode 0's", 59)
+        self.assertEqual(told(good, (5, HUGE, 2, 1)), huge)
+        huge = side % ("5,1,of more than 20 digits,3", "its slots", "the zone's", 11)
+        self.assertEqual(told(good, (5, 1, HUGE, 3)), huge)
+        both = "burst 0 is 30,9,1,9: subchannels 30 to 38 are not all of mode 2's at size 2048: 0 to 31"
+        self.assertEqual(told((30, 9, 1, 9), mode=2, slots=3), both)
+        last = "burst 0 is 0,1,0,2: slots 0 to 1 are not all of the zone's: 0"
+        self.assertEqual(told((0, 1, 0, 2), mode=6, size=256, slots=1), last)
+        one = "burst 0 is %s: %s is not one of %s: 0 to %d"
+        self.assertEqual(told((60, 1, 0, 1)), one % ("60,1,0,1", "subchannel 60", "mode 0's", 59))
+        self.assertEqual(told((0, 1, 12, 1)), one % ("0,1,12,1", "slot 12", "the zone's", 11))
+        self.assertEqual(told((-1, 1, 12, 1)), one % ("-1,1,12,1", "subchannel -1", "mode 0's", 59))
+        self.assertEqual(told(good, (0, 0, 0, 0)), "burst 1 is 0,0,0,0: 0 subchannels, not 1 or more")
+        self.assertEqual(told(good, (7, 8, 9, 0)), "burst 1 is 7,8,9,0: 0 slots, not 1 or more")
+        self.assertEqual(told(good, (7, -8, 9, 1)), "burst 1 is 7,-8,9,1: -8 subchannels, not 1 or more")
+        self.assertEqual(told(good, (0, 1, 2)), "burst 1 has 3 numbers, not 4")
+        self.assertEqual(told(good, (), good), "burst 1 has 0 numbers, not 4")
+        self.assertEqual(told(*[good] * 65), "65 bursts are given, not 64 or fewer")
+        self.assertEqual(told(*[good] * 1000), "1000 bursts are given, not 64 or fewer")
+        over = "burst 2 is 20,3,1,5: it overlaps burst %d, which is %s"
+        self.assertEqual(told((0, 20, 0, 12), (21, 1, 5, 1), (20, 3, 1, 5)), over % (1, "21,1,5,1"))
+        self.assertEqual(told((0, 21, 5, 1), (21, 1, 5, 1), (20, 3, 1, 5), (0, 0, 0, 0)), over % (0, "0,21,5,1"))
+        self.assertEqual(words(bp.bursts_check, 1, 2048, 0, 1, []), "mode 1 is not one of a plan's: 0, 2, 3, 4, 5, 6")
+
     def test_the_ranges_that_words_are_made_of(self):
         for mode, size in SETUPS:
             told = refusals.MODES[mode]
@@ -528,10 +604,11 @@ class Refusals(unittest.TestCase):
             self.assertEqual((told.cells(n), told.subchannels(n)), (ref.cells(mode, size), ref.subchannels(mode, size)))
             self.assertEqual(told.symbols, ref.SLOT_LENGTH[mode])
             self.assertEqual(list(told.masks), list(ref.masks(mode)))
+        self.assertEqual(refusals.BURSTS, ref.MOST_BURSTS)
 
-    def test_seventeen_questions(self):
-        self.assertEqual(sorted(bp.QUESTIONS), list(range(1, 18)))
-        self.assertEqual(len(set(bp.QUESTIONS.values())), 17)
+    def test_nineteen_questions(self):
+        self.assertEqual(sorted(bp.QUESTIONS), list(range(1, 20)))
+        self.assertEqual(len(set(bp.QUESTIONS.values())), 19)
         self.assertTrue(all(text[0].isupper() and text.endswith("?") for text in bp.QUESTIONS.values()))
 
     def test_the_wrapper_in_rust_has_the_same_questions(self):
@@ -542,7 +619,7 @@ class Refusals(unittest.TestCase):
     def test_the_examples_in_c_have_the_same_questions(self):
         with open(os.path.join(ROOT, "examples", "c", "refusal.h")) as file:
             c = re.findall(r'^    "(.*)",$', file.read(), re.MULTILINE)
-        self.assertEqual(c, [""] + [bp.QUESTIONS[n] for n in range(1, 18)])
+        self.assertEqual(c, [""] + [bp.QUESTIONS[n] for n in range(1, 20)])
 
     def test_every_number_comes_back(self):
         def read(text):
@@ -566,8 +643,10 @@ class Refusals(unittest.TestCase):
             read(EXAMPLE.hex() + "00"),
             refusal(bp.plan_write, 1, 1024, [(2, 0, 1, 0)] + [UNUSED] * 7, bytearray(6)),
             read("01801002000C3F"),
+            refusal(bp.bursts_check, 2, 1024, 0, 1, [(0, 0, 0, 1)]),
+            refusal(bp.bursts_check, 2, 1024, 0, 1, [(0, 1, 0, 1)] * 2),
         ]
-        self.assertEqual(numbers, list(range(1, 18)))
+        self.assertEqual(numbers, list(range(1, 20)))
 
 
 # --- grids ------------------------------------------------------------------------------------
@@ -1131,7 +1210,7 @@ class NoRefusal(unittest.TestCase):
         with self.assertRaises(error) as caught:
             call(*fields)
         self.assertNotIsInstance(caught.exception, bp.Refusal)
-        self.assertRegex(str(caught.exception), "^(points|grid|pilot|carriers|zones|dest|data)( and grid|:)")
+        self.assertRegex(str(caught.exception), "^(points|grid|pilot|carriers|zones|dest|data|bursts)( and grid|:)")
         self.assertEqual((self.points, self.grid), (points_for(2, 256), grid_for(2, 256)))
 
     def fails_everywhere(self, error, points, grid):
@@ -1266,6 +1345,17 @@ class NoRefusal(unittest.TestCase):
         self.fails(TypeError, bp.plan_read, "0280")
         self.fails(TypeError, bp.plan_read, array("H", [1, 2]))
         self.fails(BufferError, bp.plan_read, memoryview(bytes(8))[::2])
+
+
+    def test_bursts_that_are_not_numbers(self):
+        """Before every question; how many numbers one has is a question."""
+        for bursts in ([0, 1, 0, 1], [None], ["0101"], [(0, 1, 0, 1.0)], [(0, 1, None, 1)], [("0", 1, 0)], [(0, 1j)]):
+            self.fails(TypeError, bp.bursts_check, 2, 256, 0, 1, bursts)
+            self.fails(TypeError, bp.bursts_check, 9, 256, 0, 1, [(0, 1, 0, 1), *bursts])
+            self.fails(TypeError, bp.burst_owner, 2, 256, 0, 1, 512, 0, bursts)
+            self.fails(TypeError, bp.burst_owners, 2, 256, 0, 1, 512, bursts)
+        for bursts in (None, 5):
+            self.assertRaises(TypeError, bp.bursts_check, 9, 256, 0, 1, bursts)
 
 
 # --- plans ------------------------------------------------------------------------------------
@@ -1411,6 +1501,175 @@ class Plans(unittest.TestCase):
         self.assertEqual(refusal(bp.plan_bytes, 1024, [(2, 0, 1, 0)] * 9), 12)
 
 
+# --- bursts -----------------------------------------------------------------------------------
+
+
+def flat(bursts):
+    """As the reference takes them, and as they reach the engine."""
+    return [as_engine(number) for burst in bursts for number in burst]
+
+
+def as_owner(owner, looked):
+    """The reference's answer as the module gives it."""
+    return bp.Owner(None if owner == ref.NO_BURST else owner, looked)
+
+
+class Bursts(unittest.TestCase):
+    """Lists of bursts, and whose a subchannel in a slot is."""
+
+    def test_by_hand(self):
+        bursts = [(0, 60, 0, 1), bp.Burst(subchannel=0, subchannels=20, slot=1, slots=11), (20, 30, 1, 6)]
+        zone = {"mode": 0, "size": 2048, "cell": 5, "slots": 12, "bursts": bursts}
+        self.assertIsNone(bp.bursts_check(**zone))
+        self.assertEqual(bp.burst_owner(**zone, slot=0, subchannel=59), bp.Owner(burst=0, looked=1))
+        self.assertEqual(bp.burst_owner(**zone, slot=11, subchannel=19), (1, 2))
+        self.assertEqual(bp.burst_owner(**zone, slot=6, subchannel=49), (2, 3))
+        for slot, subchannel in ((7, 20), (6, 50), (11, 20), (12, 0), (511, 59)):
+            self.assertEqual(bp.burst_owner(**zone, slot=slot, subchannel=subchannel), (None, 3))
+        self.assertEqual(bp.burst_owners(**zone, slot=0), (0,) * 60 + (None,) * 132)
+        self.assertEqual(bp.burst_owners(**zone, slot=6), (1,) * 20 + (2,) * 30 + (None,) * 142)
+        self.assertEqual(bp.burst_owners(**zone, slot=7), (1,) * 20 + (None,) * 172)
+        self.assertEqual(bp.burst_owners(**zone, slot=12), (None,) * 192)
+
+    def test_every_place_of_some_zones(self):
+        """Tilings, some with bursts left out: a call for each slot, and one for each subchannel, as the reference."""
+        rng = random.Random(26)
+        for mode, size in (setup for setup in SETUPS if setup[0] != ref.PUSC_UL):
+            subs, slots = ref.subchannels(mode, size), rng.choice([1, 3, 8])
+            zone = (mode, size, ref.cells(mode, size) - 1, slots)
+            for count, mask in zip((1, 9, 64), rng.choices(ref.masks(mode), k=3)):
+                bursts = burst_lists.tiling(rng, (subs, slots), count)
+                bursts = bursts[: rng.choice([len(bursts), len(bursts), len(bursts) // 2])]
+                for slot in (*range(slots), slots, 511):
+                    number, row = ref.burst_owners(*zone, mask, slot, flat(bursts))
+                    wanted = tuple(None if owner == ref.NO_BURST else owner for owner in row)
+                    self.assertEqual((number, bp.burst_owners(*zone, slot, bursts, mask=mask)), (0, wanted))
+                    for subchannel in range(subs):
+                        _, *owner = ref.burst_owner(*zone, mask, slot, subchannel, flat(bursts))
+                        found = bp.burst_owner(*zone, slot, subchannel, bursts, mask=mask)
+                        self.assertEqual(found, as_owner(*owner), (zone, slot, subchannel, bursts))
+
+    def test_the_largest_zone(self):
+        rng = random.Random(27)
+        zone = (bp.AMC_1X6, 2048, 2351, 512)
+        bursts = burst_lists.tiling(rng, (192, 512), 64)
+        self.assertEqual(refusal(bp.bursts_check, *zone, bursts), 0)
+        for position, (subchannel, wide, slot, long) in enumerate(bursts):
+            for corner in itertools.product((slot, slot + long - 1), (subchannel, subchannel + wide - 1)):
+                self.assertEqual(bp.burst_owner(*zone, *corner, bursts), (position, position + 1))
+                left = [*bursts[:position], *bursts[position + 1 :]]
+                self.assertEqual(bp.burst_owner(*zone, *corner, left), (None, 63))
+
+    def test_lengths(self):
+        """Up to 64 bursts are taken, none too; a longer list is refused before its bursts are looked at."""
+        every = [(at, 1, 0, 1) for at in range(66)]
+        for count in range(67):
+            for bursts in (every[:count], iter(every[:count]), tuple(every[:count])):
+                self.assertEqual(refusal(bp.bursts_check, 6, 2048, 0, 1, bursts), 0 if count <= 64 else 18)
+        self.assertEqual(bp.burst_owner(6, 2048, 0, 1, 0, 63, every[:64]), (63, 64))
+        self.assertEqual(bp.burst_owner(6, 2048, 0, 1, 0, 64, every[:64]), (None, 64))
+        self.assertEqual(bp.burst_owner(6, 2048, 0, 1, 0, 64, []), (None, 0))
+        self.assertEqual(refusal(bp.bursts_check, 6, 2048, 0, 1, every[:1] * 65), 18)
+        self.assertEqual(refusal(bp.bursts_check, 6, 2048, 0, 1, every[:1] * 64), 19)
+
+    def test_bursts_that_are_not_of_four_numbers(self):
+        """Refused in their turn, also where the numbers of all together are four a burst."""
+        good = (0, 1, 0, 1)
+        for bursts in ([(1, 1, 0)], [()], [(1, 1, 0), (1, 2, 1, 0, 1)], [(1, 1, 0, 1, 2), (1, 0, 1)], [good * 2]):
+            for every in (bursts, [good, *bursts], [*bursts, good], [good, good, *bursts], [(0, 0, 0, 0), *bursts]):
+                self.assertEqual(refusal(bp.bursts_check, 2, 256, 0, 1, every), 18)
+                self.assertEqual(refusal(bp.burst_owner, 2, 256, 0, 1, 511, 3, every), 18)
+                self.assertEqual(refusal(bp.burst_owner, 2, 256, 0, 1, 511, 4, every), 5)
+                self.assertEqual(refusal(bp.burst_owners, 2, 256, 0, 1, 511, every), 18)
+                self.assertEqual(refusal(bp.burst_owners, 2, 256, 0, 1, 512, every), 4)
+                self.assertEqual(refusal(bp.bursts_check, 2, 256, 0, 513, every), 13)
+                self.assertEqual(refusal(bp.bursts_check, 2, 256, 0, 1, every, mask=1), 17)
+
+    def test_every_kind_of_four_numbers(self):
+        class Index:
+            def __index__(self):
+                return 3
+
+        four = (3, 1, 0, 2)
+        for burst in (four, list(four), bp.Burst(*four), array("B", four), (Index(), True, False, 2), iter(four)):
+            self.assertEqual(bp.burst_owner(2, 256, 0, 2, 1, 3, [burst]), (0, 1))
+        kept = [[0, 4, 0, 1], [0, 4, 0, 1]]
+        self.assertEqual(refusal(bp.bursts_check, 2, 256, 0, 1, kept), 19)
+        self.assertEqual(kept, [[0, 4, 0, 1], [0, 4, 0, 1]])
+
+    def test_numbers_that_no_zone_has(self):
+        """Whichever of a burst's four it is, and whatever it would be cut to 32 bits."""
+        for mode, size, slots in ((0, 2048, 512), (6, 2048, 512), (2, 256, 1)):
+            for at, value in itertools.product(range(4), [*NEVER, 2**31, 2**32 + 1, 2**64 + 1, 1 - 2**32]):
+                burst = [0, 1, 0, 1]
+                burst[at] = value
+                for bursts in ([burst], [(1, 1, 0, 1), burst], [burst, (0, 0, 0, 0)]):
+                    self.assertEqual(refusal(bp.bursts_check, mode, size, 0, slots, bursts), 18)
+                    self.assertEqual(refusal(bp.burst_owner, mode, size, 0, slots, 0, 0, bursts), 18)
+        for burst in ((1, MOST, 0, 1), (MOST, 2, 0, 1), (0, 1, 1, MOST), (0, 1, MOST, 2), (2**31, 2**31, 0, 1)):
+            self.assertEqual(refusal(bp.bursts_check, 0, 2048, 0, 512, [burst]), 18)
+
+    def test_the_first_burst_that_fails(self):
+        """Each is asked for its place first and then for its overlap, in the list's order."""
+        good, over, out = (0, 2, 0, 2), (1, 1, 1, 1), (0, 5, 0, 1)
+        for bursts, number in (
+            ([good, over, out], 19),
+            ([good, out, over], 18),
+            ([out, good, over], 18),
+            ([good, (0, 5, 0, 2)], 18),
+            ([good, (2, 2, 0, 2), (0, 4, 2, 6)], 0),
+            ([good, (2, 2, 0, 2), (0, 4, 1, 6)], 19),
+            ([good, (2, 2, 0, 2), (3, 1, 1, 1), (0, 1, 0, 0)], 19),
+            ([good, (2, 2, 0, 2), (0, 1, 0, 0), (3, 1, 1, 1)], 18),
+        ):
+            self.assertEqual(refusal(bp.bursts_check, 2, 256, 0, 8, bursts), number, bursts)
+            self.assertEqual(refusal(bp.burst_owner, 2, 256, 0, 8, 0, 0, bursts), number, bursts)
+            self.assertEqual(refusal(bp.burst_owners, 2, 256, 0, 8, 0, bursts), number, bursts)
+
+    def test_lists_of_every_kind_as_the_reference(self):
+        """Some with a number beyond 32 bits, some with a wrong field."""
+        rng, met = random.Random(28), {}
+        for kind in 250 * [*burst_lists.KINDS]:
+            mode, size = rng.choice(SETUPS)
+            subs, slots = ref.subchannels(mode, size), rng.choice([1, 2, 5, 9])
+            bursts = [list(burst) for burst in burst_lists.KINDS[kind][0](rng, (subs, slots))]
+            if bursts and rng.random() < 0.1:
+                rng.choice(bursts)[rng.randrange(4)] = rng.choice(NEVER)
+            fields = [mode, size, rng.randrange(ref.cells(mode, size)), slots, rng.choice(ref.masks(mode))]
+            fields += [rng.randrange(12), rng.randrange(subs)]
+            if rng.random() < 0.1:
+                fields[rng.randrange(7)] = rng.choice([0, 513, *NEVER])
+            engine, zone, mask, at = [as_engine(field) for field in fields], fields[:4], fields[4], fields[5:]
+            number, *owner = ref.burst_owner(*engine, flat(bursts))
+            try:
+                answer = (0, bp.burst_owner(*zone, *at, bursts, mask=mask))
+            except bp.Refusal as refused:
+                self.assertNotEqual(refused.words, refused.question)
+                answer = (refused.number, bp.Owner(None, 0))
+            self.assertEqual(answer, (number, as_owner(*owner)), (fields, bursts))
+            number = ref.bursts_check(*engine[:5], flat(bursts))
+            self.assertEqual(refusal(bp.bursts_check, *zone, bursts, mask=mask), number)
+            met[number] = met.get(number, 0) + 1
+        self.assertEqual(sorted(met), [0, 1, 2, 3, 13, 17, 18, 19])
+        self.assertTrue(all(met[number] > 100 for number in (0, 1, 18, 19)), met)
+
+    def test_the_mask_is_asked_for_and_lights_nothing(self):
+        """What is unlit counts like what is lit; without a mask all is lit."""
+        bursts = [(0, 30, 0, 4), (30, 30, 0, 4)]
+        for mask in (None, *ref.masks(0)):
+            self.assertEqual(bp.burst_owner(0, 2048, 0, 4, 3, 59, bursts, mask=mask), (1, 2))
+            self.assertEqual(bp.burst_owners(0, 2048, 0, 4, 3, bursts, mask=mask)[:60], (0,) * 30 + (1,) * 30)
+        for mask in (0, 64, *NEVER):
+            self.assertEqual(refusal(bp.bursts_check, 0, 2048, 0, 4, [()], mask=mask), 17)
+        self.assertRaises(TypeError, bp.bursts_check, 0, 2048, 0, 4, bursts, 63)
+        self.assertRaises(TypeError, bp.burst_owners, 0, 2048, 0, 4, 0, bursts, 63)
+
+    def test_answers_are_plain_numbers(self):
+        zone, bursts = (2, 256, 0, 1, 0), [(0, 4, 0, 1)]
+        for value in (*bp.burst_owner(*zone, 0, bursts), *bp.burst_owners(*zone, bursts)[:4]):
+            self.assertIs(type(value), int)
+
+
 # --- loading ----------------------------------------------------------------------------------
 
 
@@ -1466,7 +1725,7 @@ class Loading(unittest.TestCase):
     def test_what_is_said_of_numpy(self):
         command = [sys.executable, os.path.abspath(__file__), "Numpy"]
         done = subprocess.run(command, capture_output=True, text=True, timeout=60)
-        last = "with numpy" if numpy else "numpy not here: 2 skipped"
+        last = "with numpy" if numpy else "numpy not here: 3 skipped"
         self.assertEqual(done.returncode, 0, done.stderr)
         self.assertRegex(done.stdout, r"^python: \d tests, %s\n$" % last)
 
@@ -1503,6 +1762,14 @@ class Numpy(unittest.TestCase):
         again = numpy.zeros((60, 48), numpy.complex64)
         bp.empty_first(0, 2048, 3, 1, numpy.uint32(grid.size), grid, again)
         self.assertEqual(again.tobytes(), points.tobytes())
+
+    def test_bursts(self):
+        bursts = numpy.array([[0, 20, 0, 12], [20, 30, 0, 6]])
+        for kind in (numpy.uint32, numpy.int64, numpy.uint8):
+            at = numpy.int16(3), numpy.uint8(25)
+            self.assertEqual(bp.burst_owner(0, 2048, 5, 12, *at, bursts.astype(kind)), (1, 2))
+        self.assertRaises(TypeError, bp.bursts_check, 0, 2048, 5, 12, bursts.astype(float))
+        self.assertEqual(refusal(bp.bursts_check, 0, 2048, 5, 12, bursts[:, :3]), 18)
 
     def test_what_is_not_taken(self):
         points = numpy.zeros(96 * 4, numpy.float32)

@@ -54,6 +54,23 @@ major groups gives a mask, bit g for group g. Here groups 0 and 1 are lit, which
     >>> bellpulsar.look(0, 2048, 5, 6, grid, 254, mask=0b000011)  # of subchannel 59, which is unlit
     Seen(kind=<Kind.NOTHING: 'nothing'>, point=None, slot=None, subchannel=None, index=None)
 
+A burst, or data region, is a rectangle of subchannels by slots in one zone of a plan: its first subchannel and how
+many, its first slot and how many. In a list of them that is accepted, 64 at most, a subchannel in a slot is of one
+burst at most, its owner:
+
+    >>> bursts = [(0, 20, 0, 12), (20, 30, 0, 6)]
+    >>> bellpulsar.bursts_check(0, 2048, 5, 12, bursts)
+    >>> bellpulsar.burst_owner(0, 2048, 5, 12, slot=3, subchannel=25, bursts=bursts)
+    Owner(burst=1, looked=2)
+    >>> bellpulsar.burst_owner(0, 2048, 5, 12, slot=6, subchannel=25, bursts=bursts)
+    Owner(burst=None, looked=2)
+    >>> bellpulsar.burst_owners(0, 2048, 5, 12, slot=3, bursts=bursts)[18:22]
+    (0, 0, 1, 1)
+    >>> bellpulsar.bursts_check(0, 2048, 5, 12, [*bursts, (49, 1, 5, 7)])
+    Traceback (most recent call last):
+        ...
+    bellpulsar.Refusal: refused 19: burst 2 is 49,1,5,7: it overlaps burst 1, which is 20,30,0,6
+
 Modes and their ranges; N is size / 64:
 
     mode                    size                    cell        mask   subchannels  symbols a slot
@@ -97,7 +114,7 @@ from typing import NamedTuple, Optional, Tuple
 
 from . import refusals
 from .buffers import BYTE, FLOAT, apart, lent, pilot_point
-from .library import Hits, Pair, Zones, counted, engine, int32, numbers, signed, uint
+from .library import Hits, Owners, Pair, Zones, counted, engine, int32, numbers, signed, uint
 from .refusals import QUESTIONS
 
 __all__ = [
@@ -119,6 +136,8 @@ __all__ = [
     "Collisions",
     "Zone",
     "Plan",
+    "Burst",
+    "Owner",
     "place",
     "locate",
     "points_len",
@@ -135,6 +154,9 @@ __all__ = [
     "plan_read",
     "plan_write",
     "plan_bytes",
+    "bursts_check",
+    "burst_owner",
+    "burst_owners",
 ]
 
 PUSC_DL, PUSC_UL, OFUSC = 0, 1, 2
@@ -234,6 +256,22 @@ class Plan(NamedTuple):
 
     size: int
     zones: Tuple[Zone, ...]
+
+
+class Burst(NamedTuple):
+    """A data region: the first subchannel and how many, the first slot and how many."""
+
+    subchannel: int
+    subchannels: int
+    slot: int
+    slots: int
+
+
+class Owner(NamedTuple):
+    """The position of the burst that owns a subchannel in a slot, None where none does, and how many were looked at."""
+
+    burst: Optional[int]
+    looked: int
 
 
 # --- the map ----------------------------------------------------------------------------------
@@ -544,3 +582,76 @@ def plan_bytes(size, zones):
     dest = bytearray(_LONGEST)
     written = plan_write(len(zones), size, (zones + [_UNUSED] * _PLACES)[:_PLACES], dest)
     return bytes(dest[:written])
+
+
+# --- bursts -----------------------------------------------------------------------------------
+
+_NO_BURST = 64  # in place of a position
+
+
+def _burst(burst):
+    """The numbers of a burst, which are to be four."""
+    try:
+        return tuple(map(operator.index, burst))
+    except TypeError:
+        needed = "bursts: four numbers are needed for each, first subchannel, how many, first slot, how many, not %r"
+        raise TypeError(needed % (burst,)) from None
+
+
+def _in_a_row(bursts):
+    """A list as the engine takes it. One that is not of four numbers each goes as a single number, which is refused in
+    its turn: a burst of three beside one of five would pass for two of four."""
+    row = list(itertools.chain(*bursts)) if all(len(burst) == 4 for burst in bursts) else [0]
+    return (uint * len(row))(*numbers(*row))
+
+
+def _ask_of_bursts(call, mode, size, cell, slots, mask, bursts, *answer, **asked):
+    """Puts a call's questions, of which `asked` are those of its own fields; its answer is written where it is
+    accepted."""
+    mask = _mask(mode, mask)
+    fields = numbers(mode, size, cell, slots, mask, *asked.values())
+    bursts = [_burst(burst) for burst in bursts]
+    row = _in_a_row(bursts)
+    refused = call(*fields, row, len(row), *answer)
+    if refused:
+        size, *zone = map(operator.index, (size, mode, cell, slots, mask))
+        asked = {name: operator.index(value) for name, value in asked.items()}
+        raise Refusal(refused, refusals.burst_words(refused, size, zone, bursts, asked))
+
+
+def _position(owner):
+    return None if owner == _NO_BURST else owner
+
+
+def bursts_check(mode, size, cell, slots, bursts, *, mask=None):
+    """Is a list of bursts fit for its zone? Refusals 1, 2, 3, 13, 17, 18 (the list's length), for each burst 18, 19.
+
+    slots: how many the zone has. mode: one that a plan's zone may have, 0 or 2 to 6.
+    bursts: Burst(subchannel, subchannels, slot, slots), or any four numbers, for each; a list of none is accepted.
+    Subchannels that are unlit count like those that are lit.
+
+    18: more than 64 bursts, one that is not of four numbers, that has no subchannel or no slot, or that is not wholly
+    in the zone. 19: one that overlaps an earlier one.
+    """
+    _ask_of_bursts(engine.bp_bursts_check, mode, size, cell, slots, mask, bursts)
+
+
+def burst_owner(mode, size, cell, slots, slot, subchannel, bursts, *, mask=None):
+    """The burst that a subchannel in a slot belongs to, as Owner(burst, looked).
+
+    burst is its position in the list, or None; looked is how many bursts were looked at to find it, its position + 1,
+    or all of the list where there is none. A slot below 512 but past the zone's last has none.
+    Refusals 1, 2, 3, 13, 17, 4, 5, then 18 and 19 as in `bursts_check`, whose zone and list these are.
+    """
+    owner, looked = uint(), uint()
+    asked = {"slot": slot, "subchannel": subchannel}
+    _ask_of_bursts(engine.bp_burst_owner, mode, size, cell, slots, mask, bursts, owner, looked, **asked)
+    return Owner(_position(owner.value), looked.value)
+
+
+def burst_owners(mode, size, cell, slots, slot, bursts, *, mask=None):
+    """The bursts that all subchannels of one slot belong to: a tuple of 192 positions, None where there is no burst and
+    past the mode's last subchannel. Refusals 1, 2, 3, 13, 17, 4, then 18 and 19 as in `bursts_check`."""
+    owners = Owners()
+    _ask_of_bursts(engine.bp_burst_owners, mode, size, cell, slots, mask, bursts, owners, slot=slot)
+    return tuple(map(_position, owners))

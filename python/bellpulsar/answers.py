@@ -5,7 +5,7 @@ import sys
 import bellpulsar
 from bellpulsar import Kind, picture
 from bellpulsar.refusals import POINTS, carriers_of
-from bellpulsar.rows import NOT_YET, arrived, check_picked, is_unlit, lit_subchannels, symbol_row
+from bellpulsar.rows import NOT_YET, arrived, check_picked, is_unlit, lit_subchannels, runs, subchannels_of, symbol_row
 
 PLAN_LIMIT = 128  # bytes: no plan is that long, so what follows does not matter
 
@@ -63,24 +63,68 @@ def amc_collisions(options):
 # --- plans ------------------------------------------------------------------------------------
 
 
-def plan_input(options):
-    if options.file is None:
-        return b"".join(options.words)
-    if options.file == "-":
+def start_of(path, limit):
+    """Of a file, or of standard input where its name is -, at most so many bytes."""
+    if path == "-":
         if sys.stdin is None:
             raise OSError("standard input is closed")
-        return sys.stdin.buffer.read(PLAN_LIMIT)
-    with open(options.file, "rb") as file:
-        return file.read(PLAN_LIMIT)
+        return sys.stdin.buffer.read(limit)
+    with open(path, "rb") as file:
+        return file.read(limit)
 
 
 def plan_read(options):
-    plan = bellpulsar.plan_read(plan_input(options))
+    data = b"".join(options.words) if options.file is None else start_of(options.file, PLAN_LIMIT)
+    plan = bellpulsar.plan_read(data)
     return lines("size %d" % plan.size, *("mode %d cell %d slots %d mask %d" % zone for zone in plan.zones))
 
 
 def plan_write(options):
     return lines(bellpulsar.plan_bytes(options.size, options.zones).hex(" ").upper())
+
+
+# --- bursts -----------------------------------------------------------------------------------
+
+
+def zone_of(options):
+    """As the calls about bursts take it."""
+    return options.mode, options.size, options.cell, options.slots
+
+
+def listed(options):
+    """The bursts, as words or from a file."""
+    return options.bursts if options.list is None else options.list
+
+
+def from_to(first, count):
+    return "%d to %d" % (first, first + count - 1)
+
+
+def bursts(options):
+    zone, every = zone_of(options), listed(options)
+    bellpulsar.bursts_check(*zone, every, mask=options.mask)
+    text, taken, whole = "", 0, subchannels_of(options.mode, options.size) * options.slots
+    for position, (subchannel, subchannels, slot, slots) in enumerate(every):
+        sides = (from_to(subchannel, subchannels), from_to(slot, slots))
+        text += lines("burst %d subchannels %s slots %s takes %d" % (position, *sides, subchannels * slots))
+        taken += subchannels * slots
+    return text + lines("bursts %d take %d of %d free %d" % (len(every), taken, whole, whole - taken))
+
+
+def owned_by(burst):
+    return "burst none" if burst is None else "burst %d" % burst
+
+
+def owner(options):
+    at = (options.slot, options.subchannel)
+    answer = bellpulsar.burst_owner(*zone_of(options), *at, listed(options), mask=options.mask)
+    return lines("%s looked %d" % (owned_by(answer.burst), answer.looked))
+
+
+def owners(options):
+    row = bellpulsar.burst_owners(*zone_of(options), options.slot, listed(options), mask=options.mask)
+    own = row[: subchannels_of(options.mode, options.size)]
+    return lines(*("subchannels %s %s" % (from_to(first, count), owned_by(burst)) for burst, first, count in runs(own)))
 
 
 # --- a symbol as text -------------------------------------------------------------------------
@@ -124,6 +168,10 @@ def show(options):
 def slot_picture(options):
     slot = (options.mode, options.size, options.cell, options.slot)
     return picture.slot(*slot, options.subchannel, options.mask, options.carriers)
+
+
+def zone_picture(options):
+    return picture.zone(*zone_of(options), listed(options), options.mask)
 
 
 def subchannel_picture(options):

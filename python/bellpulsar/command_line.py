@@ -15,7 +15,7 @@ import subprocess
 import sys
 import traceback
 
-from bellpulsar import Refusal, answers, library
+from bellpulsar import Burst, Refusal, answers, library
 
 ANSWERED, REFUSED, FAILED = 0, 1, 2
 
@@ -34,9 +34,11 @@ SIZE is the FFT size, CELL the permutation base. SLOT is 0..511, INDEX 0..47.
 CARRIER is -SIZE/2..SIZE/2-1, by rising frequency, with DC at 0.
 CARRIERS, of first and picture slot, is how many of a slot's carriers have arrived, symbol after symbol, each by rising
 carrier, with guards, DC and pilots: 0 or more, and more than the slot has means all of them.
+SLOTS, of bursts, owner, owners and picture zone, is how many slots the zone has, 1..512; there MODE is that of a plan's
+zone, so never 1.
 SYMBOL counts in the zone: slot times symbols a slot, plus the offset in the slot.
 AMC has four slot shapes, bins x symbols; a bin is nine carriers in a row, of which one is a pilot.
-MASK, of first, show, picture slot and a plan's zones, says which major groups of mode 0 are
+MASK, of first, show, picture slot, all commands with bursts and a plan's zones, says which major groups of mode 0 are
 lit: 1..63, bit g for group g. Groups 0 to 5 have the subchannels 0..11, 12..19, 20..31, 32..39, 40..51 and 52..59.
 In the other modes all is lit and MASK is 0.
 Any number may be given (of CARRIERS, any that is not negative): the engine refuses what is out of range."""
@@ -46,6 +48,17 @@ A plan has a SIZE (256, 512, 1024 or 2048) and one to eight zones, each of MODE 
 512 SLOTS and a MASK of that mode. At 2048 the first zone is mode 0, with any of its cells. After a zone of AMC (modes 3
 to 6) come zones of AMC only, of any shape.
 ./bellpulsar --help has the modes, their cells and their masks."""
+
+BURST_RULES = (
+    """\
+A BURST is a data region, a rectangle of subchannels by slots in the zone, as four numbers with commas: its first
+subchannel, how many, its first slot, how many. Its position counts from 0. A list has 64 at most; none is empty or
+reaches past the zone, and none overlaps an earlier one. Unlit subchannels count like lit ones.
+In a file for --list a burst is a line, its numbers apart by commas or blanks; # starts a comment. A file may have none.
+
+"""
+    + RANGES
+)
 
 OVERVIEW = """\
 Where IEEE 802.16e OFDMA puts each point of a slot, and what belongs on a carrier, from an engine that is proved.
@@ -65,6 +78,7 @@ examples:
   ./bellpulsar first 3 256 176 0 100
   ./bellpulsar collisions ofusc 2048 0 2 1010 0
   ./bellpulsar plan read 02 80 08 02 11 03 00 03 B0 01 01 00
+  ./bellpulsar owner 0 2048 5 12 3 25 0,20,0,12 20,30,0,6
   ./bellpulsar show 2 1024 17 0 --subchannel 3
   ./bellpulsar picture slot 0 2048 5 3 --mask 0b000011 --output slot.svg
   ./bellpulsar place --help"""
@@ -78,6 +92,7 @@ FIELDS = {
     "size": "the FFT size",
     "cell": "the permutation base",
     "cells": "one or more cells",
+    "slots": "how many slots the zone has",
     "slot": "the slot's number in the zone",
     "subchannel": "the subchannel's number",
     "index": "the point's number in its subchannel and slot",
@@ -119,12 +134,40 @@ def mask(text):
     return int(digits, 0) if re.fullmatch("0[xX][0-9A-Fa-f]+|0[bB][01]+", digits) else number(text)
 
 
-def zone(text):
-    text = text.removeprefix(SHIELD)
-    parts = text.split(",")
+def parted(text, name, form, between=","):
+    """The four parts of a word or a line."""
+    parts = re.split(between, text)
     if len(parts) != 4:
-        raise argparse.ArgumentTypeError("%r is not a zone: MODE,CELL,SLOTS,MASK is needed" % text)
-    return (*map(number, parts[:3]), mask(parts[3]))
+        raise argparse.ArgumentTypeError("%r is not a %s: %s is needed" % (text, name, form))
+    return parts
+
+
+def zone(text):
+    *fields, lit = parted(text.removeprefix(SHIELD), "zone", "MODE,CELL,SLOTS,MASK")
+    return (*map(number, fields), mask(lit))
+
+
+def burst(text, between=","):
+    parts = parted(text.removeprefix(SHIELD), "burst", "SUBCHANNEL,SUBCHANNELS,SLOT,SLOTS", between)
+    return Burst(*map(number, parts))
+
+
+LIST_LIMIT = 2**20  # bytes: far more than 64 bursts need
+
+
+def burst_list(path):
+    """The bursts of a file, one on each line that has more than blanks and a comment."""
+    data = answers.start_of(path, LIST_LIMIT + 1)
+    if len(data) > LIST_LIMIT:
+        raise argparse.ArgumentTypeError("%s has more than %d bytes" % (path, LIST_LIMIT))
+    text, bursts = data.decode("utf-8-sig", "replace").replace(SHIELD, "\ufffd"), []
+    for at, line in enumerate(text.split("\n"), 1):
+        line = line.partition("#")[0].strip(" \t\r")
+        try:
+            bursts += [burst(line, "[ \t]*,[ \t]*|[ \t]+")] if line else []
+        except argparse.ArgumentTypeError as error:
+            raise argparse.ArgumentTypeError("%s, line %d: %s" % (path, at, error)) from None
+    return bursts
 
 
 def cells(text):
@@ -142,22 +185,27 @@ def hex_word(text):
 KINDS = {"cells": (cells, "CELL[,CELL..]"), "carriers": (count, "CARRIERS")}
 
 # Options that take the next word, whatever it looks like.
-VALUED = ("--carriers", "--file", "--mask", "--output", "--subchannel")
+VALUED = ("--carriers", "--file", "--list", "--mask", "--output", "--subchannel")
 
 
 def shielded(arguments):
-    """As the argument parser takes them: options joined to their values, words that start like a number shielded."""
+    """As the argument parser takes them: options joined to their values; words that start like a number, or stand
+    behind --, shielded."""
     words, rest = [], iter(arguments)
     for word in rest:
         if word in VALUED:
             words.append("=".join([word, *itertools.islice(rest, 1)]))
+        elif word == "--":
+            words += [SHIELD + more if more.startswith("-") else more for more in rest]
         elif re.match("-[0-9]", word):
             words.append(SHIELD + word)
         else:
             words.append(word)
-        if word == "--":
-            words += rest
     return words
+
+
+def has_value(word):
+    return word.partition("=")[0] in VALUED
 
 
 class Parser(argparse.ArgumentParser):
@@ -166,6 +214,11 @@ class Parser(argparse.ArgumentParser):
     def __init__(self, **settings):
         formatter = argparse.RawDescriptionHelpFormatter
         super().__init__(allow_abbrev=False, formatter_class=formatter, **settings)
+
+    def parse_known_args(self, args=None, namespace=None):
+        """Of a command's own arguments, options go last: words of which there may be any number must stand together."""
+        own = sorted(args, key=has_value) if self.get_default("answer") else args
+        return super().parse_known_args(own, namespace)
 
     def print_help(self, file=None):
         put(self.format_help(), None)
@@ -188,7 +241,7 @@ def command(commands, name, answer, summary, example, fields, notes=RANGES):
         description=sentence(summary),
         epilog="example:\n" + example + "\n\n" + notes,
     )
-    parser.set_defaults(answer=answer, output=None)
+    parser.set_defaults(answer=answer, output=None, either=None)
     for field in fields:
         kind, name = KINDS.get(field, (number, field.upper()))
         parser.add_argument(field, type=kind, metavar=name, help=FIELDS[field])
@@ -224,6 +277,12 @@ def add_collisions(commands):
     command(kinds, "amc", "amc_collisions", summary, example, ["cell_a", "cell_b"])
 
 
+def add_source(parser, words, option, told, **settings):
+    """An option that names a file in place of words; `told` says that either is needed."""
+    parser.add_argument("--" + option, metavar="FILE", **settings)
+    parser.set_defaults(either=(parser, words, option, told))
+
+
 def add_plans(commands):
     kinds = branch(commands, "plan", "zone plans and their bytes")
     example = """\
@@ -234,8 +293,9 @@ def add_plans(commands):
     summary = "the size and the zones of a plan, a line each"
     reading = command(kinds, "read", "plan_read", summary, example, [], PLAN_RULES)
     reading.add_argument("words", nargs="*", type=hex_word, metavar="HEX", help="the plan's bytes, two hex digits each")
-    reading.add_argument("--file", help="take the bytes from this file, as they are; - is standard input")
-    reading.set_defaults(reading=reading)
+    told = "give the bytes either as HEX words or by --file"
+    taken = "take the bytes from this file, as they are; - is standard input"
+    add_source(reading, "words", "file", told, help=taken)
     example = "  ./bellpulsar plan write 2048 0,5,12,0x3F 3,176,1,0\n  02 80 10 00 05 0C 3F 03 B0 01 01 00"
     example += "\n\nMASK may also be in base sixteen or two, as 0x3F or 0b111111."
     writing = command(kinds, "write", "plan_write", "the bytes of a plan, in hex", example, ["size"], PLAN_RULES)
@@ -260,6 +320,42 @@ def add_first(commands):
 Each lit subchannel has a line, and the last line is their sum."""
     summary = "which points have arrived when the first carriers of a slot have"
     add_mask(command(commands, "first", "first", summary, example, ["mode", "size", "cell", "slot", "carriers"]))
+
+
+def add_bursts(parser):
+    """The list, and the mask of its zone."""
+    parser.add_argument("bursts", nargs="*", type=burst, metavar="BURST", help="a burst, as four numbers with commas")
+    told = "give the bursts either as BURST words or by --list"
+    taken = "take the bursts from this file, four numbers a line; - is standard input"
+    add_source(parser, "bursts", "list", told, type=burst_list, help=taken)
+    add_mask(parser)
+
+
+def add_owners(commands):
+    zone = ["mode", "size", "cell", "slots"]
+    example = """\
+  ./bellpulsar bursts 0 2048 5 12 0,20,0,12 20,30,0,6
+  burst 0 subchannels 0 to 19 slots 0 to 11 takes 240
+  burst 1 subchannels 20 to 49 slots 0 to 5 takes 180
+  bursts 2 take 420 of 720 free 300
+
+A burst takes its subchannels times its slots, and the zone has all of its own."""
+    summary = "whether a list of bursts is fit for its zone, and how much of it they take"
+    add_bursts(command(commands, "bursts", "bursts", summary, example, zone, BURST_RULES))
+    example = """\
+  ./bellpulsar owner 0 2048 5 12 3 25 0,20,0,12 20,30,0,6
+  burst 1 looked 2
+
+prints the burst's position, or none, and how many bursts were looked at to find it"""
+    summary = "the burst that a subchannel in a slot belongs to"
+    add_bursts(command(commands, "owner", "owner", summary, example, [*zone, "slot", "subchannel"], BURST_RULES))
+    example = """\
+  ./bellpulsar owners 0 2048 5 12 3 0,20,0,12 20,30,0,6
+  subchannels 0 to 19 burst 0
+  subchannels 20 to 49 burst 1
+  subchannels 50 to 59 burst none"""
+    summary = "the bursts that all subchannels of one slot belong to"
+    add_bursts(command(commands, "owners", "owners", summary, example, [*zone, "slot"], BURST_RULES))
 
 
 def add_picks(drawing):
@@ -290,6 +386,12 @@ def add_pictures(commands):
     pale = "draw the points pale that have not arrived when so many of the slot's carriers have"
     drawing.add_argument("--carriers", type=count, help=pale)
     add_output(drawing)
+    example = "  ./bellpulsar picture zone 0 2048 5 12 0,20,0,12 20,30,0,6 --output zone.svg"
+    example += "\n\nA burst has its number in it where there is room; all are in the legend."
+    summary = "a zone: slots along x, subchannels along y, a colour for each burst, white where it is free"
+    drawing = command(kinds, "zone", "zone_picture", summary, example, ["mode", "size", "cell", "slots"], BURST_RULES)
+    add_bursts(drawing)
+    add_output(drawing)
     example = "  ./bellpulsar picture subchannel 0 2048 0,1,31 0 1 --output subchannel.svg"
     summary = "a subchannel's points: carriers along x, indices along y, a panel for each cell"
     fields = ["mode", "size", "cells", "slot", "subchannel"]
@@ -299,15 +401,17 @@ def add_pictures(commands):
 def argument_parser():
     parser = Parser(prog="bellpulsar", description=OVERVIEW, epilog=OVERVIEW_END)
     commands = parser.add_subparsers(required=True, metavar="COMMAND", dest="command")
-    for add in (add_map, add_first, add_collisions, add_plans, add_show, add_pictures):
+    for add in (add_map, add_first, add_collisions, add_plans, add_owners, add_show, add_pictures):
         add(commands)
     return parser
 
 
 def read_arguments(arguments):
     options = argument_parser().parse_args(shielded(arguments))
-    if options.answer == "plan_read" and bool(options.words) == (options.file is not None):
-        options.reading.error("give the bytes either as HEX words or by --file")
+    if options.either:
+        parser, words, option, told = options.either
+        if bool(getattr(options, words)) == (getattr(options, option) is not None):
+            parser.error(told)
     return options
 
 

@@ -17,6 +17,7 @@ int32 = ctypes.c_int32
 Pair = ctypes.c_float * 2
 Hits = ctypes.c_uint8 * 48
 Zones = uint * 32
+Owners = ctypes.c_uint8 * 192
 
 _out = ctypes.POINTER(uint)
 _address = ctypes.c_void_p
@@ -37,6 +38,9 @@ _PROTOTYPES = {
     "bp_amc_collisions": [uint] * 2 + [Hits, _out],
     "bp_zone_plan_read": [_address, _length, _out, _out, Zones],
     "bp_zone_plan_write": [uint, uint, Zones, _address, _length, _out],
+    "bp_bursts_check": [uint] * 5 + [_address, _length],
+    "bp_burst_owner": [uint] * 7 + [_address, _length, _out, _out],
+    "bp_burst_owners": [uint] * 6 + [_address, _length, Owners],
 }
 
 

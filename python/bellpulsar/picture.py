@@ -2,20 +2,21 @@
 
 `slot` draws a slot: carriers along x, in bands under each other, symbols along y, a colour for each subchannel. What is
 unlit is hatched; points that a capture has still to deliver are pale.
+`zone` draws the bursts of a zone: slots along x, subchannels along y, a colour for each burst, white where it is free.
 `subchannel` draws one subchannel's points: carriers along x, the index along y, a panel for each cell, a colour for
 each symbol. Where all points lie close together, as in AMC, it has only the carriers around them.
-What one points at has a title: symbol, carrier and what is there.
+What one points at has a title: symbol, carrier and what is there, or which burst it is.
 """
 
 import collections
 import colorsys
-import itertools
 from typing import NamedTuple
 
 import bellpulsar
 from bellpulsar import Kind
 from bellpulsar.refusals import AMC_MODES, MODES, carriers_of
-from bellpulsar.rows import arrived, awaiting, check_picked, check_slot, is_unlit, symbol_row
+from bellpulsar.rows import arrived, awaiting, burst_boxes, check_picked, check_slot, is_unlit, lit_subchannels
+from bellpulsar.rows import runs, subchannels_of, symbol_row
 
 LEFT, RIGHT, TOP, BOTTOM = 76, 24, 64, 16  # margins
 WIDTH = 1280  # of a band or panel
@@ -70,13 +71,17 @@ def upright(x, y, content):
     return text(x, y, content, text_anchor="middle", transform=turn)
 
 
-def carrier_ticks(y, first, last, step, scale):
-    """Ticks and carrier numbers under a band or panel."""
+def ticks_under(y, numbers, scale):
+    """Ticks and numbers under a band or panel; the first number is at its left."""
     parts = []
-    for carrier in [*range(first, last, step), last]:
-        x = "%g" % ((carrier - first + 0.5) * scale)
-        parts += [line(x, y, x, y + 5), text(x, y + 18, carrier, text_anchor="middle")]
+    for number in numbers:
+        x = "%g" % ((number - numbers[0] + 0.5) * scale)
+        parts += [line(x, y, x, y + 5), text(x, y + 18, number, text_anchor="middle")]
     return parts
+
+
+def carrier_ticks(y, first, last, step, scale):
+    return ticks_under(y, [*range(first, last, step), last], scale)
 
 
 # --- a slot -----------------------------------------------------------------------------------
@@ -136,15 +141,6 @@ def content_of(carrier):
     if is_unlit(carrier):
         return content + ", unlit"
     return content + ", not arrived yet" if carrier.awaited else content
-
-
-def runs(things):
-    """(thing, first, length) of each run of one thing."""
-    at = 0
-    for thing, members in itertools.groupby(things):
-        length = len(list(members))
-        yield thing, at, length
-        at += length
 
 
 def titled_path(symbol, carrier, content, outline, length):
@@ -222,16 +218,21 @@ def ink(fill):
     return "#000000" if 299 * red + 587 * green + 114 * blue > 125000 else "#ffffff"
 
 
-def legend_scale(style, total):
-    """The subchannels' colours with their numbers."""
-    across = WIDTH // SWATCH
-    parts = [text(0, 0, "data, by subchannel:")]
-    for number in range(total):
-        x, y = SWATCH * (number % across), 10 + 26 * (number // across)
-        fill = style["subchannel-%d" % number]["fill"]
+ACROSS = WIDTH // SWATCH  # swatches in a row of a scale
+
+
+def legend_scale(label, fills):
+    """Colours with their numbers."""
+    parts = [text(0, 0, label)]
+    for number, fill in enumerate(fills):
+        x, y = SWATCH * (number % ACROSS), 10 + 26 * (number // ACROSS)
         parts.append(box(x, y, SWATCH, 22, fill=fill))
         parts.append(text(x + SWATCH // 2, y + 16, number, text_anchor="middle", fill=ink(fill)))
     return parts
+
+
+def scale_height(total):
+    return 10 + 26 * (1 + (total - 1) // ACROSS)
 
 
 def slot(mode, size, cell, slot, picked=None, mask=None, carriers=None):
@@ -258,8 +259,9 @@ def slot(mode, size, cell, slot, picked=None, mask=None, carriers=None):
     parts.append(group(LEFT, y + 12, legend_kinds(style, picked, unlit, awaited), class_="legend"))
     y += 58
     if picked is None:
-        parts.append(group(LEFT, y, legend_scale(style, total), class_="legend"))
-        y += 10 + 26 * (1 + (total - 1) // (WIDTH // SWATCH))
+        fills = [style["subchannel-%d" % number]["fill"] for number in range(total)]
+        parts.append(group(LEFT, y, legend_scale("data, by subchannel:", fills), class_="legend"))
+        y += scale_height(total)
     title = "%s (mode %d), size %d, cell %d, slot %d" % (MODES[mode].name, mode, size, cell, slot)
     if unlit:
         title += ", mask %d" % mask
@@ -268,6 +270,83 @@ def slot(mode, size, cell, slot, picked=None, mask=None, carriers=None):
     if picked is not None:
         title += ", subchannel %d picked out" % picked
     return document(y + BOTTOM, title, parts)
+
+
+# --- a zone -----------------------------------------------------------------------------------
+
+SLOT = 80  # width of a slot at most
+ROWS = (4, 24)  # height of a subchannel at least and at most
+TALL = 768  # height that all subchannels have together, where the rows let them
+STRIP = 12  # width of the hatching beside unlit subchannels
+DIGIT, LINE, TICK = (8, 12), 14, 32  # room for a digit, for a number in a column and for one in a row
+FREE = "#ffffff"
+
+
+def numbered(count, scale, room):
+    """Some of the numbers below count, the first and the last among them, so that each has room."""
+    last = count - 1
+    step = next(step for step in (1, 2, 4, 8, 16, 32) if step * scale >= room)
+    return [number for number in range(0, last, step) if (last - number) * scale >= room] + [last]
+
+
+def burst_parts(number, burst, fill, slot, row):
+    """A burst with its title, and its number where there is room for it."""
+    x, y, width, height = slot * burst.slot, row * burst.subchannel, slot * burst.slots, row * burst.subchannels
+    ends = (burst.subchannel + burst.subchannels - 1, burst.slot + burst.slots - 1)
+    told = (number, burst.subchannel, ends[0], burst.slot, ends[1])
+    title = element("title", "burst %d: subchannels %d to %d, slots %d to %d" % told)
+    look = {"class_": "burst", "fill": fill, "stroke": "#444444", "stroke_width": 0.5}
+    parts = [element("rect", title, x="%g" % x, y=y, width="%g" % width, height=height, **look)]
+    if width >= DIGIT[0] * len(str(number)) and height >= DIGIT[1]:
+        look = {"text_anchor": "middle", "fill": ink(fill), "pointer_events": "none"}
+        parts.append(text("%g" % (x + width / 2), "%g" % (y + height / 2 + 4), number, **look))
+    return parts
+
+
+def subchannel_ticks(subchannels, row):
+    parts = []
+    for number in numbered(subchannels, row, LINE):
+        y = row * number + row / 2
+        parts += [line(-5, "%g" % y, 0, "%g" % y), text(-8, "%g" % (y + 4), number, text_anchor="end")]
+    return parts
+
+
+def zone_panel(slots, boxes, fills, lights, slot, row):
+    """The zone itself, with its axes; `lights` says of each subchannel whether it is lit."""
+    width, height = slot * slots, row * len(lights)
+    parts = [element("rect", element("title", "free"), x=0, y=0, width="%g" % width, height=height, fill=FREE)]
+    for number, (burst, fill) in enumerate(zip(boxes, fills)):
+        parts += burst_parts(number, burst, fill, slot, row)
+    parts.append(box(0, 0, "%g" % width, height, fill="none", stroke="#444444"))
+    for lit, first, count in runs(lights):
+        if not lit:
+            parts.append(box("%g" % width, row * first, STRIP, row * count, class_="unlit", fill=UNLIT))
+    parts += ticks_under(height, numbered(slots, slot, TICK), slot) + subchannel_ticks(len(lights), row)
+    parts.append(text("%g" % (width / 2), height + 34, "slot", text_anchor="middle"))
+    return parts + [upright(-48, height // 2, "subchannel")]
+
+
+def zone(mode, size, cell, slots, bursts, mask=None):
+    """The bursts of a zone; beside it is hatched what is unlit. Refusals 1, 2, 3, 13, 17, 18, 19."""
+    boxes = burst_boxes(mode, size, cell, slots, bursts, mask)
+    fills = [hue(number, len(boxes)) for number in range(len(boxes))]
+    lit, subchannels = set(lit_subchannels(mode, size, cell, 0, mask)), subchannels_of(mode, size)
+    lights = [number in lit for number in range(subchannels)]
+    slot, row = min(SLOT, WIDTH / slots), max(ROWS[0], min(ROWS[1], TALL // subchannels))
+    parts, kinds = [], swatch(0, "free", FREE)
+    if not all(lights):
+        parts, kinds = [hatch()], kinds + swatch(110, "subchannel, unlit", UNLIT)
+    parts.append(group(LEFT, TOP, zone_panel(slots, boxes, fills, lights, slot, row), class_="zone"))
+    y = TOP + row * subchannels + GAP
+    parts.append(group(LEFT, y, kinds, class_="legend"))
+    y += 46
+    if boxes:
+        parts.append(group(LEFT, y, legend_scale("bursts, by position:", fills), class_="legend"))
+        y += scale_height(len(boxes))
+    title = "%s (mode %d), size %d, cell %d, slots %d" % (MODES[mode].name, mode, size, cell, slots)
+    if not all(lights):
+        title += ", mask %d" % mask
+    return document(y + BOTTOM, title + ", bursts %d" % len(boxes), parts)
 
 
 # --- a subchannel -----------------------------------------------------------------------------

@@ -8,7 +8,7 @@ from typing import Callable, NamedTuple, Sequence, Tuple
 
 # The questions of document 01, by number.
 QUESTIONS = {
-    1: "Is the mode listed (in a plan: 0 or 2 to 6)?",
+    1: "Is the mode listed (in a plan and of bursts: 0 or 2 to 6)?",
     2: "Is the size that mode's (of a plan: 256, 512, 1024 or 2048)?",
     3: "Is the cell in range?",
     4: "Is the slot below 512, the zone's symbol below 512 times the slot length?",
@@ -25,6 +25,8 @@ QUESTIONS = {
     15: "Are the bytes used up?",
     16: "Is the destination long enough?",
     17: "Is the mask 1 to 63 in mode 0, 0 in the others?",
+    18: "Are the bursts at most 64, of four numbers each, none empty and each wholly in its zone?",
+    19: "Is the burst apart from every earlier one?",
 }
 
 # --- the ranges of document 01 ----------------------------------------------------------------
@@ -65,6 +67,7 @@ MODES = (
 PLAN_MODES = (0, 2, *AMC_MODES)
 PLAN_COUNTS = range(1, 9)
 PLAN_SLOTS = range(1, SLOTS + 1)
+BURSTS = 64  # of a list, at most
 
 
 def carriers_of(size):
@@ -80,7 +83,7 @@ def shown(value):
 
 
 def accepted_values(values):
-    if isinstance(values, range):
+    if isinstance(values, range) and values[0] != values[-1]:
         return "%d to %d" % (values[0], values[-1])
     return ", ".join(map(str, values))
 
@@ -126,10 +129,14 @@ def symbol_words(field, asked):
     return not_one_of(field, asked[field], "mode %d's" % mode, range(SLOTS * MODES[mode].symbols))
 
 
-def subchannel_words(field, asked):
-    mode, size = asked["mode"], asked["size"]
+def subchannels_of(mode, size):
+    """Whose they are, and all of them."""
     count = MODES[mode].subchannels
-    told = not_one_of(field, asked[field], by_size(mode, size, count), range(count(size // 64)))
+    return by_size(mode, size, count), range(count(size // 64))
+
+
+def subchannel_words(field, asked):
+    told = not_one_of(field, asked[field], *subchannels_of(asked["mode"], asked["size"]))
     return told or unlit_words(asked)
 
 
@@ -200,9 +207,9 @@ def order_words(size, zones, at):
         return "mode %d follows mode %d, after which only modes %s are accepted" % after
 
 
-def zone_words(number, size, zones, at):
-    """What question `number` finds in a zone, or nothing."""
-    mode, cell, slots, mask = zones[at]
+def zone_words(number, size, zone):
+    """What one of 1, 2, 3, 13 and 17 finds in a zone, or nothing."""
+    mode, cell, slots, mask = zone
     asked = {"mode": mode, "size": size, "cell": cell, "mask": mask}
     if number == 1:
         return not_one_of("mode", mode, "a plan's", PLAN_MODES)
@@ -214,15 +221,18 @@ def zone_words(number, size, zones, at):
         return not_one_of("slots", slots, "a zone's", PLAN_SLOTS)
     if number == 17:
         return mask_words("mask", asked)
-    return order_words(size, zones, at)
+
+
+def in_a_row(four):
+    return ",".join(map(shown, four))
 
 
 def places_words(count, zones):
     """The first place past the count that is not all zero."""
     for at, zone in enumerate(zones[count:], count + 1):
         if any(zone):
-            given = ",".join(map(shown, zone))
-            return "place %d is %s, where past the count of %d only zeros are accepted" % (at, given, count)
+            told = (at, in_a_row(zone), count)
+            return "place %d is %s, where past the count of %d only zeros are accepted" % told
 
 
 def plan_words(number, count, size, zones):
@@ -231,8 +241,8 @@ def plan_words(number, count, size, zones):
         return not_one_of("count", count, "a plan's", PLAN_COUNTS) or places_words(count, zones) or QUESTIONS[number]
     if number == 2 and size not in SIZES:
         return not_one_of("size", size, "a plan's", SIZES)
-    for at in range(len(zones[:count])):
-        told = zone_words(number, size, zones, at)
+    for at, zone in enumerate(zones[:count]):
+        told = order_words(size, zones, at) if number == 14 else zone_words(number, size, zone)
         if told:
             return "zone %d: %s" % (at + 1, told)
     return QUESTIONS[number]
@@ -292,3 +302,62 @@ def write_words(number, count, size, zones, room):
         need = sum(map(value_length, [count, size, *(value for zone in zones[:count] for value in zone)]))
         return "dest of %d bytes, not %d or more" % (room, need)
     return plan_words(number, count, size, zones)
+
+
+# --- bursts -----------------------------------------------------------------------------------
+
+
+def length_of_list_words(bursts):
+    """Of a list as a whole, or nothing."""
+    for at, burst in enumerate(bursts):
+        if len(burst) != 4:
+            return "burst %d has %d numbers, not 4" % (at, len(burst))
+    if len(bursts) > BURSTS:
+        return "%d bursts are given, not %d or fewer" % (len(bursts), BURSTS)
+
+
+def side_words(field, first, count, whose, values):
+    """Of a burst's subchannels or slots, from the first on so many, or nothing."""
+    if count < 1:
+        return "%s %ss, not 1 or more" % (shown(count), field)
+    if count == 1:
+        return not_one_of(field, first, whose, values)
+    last = first + count - 1
+    if first not in values or last not in values:
+        own = "%ss %d to %d" % (field, first, last) if abs(first) + count < 10**20 else "its %ss" % field
+        return "%s are not all of %s: %s" % (own, whose, accepted_values(values))
+
+
+def outside_words(size, zone, burst):
+    """Of a burst that is empty or not wholly in its zone, or nothing."""
+    subchannel, subchannels, slot, slots = burst
+    told = side_words("subchannel", subchannel, subchannels, *subchannels_of(zone[0], size))
+    return told or side_words("slot", slot, slots, "the zone's", range(zone[2]))
+
+
+def meet(first, count, other, others):
+    """Whether two runs of numbers, from a first on so many, have one in common."""
+    return first < other + others and other < first + count
+
+
+def overlap_words(bursts, at):
+    """Of a burst that overlaps an earlier one, or nothing."""
+    for before, burst in enumerate(bursts[:at]):
+        if meet(*bursts[at][:2], *burst[:2]) and meet(*bursts[at][2:], *burst[2:]):
+            return "it overlaps burst %d, which is %s" % (before, in_a_row(burst))
+
+
+def burst_words(number, size, zone, bursts, asked):
+    """Of a list of bursts, their zone (mode, cell, slots, mask) and, for 4 and 5, the slot and subchannel asked for."""
+    if number in (4, 5):
+        return field_words(number, {"mode": zone[0], "size": size, **asked})
+    if number not in (18, 19):
+        return zone_words(number, size, zone) or QUESTIONS[number]
+    told = length_of_list_words(bursts)
+    if told:
+        return told
+    for at, burst in enumerate(bursts):
+        told = outside_words(size, zone, burst) if number == 18 else overlap_words(bursts, at)
+        if told:
+            return "burst %d is %s: %s" % (at, in_a_row(burst), told)
+    return QUESTIONS[number]

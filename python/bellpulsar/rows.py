@@ -1,6 +1,7 @@
-"""What the carriers of a symbol are, which are lit, and whose points stand on the first of a slot's, from the library's
-answers alone."""
+"""What the carriers of a symbol are, which are lit, whose points stand on the first of a slot's, and where a zone's
+bursts are, from the library's answers alone."""
 
+import itertools
 from array import array
 from typing import NamedTuple
 
@@ -48,10 +49,15 @@ def check_picked(mode, size, cell, slot, subchannel, mask):
         bellpulsar.lay(mode, size, cell, slot, subchannel, none, blank_grid(mode, size), mask=mask)
 
 
+def subchannels_of(mode, size):
+    """How many a slot has, lit or not."""
+    return bellpulsar.points_len(mode, size) // (2 * POINTS)
+
+
 def lit_subchannels(mode, size, cell, slot, mask):
     """Those whose points a slot has, rising: where the first of these belongs, data is seen."""
     grid, lit = blank_grid(mode, size), []
-    for subchannel in range(bellpulsar.points_len(mode, size) // (2 * POINTS)):
+    for subchannel in range(subchannels_of(mode, size)):
         symbol, carrier = bellpulsar.place(mode, size, cell, slot, subchannel, 0)
         if bellpulsar.look(mode, size, cell, symbol, grid, carrier, mask=mask).kind is Kind.DATA:
             lit.append(subchannel)
@@ -79,3 +85,29 @@ def awaiting(rows, places):
         return carrier._replace(awaited=carrier.lit and carrier.what.kind is Kind.DATA and place not in there)
 
     return [[at(*numbered) for numbered in enumerate(row, size * offset)] for offset, row in enumerate(rows)]
+
+
+def runs(things):
+    """(thing, first, length) of each run of one thing."""
+    at = 0
+    for thing, members in itertools.groupby(things):
+        length = len(list(members))
+        yield thing, at, length
+        at += length
+
+
+def burst_boxes(mode, size, cell, slots, bursts, mask):
+    """Where each burst of a list is, as a Burst, from the owners of every slot. Refusals 1, 2, 3, 13, 17, 18, 19."""
+    bellpulsar.bursts_check(mode, size, cell, slots, bursts, mask=mask)
+    across, down = {}, {}  # the slots and the subchannels of each burst
+    for slot in range(slots):
+        row = bellpulsar.burst_owners(mode, size, cell, slots, slot, bursts, mask=mask)
+        for burst, first, length in runs(row):
+            across.setdefault(burst, set()).add(slot)
+            down.setdefault(burst, set()).update(range(first, first + length))
+    return [bellpulsar.Burst(*extent(down[burst]), *extent(across[burst])) for burst in range(len(bursts))]
+
+
+def extent(numbers):
+    """The first of them, and how many there are up to the last."""
+    return min(numbers), max(numbers) - min(numbers) + 1
