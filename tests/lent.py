@@ -32,6 +32,9 @@ SIGNATURES = {
     "bp_amc_collisions": "ffpp",
     "bp_zone_plan_read": "pnppp",
     "bp_zone_plan_write": "ffppnp",
+    "bp_bursts_check": "fffffpn",
+    "bp_burst_owner": "fffffffpnpp",
+    "bp_burst_owners": "ffffffpnp",
 }
 
 

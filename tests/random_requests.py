@@ -6,7 +6,8 @@ Ten thousand requests a call. Every answer, every byte that is written and every
 A thousand times a slot is filled in two moves: its ground, then lays of all its subchannels, unlit ones too, in any order
 with repeats. Fails where one differs, and also where a refusal, a kind of carrier, lit or not, a mode, size and mask that a
 call has (with carriers on both sides of DC, within the range and past it; with counts of carriers that write none, some and
-all of the points), a mask refused in each mode, or a mode after another that a plan may have, never occurred.
+all of the points), a mask refused in each mode, a mode after another that a plan may have, or a kind of list of bursts with
+each of its answers (burst_lists.py), never occurred.
 """
 
 import random
@@ -16,6 +17,7 @@ from collections import Counter
 from functools import lru_cache, partial
 from operator import itemgetter
 
+import burst_lists
 import lent
 import reference as ref
 from lent import Arena, signed_word, words
@@ -530,8 +532,108 @@ class PlanWrite:
         return arguments, [(0, words(numbers[2:]))], number, written, met
 
 
+# --- bursts -----------------------------------------------------------------------------------
+
+
+LIST_ROOM = 4 * 4 * (2 * burst_lists.MOST + 1)  # bytes: twice the longest list, and a burst behind it
+
+
+def some_slots(dice):
+    """How many slots a zone has, most often few."""
+    return dice.choice([1, 2] + [1 + dice.randrange(20)] * 14 + [ref.SLOTS, 1 + dice.randrange(ref.SLOTS)])
+
+
+def other_mode(dice, good, limit):
+    """As beyond, and often PUSC uplink, which no plan has."""
+    return dice.choice([ref.PUSC_UL, beyond(dice, good, limit)])
+
+
+def other_slots(dice, good, limit):
+    return dice.choice([0, beyond(dice, good, limit)])
+
+
+def about_a_burst(dice, numbers, limits):
+    """A slot and a subchannel, each an end of a burst or next to it, within the limits."""
+    bursts = ref.bursts_of(numbers)
+    subchannel, many, slot, slots = dice.choice([bursts[0], bursts[-1], dice.choice(bursts)])
+    places = [slot, slot + slots], [subchannel, subchannel + many]
+    return [
+        min(limit - 1, max(0, dice.choice([first, end - 1, dice.choice([first - 1, end])])))
+        for (first, end), limit in zip(places, limits)
+    ]
+
+
+def zone_masks_met(fields, number):
+    """As masks_met, of a call whose first fields are a zone's: mode, size, cell, slots and mask."""
+    return masks_met(fields[:3] + fields[4:], number)
+
+
+class BurstsCheck:
+    """The list lies last, so that its length can be one past 32 bits. Behind it stand words that would be a burst."""
+
+    OTHERS = {0: other_mode, 1: other_size, 3: other_slots, 4: other_mask}
+    COUNTS = [("accepted", count) for count in (0, 1, 2, 63, 64)]
+    LISTS = [(kind, number) for kind, (_, met) in burst_lists.KINDS.items() for number in met] + [("not fours", 18)]
+    ZONES = [case for case in MASKS if case[0] in ref.PLAN_MODES]
+    name, arena, asked = "bp_bursts_check", Arena(LIST_ROOM), 0  # asked: how many of slot and subchannel it has
+    refusals, cases = [1, 2, 3, 13, 17, 18, 19], ZONES + LISTS + COUNTS
+
+    def request(self, dice, noise, mode, size, cell, mask, slot):
+        slots, subchannels = some_slots(dice), ref.subchannels(mode, size)
+        kind, numbers = burst_lists.some_list(dice, (subchannels, slots))
+        asked = [dice.choice([within(dice, slots), slot]), within(dice, subchannels)]
+        if len(numbers) >= 4 and dice.randrange(2):
+            asked = about_a_burst(dice, numbers[: len(numbers) // 4 * 4], [ref.SLOTS, subchannels])
+        limits = setup_limits(mode, size) + [ref.SLOTS + 1, 0, ref.SLOTS, subchannels]
+        fields = spoiled(dice, ([mode, size, cell, slots, mask] + asked)[: 5 + self.asked], limits, self.OTHERS)
+        given, length = words(numbers + [0, 1, 0, 1]), len(numbers)
+        if lent.HAS_LONG and dice.randrange(20) == 0:
+            # Too long, whatever it holds and though its lowest 32 bits are not.
+            length += lent.LONG
+            kind, numbers = "long", range(length)
+        number, written, met = self.answer(fields, numbers)
+        *outs, last = map(self.arena.address, range(len(self.arena.at)))
+        met = met + zone_masks_met(fields, number) + [(kind, number)] + [("accepted", length // 4)] * (number == 0)
+        return fields + [pointer(dice, last, length), length] + outs, [(len(outs), given)], number, written, met
+
+    def answer(self, fields, numbers):
+        """The refusal, what is written, and the cases that the list's kind does not tell."""
+        return ref.bursts_check(*fields, numbers), [], []
+
+
+class BurstOwner(BurstsCheck):
+    name, arena, asked = "bp_burst_owner", Arena(4, 4, LIST_ROOM), 2
+    refusals = [1, 2, 3, 13, 17, 4, 5, 18, 19]
+    # Of an owner: none or one, in a slot of the zone or past it, of a lit subchannel or not; and the last of a full list.
+    FOUND = [("none", True, True), ("none", True, False), ("none", False, True), ("one", True, True), ("one", True, False)]
+    cases = BurstsCheck.cases + FOUND + ["last of 64"]
+
+    def answer(self, fields, numbers):
+        number, owner, looked = ref.burst_owner(*fields, numbers)
+        if number:
+            return number, [], []
+        mode, size, _, slots, mask, slot, subchannel = fields
+        lit = subchannel in ref.lit_subchannels(mode, size, mask)
+        met = [("none" if owner == ref.NO_BURST else "one", slot < slots, lit)] + ["last of 64"] * (owner == 63)
+        return 0, [(0, words([owner])), (1, words([looked]))], met
+
+
+class BurstOwners(BurstsCheck):
+    name, arena, asked = "bp_burst_owners", Arena(ref.ROW, LIST_ROOM), 1
+    refusals = [1, 2, 3, 13, 17, 4, 18, 19]
+    cases = BurstsCheck.cases + ["past", "some none", "all owned"]
+
+    def answer(self, fields, numbers):
+        number, owners = ref.burst_owners(*fields, numbers)
+        if number:
+            return number, [], []
+        own = owners[: ref.subchannels(*fields[:2])]
+        met = "past" if fields[5] >= fields[3] else "some none" if ref.NO_BURST in own else "all owned"
+        return 0, [(0, bytes(owners))], [met]
+
+
 MAP_CALLS = [Place, Locate, PointsLen, LitPointsLen, GridLen, Ground, Lay, Slot, Empty, EmptyFirst, Look]
-CALLS = MAP_CALLS + [OfuscCollisions, AmcCollisions, PlanRead, PlanWrite]
+CALLS = MAP_CALLS + [OfuscCollisions, AmcCollisions, PlanRead, PlanWrite, BurstsCheck, BurstOwner, BurstOwners]
 
 
 # --- the run ----------------------------------------------------------------------------------
@@ -566,7 +668,7 @@ def put(library, dice, noise, tally, setup):
     function = getattr(library, call.name)
     difference = call.arena.difference(contents, function, arguments, given, number, written)
     if difference:
-        short = [data.hex(" ") for _, data in given if len(data) <= 128]
+        short = [data.hex(" ") for _, data in given if len(data) <= 4 * 256]
         sys.exit("%s %s; arguments %s, given %s" % (call.name, difference, arguments, short))
     tally.add(number, met)
 

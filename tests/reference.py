@@ -1,4 +1,4 @@
-"""Document 01, as changed by document 02's wishes 1 to 6, in plain Python, written from the papers alone.
+"""Document 01, as changed by document 02's wishes 1 to 7, in plain Python, written from the papers alone.
 
 The stored vectors and the tests through C are made from this file. It is as simple as it can be
 and slow where that is simpler: locating builds the whole slot by placing and looks the carrier up.
@@ -7,6 +7,7 @@ A refusal is document 01's number; 0 means accepted. Floats are handled as 32-bi
 """
 
 from functools import lru_cache
+from itertools import product
 
 # Document 003, table 308: the renumbering sequence and the two permutation bases.
 R = [
@@ -619,18 +620,23 @@ def write_value(value):
     return out + [value]
 
 
+def zone_questions(mode, size, cell, slots, mask):
+    """Of a zone by itself: of a plan's, and of the one that a list of bursts is for."""
+    yield 1, mode in PLAN_MODES
+    yield from setup_questions(mode, size, cell)
+    yield 13, 1 <= slots <= SLOTS
+    yield 17, mask in masks(mode)
+
+
+zone_refusal = refusal(zone_questions)
+
+
 def judge_zone(size, before, zone):
     """Questions 1, 2, 3, 13, 17, 14 of one zone; before is the zone before it, or None."""
     mode, cell, slots, mask = zone
-    if mode not in PLAN_MODES:
-        raise Refused(1)
-    number = setup_refusal(mode, size, cell)
+    number = zone_refusal(mode, size, cell, slots, mask)
     if number:
         raise Refused(number)
-    if not 1 <= slots <= 512:
-        raise Refused(13)
-    if mask not in masks(mode):
-        raise Refused(17)
     if size == 2048 and before is None and mode != PUSC_DL:
         raise Refused(14)
     if before is not None and before[0] in SHAPES and mode not in SHAPES:
@@ -696,3 +702,89 @@ def zones_text(data):
     if number:
         return "refused %d\n" % number
     return "".join("%d %d %d %d\n" % zone for zone in zones[:count])
+
+
+# --- bursts: rectangles of subchannels by slots in one zone (document 02, wish 7) -------------
+
+MOST_BURSTS = 64
+NO_BURST = 64
+ROW = 192  # the subchannels of the mode that has most
+
+
+def bursts_of(numbers):
+    """A list's numbers as bursts, four each: first subchannel, how many, first slot, how many."""
+    return [tuple(numbers[i : i + 4]) for i in range(0, len(numbers), 4)]
+
+
+def is_in_zone(burst, mode, size, slots):
+    """Not empty, and wholly in the zone."""
+    subchannel, how_many, slot, how_many_slots = burst
+    return (
+        how_many > 0
+        and how_many_slots > 0
+        and subchannel + how_many <= subchannels(mode, size)
+        and slot + how_many_slots <= slots
+    )
+
+
+@lru_cache(maxsize=256)
+def covered(burst):
+    """Every (slot, subchannel) of a burst. One that is not in its zone may have more of them than there is room for."""
+    subchannel, how_many, slot, how_many_slots = burst
+    return frozenset(product(range(slot, slot + how_many_slots), range(subchannel, subchannel + how_many)))
+
+
+def list_questions(mode, size, slots, numbers):
+    """Of a list of bursts, the length first, then each burst in turn."""
+    yield 18, len(numbers) % 4 == 0 and len(numbers) <= 4 * MOST_BURSTS
+    taken = set()
+    for burst in bursts_of(numbers):
+        yield 18, is_in_zone(burst, mode, size, slots)
+        yield 19, taken.isdisjoint(covered(burst))
+        taken |= covered(burst)
+
+
+@refusal
+def bursts_check(mode, size, cell, slots, mask, numbers):
+    yield from zone_questions(mode, size, cell, slots, mask)
+    yield from list_questions(mode, size, slots, numbers)
+
+
+@refusal
+def burst_owner_refusal(mode, size, cell, slots, mask, slot, subchannel, numbers):
+    yield from zone_questions(mode, size, cell, slots, mask)
+    yield 4, slot < SLOTS
+    yield 5, subchannel < subchannels(mode, size)
+    yield from list_questions(mode, size, slots, numbers)
+
+
+@refusal
+def burst_owners_refusal(mode, size, cell, slots, mask, slot, numbers):
+    yield from zone_questions(mode, size, cell, slots, mask)
+    yield 4, slot < SLOTS
+    yield from list_questions(mode, size, slots, numbers)
+
+
+def owner_in(bursts, slot, subchannel):
+    """(the position of the one burst that covers this, or NO_BURST; how many bursts were looked at)."""
+    found = [position for position, burst in enumerate(bursts) if (slot, subchannel) in covered(burst)]
+    assert len(found) <= 1
+    return (found[0], found[0] + 1) if found else (NO_BURST, len(bursts))
+
+
+def burst_owner(mode, size, cell, slots, mask, slot, subchannel, numbers):
+    """(refusal, owner, how many bursts were looked at)."""
+    number = burst_owner_refusal(mode, size, cell, slots, mask, slot, subchannel, numbers)
+    if number:
+        return number, NO_BURST, 0
+    return 0, *owner_in(bursts_of(numbers), slot, subchannel)
+
+
+def burst_owners(mode, size, cell, slots, mask, slot, numbers):
+    """(refusal, the owners of a slot's subchannels): a row of 192, none past the mode's last."""
+    number = burst_owners_refusal(mode, size, cell, slots, mask, slot, numbers)
+    if number:
+        return number, [NO_BURST] * ROW
+    bursts = bursts_of(numbers)
+    owners = [owner_in(bursts, slot, subchannel)[0] for subchannel in range(subchannels(mode, size))]
+    return 0, owners + [NO_BURST] * (ROW - len(owners))

@@ -5,6 +5,7 @@ Run: python3 tests/test_reference.py
 
 import random
 
+import burst_lists
 import reference as ref
 from reference import AMC, AMC_1X6, AMC_2X3, AMC_3X2, OFUSC, PUSC_DL, PUSC_UL
 
@@ -633,6 +634,143 @@ def test_a_first_count_and_then_a_larger():
             arrived = grid[: 2 * first] + [-2] * (len(grid) - 2 * first)
             between = ref.empty_first(*fields, first, arrived, old)[1]
             assert ref.empty_first(*fields, larger, grid, between) == ref.empty_first(*fields, larger, grid, old)
+
+
+# --- bursts: document 02, wish 7 --------------------------------------------------------------
+
+ZONE = (OFUSC, 256, 3, 5, 0)  # four subchannels and five slots
+ZONES = [(mode, size) for mode in (PUSC_DL, OFUSC, AMC, AMC_2X3, AMC_3X2, AMC_1X6) for size in ref.sizes(mode)]
+
+
+def test_bursts_by_hand():
+    """The zone slot by slot; a dot is of none."""
+    numbers = [0, 2, 0, 3] + [0, 4, 4, 1] + [2, 1, 1, 2] + [3, 1, 2, 2]
+    drawn = ["00..", "002.", "0023", "...3", "1111"] + ["...."] * 507
+    assert ref.bursts_check(*ZONE, numbers) == 0
+    for slot, row in enumerate(drawn):
+        owners = [64 if sign == "." else int(sign) for sign in row]
+        assert ref.burst_owners(*ZONE, slot, numbers) == (0, owners + [64] * 188)
+        for subchannel, owner in enumerate(owners):
+            looked = 4 if owner == 64 else owner + 1
+            assert ref.burst_owner(*ZONE, slot, subchannel, numbers) == (0, owner, looked)
+        assert ref.burst_owner(*ZONE, slot, 4, numbers) == (5, 64, 0)
+    assert ref.burst_owner(*ZONE, 512, 4, numbers) == (4, 64, 0)
+    assert ref.burst_owners(*ZONE, 512, numbers) == (4, [64] * 192)
+    assert ref.burst_owner(*ZONE, 0, 0, []) == (0, 64, 0)
+    assert ref.burst_owner(*ZONE, 0, 0, [0, 4, 0, 6]) == (18, 64, 0)
+    assert ref.burst_owners(*ZONE, 0, [0, 4, 0, 5, 3, 1, 4, 1]) == (19, [64] * 192)
+
+
+def test_lists_by_hand():
+    whole, most = [0, 4, 0, 5], 2**32 - 1
+    single = [[subchannel, 1, slot, 1] for slot in range(16) for subchannel in range(4)]
+    cases = [
+        (0, [], [0, 1, 0, 1], whole, [3, 1, 4, 1], [0, 2, 0, 5, 2, 2, 0, 5], [0, 2, 0, 2, 2, 2, 2, 3]),
+        (18, [0], [0, 1], [0, 1, 0], whole + [0], whole + [0, 1, 0]),
+        (18, [0, 0, 0, 1], [0, 1, 0, 0], [4, 0, 0, 1], [0, 0, 0, 0], [0, 5, 0, 1], [0, 1, 0, 6], [4, 1, 0, 1]),
+        (18, [0, 1, 5, 1], [1, 4, 0, 5], [0, 4, 1, 5], [most, 1, 0, 1], [most, 2, 0, 1], [1, most, 0, 1]),
+        (18, [0, 1, most, 1], [0, 1, most, 3], [0, 1, 2, most], [2**31, 2**31 + 1, 0, 1], [most] * 4),
+        (19, whole + whole, whole + [3, 1, 4, 1], [1, 2, 1, 3] + whole, [0, 2, 0, 2, 1, 2, 1, 2], [0, 4, 2, 1, 2, 1, 0, 5]),
+        # Two faults: the earlier one; at one burst 18.
+        (18, [0, 0, 0, 1] + whole + whole, whole + [0, 5, 0, 5], whole + [0, 1, 4, 2] + whole),
+        (19, whole + whole + [0, 0, 0, 1], whole + [0, 1, 0, 1] + [0, 9, 0, 9]),
+    ]
+    for number, *lists in cases:
+        for numbers in lists:
+            assert ref.bursts_check(*ZONE, numbers) == number, numbers
+    zone = OFUSC, 256, 3, 17, 0
+    assert ref.bursts_check(*zone, sum(single, [])) == 0
+    assert ref.bursts_check(*zone, sum(single[:63], []) + single[0]) == 19
+    assert ref.bursts_check(*zone, sum(single, []) + [0, 1, 16, 1]) == 18
+    assert ref.burst_owner(*zone, 15, 3, sum(single, [])) == (0, 63, 64)
+
+
+def test_zones_of_bursts():
+    """Every mode but 1, its last subchannel and slot just in it; the mask decides nothing; 14 is not put."""
+    for mode, size in ZONES:
+        last = {PUSC_DL: 59, OFUSC: size // 64 - 1}.get(mode) or WISH_2[mode][2] * size // 64 - 1
+        for mask in some_masks(mode):
+            for slots in (1, 7, 512):
+                zone, numbers = (mode, size, ref.cells(mode, size) - 1, slots, mask), [0, last + 1, slots - 1, 1]
+                assert ref.bursts_check(*zone, numbers) == 0
+                assert ref.bursts_check(*zone, [0, last + 2, slots - 1, 1]) == 18
+                assert ref.bursts_check(*zone, [0, last + 1, slots - 1, 2]) == 18
+                assert ref.burst_owners(*zone, slots - 1, numbers) == (0, [0] * (last + 1) + [64] * (191 - last))
+                assert ref.burst_owners(*zone, 511, numbers)[1][0] == (0 if slots == 512 else 64)
+    for mask in (0, 63):
+        assert ref.bursts_check(PUSC_UL, 2048, 0, 1, mask, []) == 1
+
+
+def test_overlaps_by_arithmetic():
+    """Every two bursts of a zone overlap where each starts before the other ends, along subchannels and along slots."""
+    runs = [[(first, many) for first in range(limit) for many in range(1, limit + 1 - first)] for limit in (4, 3)]
+    bursts = [subchannels + slots for subchannels in runs[0] for slots in runs[1]]
+    for a in bursts:
+        for b in bursts:
+            meet = [a[i] < b[i] + b[i + 1] and b[i] < a[i] + a[i + 1] for i in (0, 2)]
+            assert ref.bursts_check(*ZONE[:3], 3, 0, [*a, *b]) == (19 if all(meet) else 0)
+
+
+def test_questions_of_bursts():
+    """Every set of wrong fields; the last is the list, wrong by its length, by one burst or by an overlap."""
+
+    def check(*fields):
+        number = ref.bursts_check(*fields)
+        return number, fields[-1] if number else None
+
+    def owner(*fields):
+        number, *answer = ref.burst_owner(*fields)
+        assert number == 0 or answer == [64, 0]
+        return number, fields[-1] if number else answer
+
+    def owners(*fields):
+        number, row = ref.burst_owners(*fields)
+        assert number == 0 or row == [64] * 192
+        return number, fields[-1] if number else row
+
+    for mode, size in ZONES:
+        cells, subchannels, mask = ref.cells(mode, size), ref.subchannels(mode, size), ref.full_mask(mode)
+        good, wrong = [mode, size, cells - 1, 512, mask], [PUSC_UL, 128, cells, 513, 64]
+        fit = [0, subchannels, 0, 512]
+        for question, unfit in ((18, fit + [0]), (18, fit * 65), (18, fit[:3] + [513]), (19, fit + [0, 1, 511, 1])):
+            check_order(check, [1, 2, 3, 13, 17, question], good + [fit], wrong + [unfit])
+            questions = [1, 2, 3, 13, 17, 4, 5, question]
+            check_order(owner, questions, good + [511, subchannels - 1, fit], wrong + [512, subchannels, unfit])
+            check_order(owners, questions[:6] + [question], good + [511, fit], wrong + [512, unfit])
+            wrong[0], wrong[3], wrong[4] = 7, 0, 0 if mode == PUSC_DL else 1
+
+
+def test_tilings():
+    """Everything in the zone has one owner, whose position was looked at last; a burst has as much as its sides tell."""
+    dice = random.Random(9)
+    for mode, size in ZONES:
+        slots, subchannels = dice.randrange(1, 12), ref.subchannels(mode, size)
+        zone = mode, size, 0, slots, dice.choice(some_masks(mode))
+        for count in (1, 2, 17, 63, 64):
+            bursts = burst_lists.tiling(dice, (subchannels, slots), count)
+            numbers = burst_lists.numbers(bursts)
+            assert len(bursts) == min(count, slots * subchannels) and ref.bursts_check(*zone, numbers) == 0
+            found = [ref.burst_owners(*zone, slot, numbers)[1] for slot in range(slots + 1)]
+            assert all(row[subchannels:] == [64] * (192 - subchannels) for row in found) and found[-1] == [64] * 192
+            every = [owner for row in found[:-1] for owner in row[:subchannels]]
+            assert [every.count(n) for n in range(len(bursts))] == [burst[1] * burst[3] for burst in bursts]
+            for _ in range(5):
+                slot, subchannel = dice.randrange(slots + 1), dice.randrange(subchannels)
+                owner = found[slot][subchannel]
+                answer = 0, owner, len(bursts) if owner == 64 else owner + 1
+                assert ref.burst_owner(*zone, slot, subchannel, numbers) == answer
+
+
+def test_kinds_of_lists():
+    """Each kind meets what it is made for, wherever there are two slots for two bursts to lie side by side."""
+    dice = random.Random(10)
+    for make, refusals in burst_lists.KINDS.values():
+        for mode, size in ZONES:
+            for slots in [dice.randrange(2, 9)] * 10 + [ref.SLOTS] * 10:
+                numbers = burst_lists.numbers(make(dice, (ref.subchannels(mode, size), slots)))
+                assert ref.bursts_check(mode, size, 0, slots, ref.full_mask(mode), numbers) in refusals
+    for _ in range(100):
+        assert ref.bursts_check(*ZONE, burst_lists.not_fours(dice, (4, 5))) == 18
 
 
 # --- carriers count from DC -------------------------------------------------------------------

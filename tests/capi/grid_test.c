@@ -12,6 +12,7 @@
 #include <string.h>
 
 #include "bellpulsar.h"
+#include "common.h"
 
 /* A slot and the bits that its buffers hold: the points of its lit subchannels, its ground, and its grid when each of
    these is laid. places: where the two floats of each point start in the grid. */
@@ -22,26 +23,10 @@ struct grid_row {
 
 #include "grid_table.h"
 
-#define COUNT(rows) (sizeof(rows) / sizeof((rows)[0]))
-
-enum { KIND_GUARD = 0, KIND_DC = 1, KIND_PILOT = 2, KIND_DATA = 3, SLOTS = 512, POINTS = 48 };
-enum { PUSC_DL = 0, FULL_MASK = 63, CLUSTER = 14 }; /* of PUSC downlink; a cluster is so many used numbers */
+enum { KIND_GUARD = 0, KIND_DC = 1, KIND_PILOT = 2, KIND_DATA = 3, POINTS = 48 };
+enum { CLUSTER = 14 }; /* of PUSC downlink: so many used numbers */
 enum { LAID = 2 * POINTS }; /* the floats of one subchannel */
-enum { MOST_SUBCHANNELS = 192, MOST_POINTS = LAID * MOST_SUBCHANNELS, MOST_GRID = 2 * 6 * 2048, EDGE = 4 };
-enum { UNLISTED = 7 }; /* the first number that is no mode */
-
-struct setup {
-    uint32_t mode, size, cells, subchannels, symbols;
-};
-
-static const struct setup setups[] = {
-    {0, 2048, 32, 60, 2}, {1, 2048, 70, 70, 3},
-    {2, 256, 16, 4, 1}, {2, 512, 64, 8, 1}, {2, 1024, 256, 16, 1}, {2, 2048, 1024, 32, 1},
-    {3, 256, 2352, 4, 1}, {3, 512, 2352, 8, 1}, {3, 1024, 2352, 16, 1}, {3, 2048, 2352, 32, 1},
-    {4, 256, 2352, 12, 3}, {4, 512, 2352, 24, 3}, {4, 1024, 2352, 48, 3}, {4, 2048, 2352, 96, 3},
-    {5, 256, 2352, 8, 2}, {5, 512, 2352, 16, 2}, {5, 1024, 2352, 32, 2}, {5, 2048, 2352, 64, 2},
-    {6, 256, 2352, 24, 6}, {6, 512, 2352, 48, 6}, {6, 1024, 2352, 96, 6}, {6, 2048, 2352, 192, 6},
-};
+enum { MOST_POINTS = LAID * MOST_SUBCHANNELS, MOST_GRID = 2 * 6 * 2048, EDGE = 4 };
 
 /* The lowest carrier is minus half the size, the highest is half the size less 1. */
 static int32_t half(const struct setup *s) { return (int32_t)(s->size / 2); }
@@ -107,10 +92,6 @@ struct pair {
     float before[EDGE], at[2], after[EDGE];
 };
 
-struct out {
-    uint32_t before, value, after;
-};
-
 static void copy_bits(float *at, const uint32_t *bits, size_t n) { memcpy(at, bits, n * sizeof *bits); }
 
 static int same_bits(const float *at, const uint32_t *bits, size_t n) { return memcmp(at, bits, n * sizeof *bits) == 0; }
@@ -140,19 +121,6 @@ static int holds(const void *buffer, size_t bytes, const uint32_t *bits, size_t 
 }
 
 static int untouched(const void *buffer, size_t bytes) { return spoiled(buffer, 0, bytes / sizeof(float)); }
-
-static const uint32_t untold = 0xA5A5A5A5u;
-
-static struct out fresh(void)
-{
-    struct out out = {~untold, untold, ~untold};
-    return out;
-}
-
-static int told(const struct out *out, uint32_t value)
-{
-    return out->before == ~untold && out->value == value && out->after == ~untold;
-}
 
 /* --- points ---------------------------------------------------------------------------------- */
 
@@ -593,39 +561,6 @@ static int test_rows(void)
 }
 
 /* --- refusals -------------------------------------------------------------------------------- */
-
-/* A set of wrong fields is a bit a field, in the order of the questions, which end with 0. */
-static uint32_t first_refusal(unsigned wrong_fields, const uint32_t *questions)
-{
-    while (*questions && !(wrong_fields & 1)) {
-        wrong_fields >>= 1;
-        questions++;
-    }
-    return *questions;
-}
-
-/* A number past a range: the first, the last, or one that is cut to the last within it. */
-static uint32_t past(uint32_t limit, unsigned turn)
-{
-    const uint32_t numbers[] = {limit, UINT32_MAX, limit - 1 + 0x10000u, limit - 1 + 0x80000000u};
-    return numbers[turn % COUNT(numbers)];
-}
-
-/* A good mask lights the last subchannel; not each lights the first one, nor all. */
-static uint32_t good_mask(const struct setup *s, unsigned turn)
-{
-    static const uint32_t masks[] = {FULL_MASK, 32, 42, 61, 33};
-    return s->mode == PUSC_DL ? masks[turn % COUNT(masks)] : 0;
-}
-
-/* A wrong mask: another mode's, just past the range, the last, or one that is cut to a good one. */
-static uint32_t wrong_mask(const struct setup *s, unsigned turn)
-{
-    static const uint32_t no_groups[] = {FULL_MASK, 1, UINT32_MAX, 64, 0x10000u, 0x80000000u, 32};
-    const uint32_t groups[] = {0, FULL_MASK + 1, UINT32_MAX, good_mask(s, turn) + 64, good_mask(s, turn) + 0x100u,
-                               good_mask(s, turn) + 0x10000u, good_mask(s, turn) + 0x80000000u};
-    return s->mode == PUSC_DL ? groups[turn % COUNT(groups)] : no_groups[turn % COUNT(no_groups)];
-}
 
 /* The fields that every call has, the first five of a set. Look has the zone's symbol for the slot. */
 struct fields {

@@ -516,9 +516,59 @@ fn plans_are_written() {
     }
 }
 
+/// A list of bursts, the zone that it is for, and all that is asked about it.
+#[test]
+fn bursts_agree() {
+    for row in rows("bursts", 15000) {
+        let [mode, size, cell, slots, mask, slot, subchannel, count] = row[..8] else {
+            panic!("{row:?}")
+        };
+        let (numbers, answer) = row[8..].split_at(4 * count as usize);
+        let four = |four: &[u32]| Burst {
+            subchannel: four[0],
+            subchannels: four[1],
+            slot: four[2],
+            slots: four[3],
+        };
+        let bursts: Vec<Burst> = numbers.chunks(4).map(four).collect();
+        let kept = bursts.clone();
+        let zone = Zone {
+            mode,
+            cell,
+            slots,
+            mask,
+        };
+        let [check, of_owner, of_owners, owner, looked] = answer[..5] else {
+            panic!("{row:?}")
+        };
+        let position = |number: u32| (number != 64).then_some(number as usize);
+        let owner = Owner {
+            burst: position(owner),
+            looked: looked as usize,
+        };
+        let owners: Vec<Option<usize>> = answer[5..].iter().copied().map(position).collect();
+        assert_eq!(
+            bursts_check(size, zone, &bursts),
+            expected(check, ()),
+            "{row:?}"
+        );
+        assert_eq!(
+            burst_owner(size, zone, slot, subchannel, &bursts),
+            expected(of_owner, owner),
+            "{row:?}"
+        );
+        assert_eq!(
+            burst_owners(size, zone, slot, &bursts).map(Vec::from),
+            expected(of_owners, owners),
+            "{row:?}"
+        );
+        assert_eq!(bursts, kept, "{row:?}");
+    }
+}
+
 #[test]
 fn refusals_have_words() {
-    let questions: Vec<&str> = (1..=17).map(|number| Refusal(number).question()).collect();
+    let questions: Vec<&str> = (1..=19).map(|number| Refusal(number).question()).collect();
     for (n, question) in questions.iter().enumerate() {
         assert!(
             question.ends_with('?') && !questions[..n].contains(question),

@@ -19,8 +19,10 @@
     amc       cell cell; refusal count hits(48)
     read      length bytes; refusal count size zones(32)
     write     length count size zones(32); refusal written, 56 bytes of which the first were lent
+    bursts    mode size cell slots mask slot subchannel n; the n bursts; refusals of check, owner and owners; owner looked;
+              where they are not refused owners(192)
 
-What is not given by an answer stands as 0. Only carriers may be negative.
+What is not given by an answer stands as 0, an owner as 64. Only carriers may be negative.
 """
 
 import os
@@ -30,6 +32,8 @@ import sys
 TESTS = os.path.dirname(os.path.dirname(os.path.abspath(__file__)))
 sys.path[:0] = [TESTS, os.path.join(TESTS, "capi")]
 
+import burst_lists
+import bursts_table
 import grid_table
 import reference as ref
 import table
@@ -148,6 +152,33 @@ def print_collisions(name, rows):
         line(name, row[:-1] + [number, count] + hits)
 
 
+def bursts_row(fields, numbers):
+    check = ref.bursts_check(*fields[:5], numbers)
+    of_owner, owner, looked = ref.burst_owner(*fields, numbers)
+    of_owners, owners = ref.burst_owners(*fields[:6], numbers)
+    return fields + [len(numbers) // 4] + numbers + [check, of_owner, of_owners, owner, looked] + owners * (of_owners == 0)
+
+
+def bursts_rows(dice, mode, size):
+    """Lists of every kind but those that are not of four numbers each, which a slice of bursts cannot be; then wrong
+    fields beside a list that is good or not."""
+    cells, subchannels = ref.cells(mode, size), ref.subchannels(mode, size)
+    for _, slots, numbers in bursts_table.lists(dice, subchannels):
+        if len(numbers) % 4 == 0:
+            mask, slot = dice.choice(ref.masks(mode)), dice.choice([dice.randrange(slots)] * 3 + [ref.SLOTS - 1])
+            zone = [mode, size, dice.randrange(cells), slots, mask]
+            yield bursts_row(zone + [slot, dice.randrange(subchannels)], numbers)
+    for turn, kind in enumerate(["past", "corner", "both faults"]):
+        (*setup, mask), (*wrong_setup, wrong_mask) = setups(dice, mode, size, turn)
+        slots = [1, 9, ref.SLOTS][turn]
+        lists = [burst_lists.numbers(burst_lists.KINDS[of][0](dice, (subchannels, slots))) for of in ("good", kind)]
+        good = setup + [slots, mask, ref.SLOTS - 1, subchannels - 1, lists[0]]
+        wrong = wrong_setup + [[0, 513][turn % 2], wrong_mask, ref.SLOTS, subchannels, lists[1]]
+        wrong[0] = [ref.PUSC_UL, ref.UNLISTED][turn % 2]
+        for *fields, numbers in wrong_sets(good, wrong):
+            yield bursts_row(fields, numbers)
+
+
 def print_plans():
     """The requests of the stored plan vectors, but for those with a number that 32 bits do not hold."""
     for request in vectors.plans_requests():
@@ -177,6 +208,9 @@ def main():
         print_collisions("ofusc", table.ofusc_rows(dice, size))
     print_collisions("amc", table.amc_rows(dice))
     print_plans()
+    for mode, size in table.SETUPS:
+        for row in bursts_rows(dice, mode, size) if mode in ref.PLAN_MODES else []:
+            line("bursts", row)
 
 
 if __name__ == "__main__":
