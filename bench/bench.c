@@ -31,6 +31,11 @@ struct side {
     uint32_t (*amc_collisions)(uint32_t, uint32_t, uint8_t *, uint32_t *);
     uint32_t (*plan_read)(const uint8_t *, size_t, uint32_t *, uint32_t *, uint32_t *);
     uint32_t (*plan_write)(uint32_t, uint32_t, const uint32_t *, uint8_t *, size_t, uint32_t *);
+    uint32_t (*bursts_check)(uint32_t, uint32_t, uint32_t, uint32_t, uint32_t, const uint32_t *, size_t);
+    uint32_t (*burst_owner)(uint32_t, uint32_t, uint32_t, uint32_t, uint32_t, uint32_t, uint32_t, const uint32_t *,
+                            size_t, uint32_t *, uint32_t *);
+    uint32_t (*burst_owners)(uint32_t, uint32_t, uint32_t, uint32_t, uint32_t, uint32_t, const uint32_t *, size_t,
+                             uint8_t *);
 };
 
 // A whole slot as a caller of the engine fills it: its ground, then a lay for every 96 floats of its points, which an
@@ -51,17 +56,19 @@ static uint32_t engine_slot(uint32_t mode, uint32_t size, uint32_t cell, uint32_
 }
 
 static const struct side engine = {
-    bp_place,       bp_locate, engine_slot,         bp_ground,         bp_lay,            bp_empty,
-    bp_empty_first, bp_look,   bp_ofusc_collisions, bp_amc_collisions, bp_zone_plan_read, bp_zone_plan_write};
+    bp_place,        bp_locate,      engine_slot,         bp_ground,         bp_lay,            bp_empty,
+    bp_empty_first,  bp_look,        bp_ofusc_collisions, bp_amc_collisions, bp_zone_plan_read, bp_zone_plan_write,
+    bp_bursts_check, bp_burst_owner, bp_burst_owners};
 static const struct side plain = {
-    plain_place,       plain_locate, plain_fill,             plain_ground,         plain_lay,       plain_empty,
-    plain_empty_first, plain_look,   plain_ofusc_collisions, plain_amc_collisions, plain_plan_read, plain_plan_write};
+    plain_place,        plain_locate,      plain_fill,             plain_ground,         plain_lay,       plain_empty,
+    plain_empty_first,  plain_look,        plain_ofusc_collisions, plain_amc_collisions, plain_plan_read, plain_plan_write,
+    plain_bursts_check, plain_burst_owner, plain_burst_owners};
 
 // All that a call may write.
 struct outcome {
-    uint32_t symbol, kind, slot, subchannel, index, count, size, written, zones[32];
+    uint32_t symbol, kind, slot, subchannel, index, count, size, written, zones[32], owner, looked;
     int32_t carrier;
-    uint8_t hits[48], bytes[PLAN_ROOM];
+    uint8_t hits[48], bytes[PLAN_ROOM], owners[192];
     float point[2], points[MOST_POINTS], grid[MOST_GRID];
 };
 
@@ -177,6 +184,29 @@ static uint32_t run_plan_write(const struct side *side, struct outcome *o, uint3
     uint32_t sum = 0;
     for (const struct plan *p = plans + from; p < plans + to; p++)
         sum += side->plan_write(p->count, p->size, p->zones, o->bytes, p->dest_len, &o->written);
+    return sum;
+}
+
+static uint32_t run_bursts_check(const struct side *side, struct outcome *o, uint32_t from, uint32_t to) {
+    uint32_t sum = 0;
+    (void)o; // it writes nothing
+    for (const struct list *l = lists + from; l < lists + to; l++)
+        sum += side->bursts_check(l->mode, l->size, l->cell, l->slots, l->mask, l->numbers, l->len);
+    return sum;
+}
+
+static uint32_t run_burst_owner(const struct side *side, struct outcome *o, uint32_t from, uint32_t to) {
+    uint32_t sum = 0;
+    for (const struct list *l = lists + from; l < lists + to; l++)
+        sum += side->burst_owner(l->mode, l->size, l->cell, l->slots, l->mask, l->slot, l->subchannel, l->numbers,
+                                 l->len, &o->owner, &o->looked);
+    return sum;
+}
+
+static uint32_t run_burst_owners(const struct side *side, struct outcome *o, uint32_t from, uint32_t to) {
+    uint32_t sum = 0;
+    for (const struct list *l = lists + from; l < lists + to; l++)
+        sum += side->burst_owners(l->mode, l->size, l->cell, l->slots, l->mask, l->slot, l->numbers, l->len, o->owners);
     return sum;
 }
 
@@ -326,6 +356,16 @@ static void plan_rows(const char *call, run_fn *run) {
     do_row((struct row){call, "8 zones, 51 bytes", run, PLANS, 1, 0});
 }
 
+// Zones of 512 slots with the fewest subchannels, 60, and the most.
+static void burst_rows(const char *call, run_fn *run, uint32_t bursts) {
+    draw_lists(OFUSC, 256, 0, bursts);
+    do_row((struct row){call, "optional FUSC, 256", run, LISTS, 1, 0});
+    draw_lists(PUSC_DL, 2048, FULL_MASK, bursts);
+    do_row((struct row){call, "PUSC downlink, 2048", run, LISTS, 1, 0});
+    draw_lists(AMC_1X6, 2048, 0, bursts);
+    do_row((struct row){call, "AMC 1x6, 2048", run, LISTS, 1, 0});
+}
+
 static void heading(void) {
     printf("ns a data point of the slot for slot, ground, empty and empty_first, ns a call for the others; the loop\n"
            "around a call is in its time. slot: the engine's ground and a lay for each subchannel, questions and all,\n"
@@ -333,11 +373,13 @@ static void heading(void) {
            "grid's carriers, and all. Groups lit: of PUSC downlink. A data point of the slot is any of it, lit or not,\n"
            "emptied or not, so that these rows can be held to the ones with all. before: the ratio published for empty\n"
            "when it went subchannel by subchannel, from another run, where there is one; it goes by carrier now.\n"
-           "Warm buffers: %d requests (%d plans), drawn at random from what the call accepts, again and again.\n"
+           "Bursts: so many in a list, which is checked in every call; the zone has 512 slots, and the bursts tile it, where\n"
+           "there are any. The owner of any slot and subchannel, the owners of any slot.\n"
+           "Warm buffers: %d requests (%d plans, %d lists), drawn at random from what the call accepts, again and again.\n"
            "Best of %d rounds of %d to %d ms of processor time, both sides in turn.\n"
            "Each row first compared both sides on its requests and on %d more, many of which are refused.\n"
            "Plain C: %s, %s. The engine: its static archive.\n\n",
-           REQUESTS, PLANS, ROUNDS, ROUND_MS, 2 * ROUND_MS, STRAYS, BENCH_COMPILER, BENCH_FLAGS);
+           REQUESTS, PLANS, LISTS, ROUNDS, ROUND_MS, 2 * ROUND_MS, STRAYS, BENCH_COMPILER, BENCH_FLAGS);
     printf("| call                     | setup               |   engine |  plain C | ratio | before |\n"
            "|--------------------------|---------------------|---------:|---------:|------:|-------:|\n");
 }
@@ -364,6 +406,15 @@ int main(int argc, char **argv) {
     collision_rows();
     plan_rows("plan read", run_plan_read);
     plan_rows("plan write", run_plan_write);
+    burst_rows("bursts check, 64", run_bursts_check, 64);
+    burst_rows("bursts check, 8", run_bursts_check, 8);
+    burst_rows("bursts check, none", run_bursts_check, 0);
+    burst_rows("burst owner, 64", run_burst_owner, 64);
+    burst_rows("burst owner, 8", run_burst_owner, 8);
+    burst_rows("burst owner, none", run_burst_owner, 0);
+    burst_rows("burst owners, 64", run_burst_owners, 64);
+    burst_rows("burst owners, 8", run_burst_owners, 8);
+    burst_rows("burst owners, none", run_burst_owners, 0);
     if (!timing) printf("bench: %u rows, %u requests, %u of them refused: both sides agree\n", rows, compared, refused);
     return 0;
 }

@@ -4,6 +4,8 @@
 // Each place is worked out by itself from mode, size, cell, slot, subchannel and index, also in lay, empty and
 // empty_first, which then tests whether it is one of the first. place goes by the inverse table of R, locate and look
 // by those of Q, P and both B; plain_tables works them out once.
+// A list of bursts is checked in each call that has one, every burst against all before it, by four comparisons without a
+// branch, and one branch a burst; the owner is the first burst that covers, a row is set to none and marked burst by burst.
 // plain_fill is no call of the engine: it writes at once what the ground and a lay of each lit subchannel write, and
 // puts questions 1 2 3 17 4 8 9, 8 about the points of the whole slot.
 #ifndef PLAIN_H
@@ -38,5 +40,12 @@ uint32_t plain_amc_collisions(uint32_t cell_a, uint32_t cell_b, uint8_t hits[48]
 uint32_t plain_plan_read(const uint8_t *bytes, size_t len, uint32_t *count, uint32_t *size, uint32_t zones[32]);
 uint32_t plain_plan_write(uint32_t count, uint32_t size, const uint32_t zones[32], uint8_t *dest, size_t dest_len,
                           uint32_t *written);
+uint32_t plain_bursts_check(uint32_t mode, uint32_t size, uint32_t cell, uint32_t slots, uint32_t mask,
+                            const uint32_t *bursts, size_t bursts_len);
+uint32_t plain_burst_owner(uint32_t mode, uint32_t size, uint32_t cell, uint32_t slots, uint32_t mask, uint32_t slot,
+                           uint32_t subchannel, const uint32_t *bursts, size_t bursts_len, uint32_t *owner,
+                           uint32_t *looked);
+uint32_t plain_burst_owners(uint32_t mode, uint32_t size, uint32_t cell, uint32_t slots, uint32_t mask, uint32_t slot,
+                            const uint32_t *bursts, size_t bursts_len, uint8_t owners[192]);
 
 #endif

@@ -7,14 +7,10 @@
 enum { PLACES = 8, VALUES = 4, MOST_BYTES = 51 }; // VALUES: of a zone
 
 // Questions 1, 2, 3, 13, 17 and 14 of zone k of a plan; zones is as in bellpulsar.h.
-static uint32_t zone_refusal(uint32_t size, const uint32_t *zones, uint32_t k) {
+static uint32_t place_refusal(uint32_t size, const uint32_t *zones, uint32_t k) {
     const uint32_t *zone = zones + VALUES * k;
-    uint32_t mode = zone[0], cell = zone[1], slots = zone[2], mask = zone[3];
-    if (mode == PUSC_UL) return 1;
-    uint32_t refusal = setup_refusal(mode, size, cell);
+    uint32_t mode = zone[0], refusal = zone_refusal(mode, size, zone[1], zone[2], zone[3]);
     if (refusal) return refusal;
-    if (slots < 1 || slots > SLOTS) return 13;
-    if (!is_mask(mode, mask)) return 17;
     if (k == 0) return size == 2048 && mode != PUSC_DL ? 14 : 0;
     return zones[VALUES * (k - 1)] >= AMC && mode < AMC ? 14 : 0;
 }
@@ -43,7 +39,7 @@ static uint32_t read_zone(struct bytes *b, uint32_t size, uint32_t *zones, uint3
         uint32_t refusal = read_value(b, &zones[i]);
         if (refusal) return refusal;
     }
-    return zone_refusal(size, zones, k);
+    return place_refusal(size, zones, k);
 }
 
 uint32_t plain_plan_read(const uint8_t *bytes, size_t len, uint32_t *count, uint32_t *size, uint32_t zones[32]) {
@@ -69,7 +65,7 @@ static uint32_t plan_refusal(uint32_t count, uint32_t size, const uint32_t zones
         if (zones[i]) return 12;
     if (!is_bin_size(size)) return 2;
     for (uint32_t k = 0; k < count; k++) {
-        uint32_t refusal = zone_refusal(size, zones, k);
+        uint32_t refusal = place_refusal(size, zones, k);
         if (refusal) return refusal;
     }
     return 0;

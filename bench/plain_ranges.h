@@ -1,4 +1,5 @@
-// The ranges of documents 01 and 02, their first three questions and that of the mask, for the map and for plans.
+// The ranges of documents 01 and 02, their first three questions, that of the mask and those of a zone, for the map, for
+// plans and for bursts.
 #ifndef PLAIN_RANGES_H
 #define PLAIN_RANGES_H
 
@@ -45,6 +46,15 @@ static inline uint32_t setup_refusal(uint32_t mode, uint32_t size, uint32_t cell
     if (mode >= MODES) return 1;
     if (mode < OFUSC ? size != 2048 : !is_bin_size(size)) return 2;
     return cell < cells(mode, size) ? 0 : 3;
+}
+
+// The first of a zone's questions 1, 2, 3, 13 and 17 that is answered no, or 0.
+static inline uint32_t zone_refusal(uint32_t mode, uint32_t size, uint32_t cell, uint32_t slots, uint32_t mask) {
+    if (mode == PUSC_UL) return 1;
+    uint32_t refusal = setup_refusal(mode, size, cell);
+    if (refusal) return refusal;
+    if (slots < 1 || slots > SLOTS) return 13;
+    return is_mask(mode, mask) ? 0 : 17;
 }
 
 #endif

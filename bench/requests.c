@@ -3,6 +3,7 @@
 
 struct request requests[REQUESTS + STRAYS];
 struct plan plans[PLANS + STRAYS];
+struct list lists[LISTS + STRAYS];
 
 static uint32_t state;
 
@@ -160,5 +161,80 @@ void draw_plans(enum plan_kind kind) {
         any_plan(p);
         encode(p);
         disturb_plan(p);
+    }
+}
+
+static void copy_burst(uint32_t *to, const uint32_t *from) {
+    for (uint32_t i = 0; i < 4; i++) to[i] = from[i];
+}
+
+// Cuts a burst of a list in two, the second behind all others; not one that has one subchannel in one slot.
+static void cut(struct list *l, uint32_t *burst) {
+    uint32_t axis = 2 * below(2), *half = l->numbers + l->len;
+    if (burst[axis + 1] == 1) axis = 2 - axis;
+    if (burst[axis + 1] == 1) return;
+    uint32_t kept = 1 + below(burst[axis + 1] - 1);
+    copy_burst(half, burst);
+    half[axis] += kept;
+    half[axis + 1] -= kept;
+    burst[axis + 1] = kept;
+    l->len += 4;
+}
+
+// The zone cut into so many bursts, in any order; it has room for them.
+static void tile(struct list *l, uint32_t bursts) {
+    uint32_t *first = l->numbers, other[4];
+    first[1] = subchannels(l->mode, l->size);
+    first[3] = l->slots;
+    l->len = bursts ? 4 : 0;
+    while (l->len < 4 * bursts) cut(l, first + 4 * below(l->len / 4));
+    for (uint32_t n = bursts; n > 1; n--) {
+        uint32_t *last = first + 4 * (n - 1), *any = first + 4 * below(n);
+        copy_burst(other, any);
+        copy_burst(any, last);
+        copy_burst(last, other);
+    }
+}
+
+static struct list accepted_list(uint32_t mode, uint32_t size, uint32_t mask, uint32_t slots, uint32_t bursts) {
+    struct list l = {
+        .mode = mode,
+        .size = size,
+        .cell = below(cells(mode, size)),
+        .slots = slots,
+        .mask = mask,
+        .slot = below(SLOTS),
+        .subchannel = below(subchannels(mode, size)),
+    };
+    tile(&l, bursts);
+    return l;
+}
+
+// Some bursts left out, one that is a little larger, one put over another, numbers and fields changed, any length; half
+// of the time any mask.
+static void disturb_list(struct list *l) {
+    uint32_t subchannel_count = subchannels(l->mode, l->size), bursts = l->len / 4;
+    if (below(2)) l->len = 4 * below(bursts + 1);
+    if (bursts && below(6) == 0) l->numbers[4 * below(bursts) + 1 + 2 * below(2)]++;
+    if (bursts && below(6) == 0) copy_burst(l->numbers + 4 * below(bursts), l->numbers + 4 * below(bursts));
+    for (uint32_t i = 0; i < l->len; i++) disturb(&l->numbers[i], i % 4 < 2 ? subchannel_count : l->slots, 200);
+    if (below(6) == 0) l->len = below(4 * (MOST_BURSTS + 1) + 1);
+    if (l->mode == PUSC_DL && below(2)) l->mask = below(FULL_MASK + 2);
+    disturb(&l->mode, MODES, 12);
+    disturb(&l->size, l->size, 12);
+    disturb(&l->cell, cells(l->mode, l->size), 12);
+    disturb(&l->slots, SLOTS + 1, 12);
+    disturb(&l->mask, FULL_MASK + 1, 12);
+    disturb(&l->slot, SLOTS, 12);
+    disturb(&l->subchannel, subchannel_count, 12);
+}
+
+// Those that are timed have a zone of 512 slots, which their bursts cover, where there are any.
+void draw_lists(uint32_t mode, uint32_t size, uint32_t mask, uint32_t bursts) {
+    state = 64 * size + mode;
+    for (struct list *l = lists; l < lists + LISTS; l++) *l = accepted_list(mode, size, mask, SLOTS, bursts);
+    for (struct list *l = lists + LISTS; l < lists + LISTS + STRAYS; l++) {
+        *l = accepted_list(mode, size, mask, MOST_BURSTS + below(SLOTS - MOST_BURSTS), below(MOST_BURSTS + 2));
+        disturb_list(l);
     }
 }

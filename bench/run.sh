@@ -7,5 +7,6 @@ cc=${CC:-cc}
 flags="-std=c11 -O3${CFLAGS:+ $CFLAGS}"
 $cc $flags ${LDFLAGS-} -D_POSIX_C_SOURCE=199309L -Wall -Wextra -Wpedantic -Werror -I include \
     -DBENCH_FLAGS="\"$flags\"" -DBENCH_COMPILER="\"$($cc --version | head -n 1)\"" \
-    bench/bench.c bench/requests.c bench/plain_map.c bench/plain_plan.c build/libbellpulsar.a -o build/bench
+    bench/bench.c bench/requests.c bench/plain_map.c bench/plain_plan.c \
+    bench/plain_bursts.c build/libbellpulsar.a -o build/bench
 exec build/bench "$@"
