@@ -3,10 +3,10 @@
  * Link with libbellpulsar.a or the shared libbellpulsar.so.4; nothing else is needed but the C library. The engine keeps no
  * state, so calls may run side by side on different buffers.
  *
- * ANSWERS. Every call but those whose names end in _len returns 0, or the number of the first question of document 01 that is
- * answered no (enum bp_refusal). The questions are put in the order in which a call lists its refusals, each only after a yes
- * to all before it. On a refusal nothing is written: every out parameter and buffer keeps its contents. Buffers that are
- * `const` are never written.
+ * ANSWERS. Every call but bp_version and those whose names end in _len returns 0, or the number of the first question of
+ * document 01 that is answered no (enum bp_refusal). The questions are put in the order in which a call lists its refusals,
+ * each only after a yes to all before it. On a refusal nothing is written: every out parameter and buffer keeps its contents.
+ * Buffers that are `const` are never written.
  *
  * POINTERS are aligned for their type, and what is written overlaps nothing else. They are not null and are valid for
  * their stated length whatever the other fields hold, except that a buffer of length 0 may have any pointer.
@@ -72,19 +72,29 @@
 extern "C" {
 #endif
 
-/* The version of this interface. It goes up where a call changes for its callers, and is in the shared library's soname,
- * libbellpulsar.so.4. Version 4 has the mask: after the cell in bp_ground, bp_lay, bp_empty and bp_look, and as the fourth
- * number of a plan's place, so that bp_zone_plan_read and bp_zone_plan_write with zones[32] are in place of bp_plan_read and
- * bp_plan_write with zones[24]. Since version 3 a slot is filled in two moves, bp_ground and bp_lay, and there is no bp_fill.
- * Since version 2 carriers are signed and count from DC; before that they were 0..size-1. bp_empty_first, and then
- * bp_bursts_check, bp_burst_owner and bp_burst_owners, were added to version 4 and changed no other call, so the version stayed
- * 4: a program that calls one of them needs a library that has it, and all others run with any. A caller can hold itself to it:
+/* The version, as three numbers; BP_VERSION, the first, is that of the interface. It goes up where a call changes for its
+ * callers, and is in the shared library's soname, libbellpulsar.so.4. The second goes up where calls are added: a program that
+ * calls one of these needs a library that has it, and all others run with any of the same BP_VERSION. The third goes up where
+ * neither does. docs/CHANGES.md has the history. A caller can hold itself to it:
  *
- *     #if BP_VERSION != 4
- *     #error "this program is written for version 4 of bellpulsar.h"
+ *     #if BP_VERSION != 4 || BP_VERSION_MINOR < 3
+ *     #error "this program is written for version 4.3 of bellpulsar.h"
  *     #endif
- */
+ *
+ * Version 4 has the mask: after the cell in bp_ground, bp_lay, bp_empty and bp_look, and as the fourth number of a plan's place,
+ * so that bp_zone_plan_read and bp_zone_plan_write with zones[32] are in place of bp_plan_read and bp_plan_write with zones[24].
+ * 4.1 added bp_empty_first, 4.2 bp_bursts_check, bp_burst_owner and bp_burst_owners, 4.3 bp_places and bp_version.
+ * Since version 3 a slot is filled in two moves, bp_ground and bp_lay, and there is no bp_fill. Since version 2 carriers are
+ * signed and count from DC; before that they were 0..size-1. */
 #define BP_VERSION 4
+#define BP_VERSION_MINOR 3
+#define BP_VERSION_PATCH 0
+
+/* The three as one number, 40300 for 4.3.0, and as text. */
+#define BP_VERSION_NUMBER (BP_VERSION * 10000 + BP_VERSION_MINOR * 100 + BP_VERSION_PATCH)
+#define BP_VERSION_STRING BP_TEXT_OF(BP_VERSION) "." BP_TEXT_OF(BP_VERSION_MINOR) "." BP_TEXT_OF(BP_VERSION_PATCH)
+#define BP_TEXT_OF(number) BP_TEXT(number)
+#define BP_TEXT(number) #number
 
 /* The mask of mode 0 that lights every major group. */
 #define BP_ALL_GROUPS 63
@@ -135,6 +145,9 @@ enum bp_refusal {
     BP_REFUSED_OVERLAP = 19     /* a burst overlaps an earlier one */
 };
 
+/* The version of the library: BP_VERSION_NUMBER of the header that it was built with. */
+uint32_t bp_version(void);
+
 /* Where point `index` of a subchannel lies in a slot.
  *
  * Written where it is accepted: *symbol, the zone's symbol (in the slot asked for), and *carrier.
@@ -149,6 +162,15 @@ uint32_t bp_place(uint32_t mode, uint32_t size, uint32_t cell, uint32_t slot, ui
  * Refusals, in this order: 1 mode, 2 size, 3 cell, 4 symbol, 7 carrier. */
 uint32_t bp_locate(uint32_t mode, uint32_t size, uint32_t cell, uint32_t symbol, int32_t carrier,
                    uint32_t *kind, uint32_t *slot, uint32_t *subchannel, uint32_t *index);
+
+/* Where the 48 points of a subchannel stand in a slot's grid, for a caller who keeps the table and copies through it.
+ *
+ * Written where it is accepted: all of places, places[index] being offset * size + size / 2 + carrier for the symbol's offset in
+ * the slot and the carrier where bp_place puts the point; so its floats are at 2 * places[index] of the grid and the one after.
+ * A table serves every slot whose pilots are on the same carriers: all slots in modes 0, 1, 4 and 6, those that agree mod 3
+ * in modes 2, 3 and 5.
+ * Refusals, in this order: 1 mode, 2 size, 3 cell, 4 slot, 5 subchannel. */
+uint32_t bp_places(uint32_t mode, uint32_t size, uint32_t cell, uint32_t slot, uint32_t subchannel, uint32_t places[48]);
 
 /* The floats of a slot's points where all is lit, 96 for each subchannel; 0 for a mode and size that the map does not have. */
 size_t bp_points_len(uint32_t mode, uint32_t size);
