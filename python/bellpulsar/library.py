@@ -6,16 +6,26 @@ import os
 import signal
 import subprocess
 import sys
+from typing import Any, Dict, List, Optional, SupportsIndex
 
-ROOT = os.path.dirname(os.path.dirname(os.path.dirname(os.path.abspath(__file__))))
+from .version import __version__
+
+_HERE = os.path.dirname(os.path.abspath(__file__))
+ROOT = os.path.dirname(os.path.dirname(_HERE))
 BUILDER = os.path.join(ROOT, "build.sh")
-VERSION = 4  # of the interface as it is called here: the header's BP_VERSION
-BUILT = os.path.join(ROOT, "build", "libbellpulsar.so.%d" % VERSION)
+VERSION = int(__version__.partition(".")[0])  # of the interface
+NAME = "libbellpulsar.so.%d" % VERSION
+BESIDE = os.path.join(_HERE, NAME)  # an installation has it there
+BUILT = os.path.join(ROOT, "build", NAME)
+
+Int = SupportsIndex  # whatever counts as an integer
+Mask = Optional[Int]  # without one all is lit
 
 uint = ctypes.c_uint32
 int32 = ctypes.c_int32
 Pair = ctypes.c_float * 2
 Hits = ctypes.c_uint8 * 48
+Places = uint * 48
 Zones = uint * 32
 Owners = ctypes.c_uint8 * 192
 
@@ -23,9 +33,11 @@ _out = ctypes.POINTER(uint)
 _address = ctypes.c_void_p
 _length = ctypes.c_size_t
 
-_PROTOTYPES = {
+_PROTOTYPES: Dict[str, List[Any]] = {
+    "bp_version": [],
     "bp_place": [uint] * 6 + [_out, ctypes.POINTER(int32)],
     "bp_locate": [uint] * 4 + [int32] + [_out] * 4,
+    "bp_places": [uint] * 5 + [Places],
     "bp_points_len": [uint] * 2,
     "bp_lit_points_len": [uint] * 3,
     "bp_grid_len": [uint] * 2,
@@ -44,46 +56,72 @@ _PROTOTYPES = {
 }
 
 
-def _end_with_parent():
+def _named() -> str:
+    """The library that the environment names, or nothing."""
+    return os.environ.get("BELLPULSAR_LIBRARY", "")
+
+
+def _own() -> str:
+    """This package's library: beside its modules where it is installed, else its tree's."""
+    is_tree = os.path.exists(BUILDER) or os.path.exists(BUILT)
+    return BUILT if is_tree and not os.path.exists(BESIDE) else BESIDE
+
+
+def _end_with_parent() -> None:
     """In a child: where the parent dies, it is told to end."""
     ctypes.CDLL(None).prctl(1, signal.SIGTERM)  # 1: PR_SET_PDEATHSIG
 
 
-def build():
-    """Builds the library where it is missing or old; the builder tells so itself, on standard error."""
-    if not os.environ.get("BELLPULSAR_LIBRARY"):
+def build() -> None:
+    """Builds the tree's library where it is missing or old; the builder tells so itself, on standard error. Nothing is
+    done where another is used: one beside the modules, or one that the environment names."""
+    if not _named() and _own() == BUILT:
         subprocess.run([BUILDER], stdout=sys.stderr or subprocess.DEVNULL, check=True, preexec_fn=_end_with_parent)
         engine.is_current = True
 
 
-def _is_old():
+def _is_old() -> bool:
     return os.path.exists(BUILDER) and subprocess.run([BUILDER, "--check"]).returncode != 0
 
 
-def _path(is_current):
-    """Of the library: named by the environment, or this tree's own, which must not be older than its source."""
-    named = os.environ.get("BELLPULSAR_LIBRARY")
-    path = named or BUILT
+def _path(is_current: bool) -> str:
+    """Of the library: named by the environment, or this package's own; a tree's must not be older than its source."""
+    named = _named()
+    path = named or _own()
     if not os.path.exists(path):
         raise ImportError(
             "no Bellpulsar library at %s: run ./build.sh, or name the library in BELLPULSAR_LIBRARY" % path
         )
-    if not named and not is_current and _is_old():
+    if not named and path == BUILT and not is_current and _is_old():
         raise ImportError("%s is old: the engine's source has changed since it was built; run ./build.sh" % path)
     return path
 
 
-def _load(path):
-    """Each call by its name."""
+def _unfit(path: str, why: object) -> ImportError:
+    return ImportError("%s is not a Bellpulsar library that can be loaded: %s" % (path, why))
+
+
+def _call(library: ctypes.CDLL, path: str, name: str) -> Any:
+    """One call of a library, its arguments declared."""
+    try:
+        call = getattr(library, name)
+    except AttributeError:
+        raise _unfit(path, "it has no %s, which version %s has" % (name, __version__)) from None
+    call.argtypes = _PROTOTYPES[name]
+    call.restype = _length if name.endswith("_len") else uint
+    return call
+
+
+def _load(path: str) -> Dict[str, Any]:
+    """Each call by its name, of a library that has them all with the interface of this package."""
     try:
         library = ctypes.CDLL(os.path.abspath(path))
-        calls = {name: getattr(library, name) for name in _PROTOTYPES}
-    except (OSError, AttributeError) as error:
-        raise ImportError("%s is not a Bellpulsar library that can be loaded: %s" % (path, error)) from None
-    for name, arguments in _PROTOTYPES.items():
-        calls[name].argtypes = arguments
-        calls[name].restype = _length if name.endswith("_len") else uint
-    return calls
+    except OSError as error:
+        raise _unfit(path, error) from None
+    told = _call(library, path, "bp_version")() // 10000
+    if told != VERSION:
+        raise _unfit(path, "its interface is version %d, and version %d is needed" % (told, VERSION))
+    return {name: _call(library, path, name) for name in _PROTOTYPES}
 
 
 class _Engine:
@@ -91,7 +129,7 @@ class _Engine:
 
     is_current = False  # whether the library is known not to be old
 
-    def __getattr__(self, name):
+    def __getattr__(self, name: str) -> Any:
         if name not in _PROTOTYPES:
             raise AttributeError(name)
         vars(self).update(_load(_path(self.is_current)))
@@ -103,22 +141,22 @@ engine = _Engine()
 _MOST = 2**32 - 1
 
 
-def _number(value):
+def _number(value: Int) -> int:
     """As the engine takes it: what 32 bits do not hold becomes their largest, which every question refuses."""
     value = operator.index(value)
     return value if 0 <= value <= _MOST else _MOST
 
 
-def numbers(*values):
+def numbers(*values: Int) -> List[int]:
     return [_number(value) for value in values]
 
 
-def signed(value):
+def signed(value: Int) -> int:
     """A carrier as the engine takes it: what 32 bits do not hold becomes the nearest that they do, which is refused."""
     return max(-(2**31), min(operator.index(value), 2**31 - 1))
 
 
-def counted(value):
+def counted(value: Int) -> int:
     """A count of carriers as the engine takes it, which puts no question about it: what 32 bits do not hold becomes
     their largest, which is past every grid's end. A negative number is no count, and nothing would refuse it there."""
     value = operator.index(value)
