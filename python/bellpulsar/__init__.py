@@ -1,6 +1,6 @@
 """Bellpulsar from Python: the subcarrier map of IEEE 802.16e OFDMA, proved.
 
-A first example (`PYTHONPATH=python python3` at the repository's root, after ./build.sh):
+A first example (after `pip install .`; or in a clone, after ./build.sh, with PYTHONPATH=python):
 
     >>> import bellpulsar
     >>> bellpulsar.place(mode=2, size=1024, cell=17, slot=0, subchannel=0, index=0)
@@ -41,6 +41,15 @@ the grid's start. Called again with a larger count, it leaves what the last call
     >>> arrived == points
     True
 
+`slot_places` tells where all of them stand in a slot's grid, for a table that is kept and copied through:
+
+    >>> places = bellpulsar.slot_places(2, 1024, 17, 0)
+    >>> all(grid[2 * place] == points[2 * n] for n, place in enumerate(places))
+    True
+
+bellpulsar.arrays, which needs numpy, has the same as an array to index a grid with, and fills and empties with arrays
+of complex64.
+
 `fill` makes both moves, with the points of a whole slot. A sector of PUSC downlink that lights only some of the six
 major groups gives a mask, bit g for group g. Here groups 0 and 1 are lit, which have subchannels 0 to 19:
 
@@ -71,7 +80,7 @@ burst at most, its owner:
         ...
     bellpulsar.Refusal: refused 19: burst 2 is 49,1,5,7: it overlaps burst 1, which is 20,30,0,6
 
-Modes and their ranges; N is size / 64:
+Modes and their ranges; N is size / 64. A mode is its number, or the Mode of that name, which counts as it:
 
     mode                    size                    cell        mask   subchannels  symbols a slot
     0 PUSC_DL PUSC downlink 2048                    0..31       1..63  60           2
@@ -110,14 +119,17 @@ import ctypes
 import enum
 import itertools
 import operator
-from typing import NamedTuple, Optional, Tuple
+from array import array
+from typing import TYPE_CHECKING, Any, Dict, Iterable, List, NamedTuple, Optional, Tuple
 
 from . import refusals
-from .buffers import BYTE, FLOAT, apart, lent, pilot_point
-from .library import Hits, Owners, Pair, Zones, counted, engine, int32, numbers, signed, uint
+from .buffers import BYTE, FLOAT, Buffer, Lent, Pilot, apart, lent, pilot_point
+from .library import Hits, Int, Mask, Owners, Pair, Places, Zones, counted, engine, int32, numbers, signed, uint
 from .refusals import QUESTIONS
+from .version import __version__ as __version__
 
 __all__ = [
+    "Mode",
     "PUSC_DL",
     "PUSC_UL",
     "OFUSC",
@@ -140,6 +152,8 @@ __all__ = [
     "Owner",
     "place",
     "locate",
+    "places",
+    "slot_places",
     "points_len",
     "lit_points_len",
     "grid_len",
@@ -159,8 +173,34 @@ __all__ = [
     "burst_owners",
 ]
 
-PUSC_DL, PUSC_UL, OFUSC = 0, 1, 2
-AMC, AMC_2X3, AMC_3X2, AMC_1X6 = 3, 4, 5, 6
+Fours = Iterable[Iterable[Int]]  # zones or bursts
+if TYPE_CHECKING:
+    Row = array[int]
+else:
+    Row = array  # which takes no parameter before Python 3.12
+
+
+class Mode(enum.IntEnum):
+    """The modes by name. A member counts as its number, and prints as it."""
+
+    PUSC_DL = 0
+    PUSC_UL = 1
+    OFUSC = 2
+    AMC_6X1 = 3
+    AMC_2X3 = 4
+    AMC_3X2 = 5
+    AMC_1X6 = 6
+    AMC = AMC_6X1
+
+    __str__ = int.__repr__  # before Python 3.11 it would be the name
+
+    @property
+    def word(self) -> str:
+        """The name on the command line, as amc-2x3."""
+        return self.name.lower().replace("_", "-")
+
+
+PUSC_DL, PUSC_UL, OFUSC, AMC, AMC_2X3, AMC_3X2, AMC_1X6 = map(int, Mode)
 ALL_GROUPS = 0b111111  # the mask of mode 0 that lights every major group
 
 
@@ -168,17 +208,17 @@ class Refusal(Exception):
     """The engine refused a request: `number` and `question` are those of document 01, `words` say what was asked, the
     value given and what would be accepted."""
 
-    def __init__(self, number, words):
+    def __init__(self, number: int, words: str) -> None:
         super().__init__(number, words)
         self.number = number
         self.question = QUESTIONS[number]
         self.words = words
 
-    def __str__(self):
+    def __str__(self) -> str:
         return "refused %d: %s" % (self.number, self.words)
 
 
-def _refusal(number, **asked):
+def _refusal(number: int, **asked: Any) -> Refusal:
     """Of a request's fields as they were given; a length is a pair, that given and the right one, and what is lit is a
     row of subchannels."""
     asked = {name: value if isinstance(value, tuple) else operator.index(value) for name, value in asked.items()}
@@ -212,7 +252,7 @@ class Located(NamedTuple):
     kind: Kind
     slot: Optional[int] = None
     subchannel: Optional[int] = None
-    index: Optional[int] = None
+    index: Optional[int] = None  # type: ignore[assignment]  # a tuple has one of its own
 
 
 class Point(NamedTuple):
@@ -229,14 +269,14 @@ class Seen(NamedTuple):
     point: Optional[Point] = None
     slot: Optional[int] = None
     subchannel: Optional[int] = None
-    index: Optional[int] = None
+    index: Optional[int] = None  # type: ignore[assignment]  # a tuple has one of its own
 
 
 class Collisions(NamedTuple):
     """48 marks, True where the two collide, and how many are."""
 
     hits: Tuple[bool, ...]
-    count: int
+    count: int  # type: ignore[assignment]  # a tuple has one of its own
 
 
 class Zone(NamedTuple):
@@ -277,7 +317,7 @@ class Owner(NamedTuple):
 # --- the map ----------------------------------------------------------------------------------
 
 
-def place(mode, size, cell, slot, subchannel, index):
+def place(mode: Int, size: Int, cell: Int, slot: Int, subchannel: Int, index: Int) -> Place:
     """Where point `index` of a subchannel lies, as Place(symbol, carrier). Refusals 1, 2, 3, 4, 5, 6."""
     symbol, carrier = uint(), int32()
     refused = engine.bp_place(*numbers(mode, size, cell, slot, subchannel, index), symbol, carrier)
@@ -289,7 +329,7 @@ def place(mode, size, cell, slot, subchannel, index):
 _KINDS = (Kind.GUARD, Kind.DC, Kind.PILOT, Kind.DATA)
 
 
-def locate(mode, size, cell, symbol, carrier):
+def locate(mode: Int, size: Int, cell: Int, symbol: Int, carrier: Int) -> Located:
     """What a carrier is in a symbol of the zone, as Located(kind, slot, subchannel, index). Refusals 1, 2, 3, 4, 7.
 
     kind is Kind.GUARD, Kind.DC, Kind.PILOT or Kind.DATA; the other three are None unless it is Kind.DATA.
@@ -307,43 +347,79 @@ def locate(mode, size, cell, symbol, carrier):
 # --- grids ------------------------------------------------------------------------------------
 
 
-def _mask(mode, mask):
+def _mask(mode: Int, mask: Mask) -> Int:
     """As it is given, or the one that lights all."""
     if mask is not None:
         return mask
     return ALL_GROUPS if operator.index(mode) == PUSC_DL else 0
 
 
-def points_len(mode, size):
+def points_len(mode: Int, size: Int) -> int:
     """The floats of a slot's points where all is lit, 96 for each subchannel; 0 for a mode and size that the map does
     not have."""
-    return engine.bp_points_len(*numbers(mode, size))
+    return int(engine.bp_points_len(*numbers(mode, size)))
 
 
-def lit_points_len(mode, size, mask=None):
+def lit_points_len(mode: Int, size: Int, mask: Mask = None) -> int:
     """The floats of a slot's points under a mask, 96 for each lit subchannel; 0 for a mode and size that the map does
     not have, and for a mask that is not of that mode."""
-    return engine.bp_lit_points_len(*numbers(mode, size, _mask(mode, mask)))
+    return int(engine.bp_lit_points_len(*numbers(mode, size, _mask(mode, mask))))
 
 
-def grid_len(mode, size):
+def grid_len(mode: Int, size: Int) -> int:
     """The floats of a slot's grid, 2 for each carrier of each of its symbols; 0 for a mode and size that the map does
     not have."""
-    return engine.bp_grid_len(*numbers(mode, size))
+    return int(engine.bp_grid_len(*numbers(mode, size)))
 
 
 _SUBCHANNEL_LEN = 2 * refusals.POINTS  # the floats of one subchannel's points
 _UNLIT = 5  # what a lay answers for a subchannel that is out of range or unlit
+_NO_GRID = 9  # what a ground of no floats comes to where all its other fields are in range
 
 
-def _lit(mode, size, mask):
+def _lit(mode: Int, size: Int, mask: Int) -> Tuple[int, ...]:
     """The subchannels that are lit: of these, and no others, a lay of no floats comes to the question about them."""
     fields, none = numbers(mode, size, 0, mask, 0), (None, 0, None, 0)
     every = range(points_len(mode, size) // _SUBCHANNEL_LEN)
     return tuple(subchannel for subchannel in every if engine.bp_lay(*fields, subchannel, *none) != _UNLIT)
 
 
-def ground(mode, size, cell, slot, pilot, grid, *, mask=None):
+def _asked_of_slot(fields: List[int]) -> int:
+    """The first question about mode, size, cell, mask and slot that is answered no, or 0. The engine is asked for a
+    ground of no floats, which it refuses, by 9 at the latest: so nothing is written."""
+    refused = int(engine.bp_ground(*fields, Pair(), None, 0))
+    return 0 if refused == _NO_GRID else refused
+
+
+def places(mode: Int, size: Int, cell: Int, slot: Int, subchannel: Int) -> Row:
+    """Where the 48 points of a subchannel stand in a slot's grid, by index, as array('I'). Refusals 1, 2, 3, 4, 5.
+
+    A place counts points: it is offset * size + size // 2 + carrier, for the symbol's offset in the slot. So the floats
+    of its point are at 2 * place and the one after; in an array of complex numbers the point is at place.
+    The row serves every slot whose pilots are on the same carriers: all slots in modes 0, 1, 4 and 6, those that agree
+    mod 3 in modes 2, 3 and 5.
+    """
+    row = array("I", bytes(ctypes.sizeof(Places)))
+    refused = engine.bp_places(*numbers(mode, size, cell, slot, subchannel), Places.from_buffer(row))
+    if refused:
+        raise _refusal(refused, mode=mode, size=size, cell=cell, slot=slot, subchannel=subchannel)
+    return row
+
+
+def slot_places(mode: Int, size: Int, cell: Int, slot: Int, *, mask: Mask = None) -> Row:
+    """`places` of every lit subchannel, one after the other, as a slot's points are: point n of `empty` is the one that
+    stands at place n of these. Refusals 1, 2, 3, 17, 4."""
+    mask = _mask(mode, mask)
+    refused = _asked_of_slot(numbers(mode, size, cell, mask, slot))
+    if refused:
+        raise _refusal(refused, mode=mode, size=size, cell=cell, mask=mask, slot=slot)
+    rows = array("I")
+    for subchannel in _lit(mode, size, mask):
+        rows.extend(places(mode, size, cell, slot, subchannel))
+    return rows
+
+
+def ground(mode: Int, size: Int, cell: Int, slot: Int, pilot: Pilot, grid: Buffer, *, mask: Mask = None) -> None:
     """Lays the ground of a slot's grid, the first move of filling it. Refusals 1, 2, 3, 17, 4, 9.
 
     The whole grid is written: the pilot point on lit pilots, 0.0 on every other carrier, data carriers too.
@@ -354,15 +430,17 @@ def ground(mode, size, cell, slot, pilot, grid, *, mask=None):
     symbol with this offset in the slot is at 2 * (offset * size + size // 2 + carrier).
     """
     mask = _mask(mode, mask)
-    fields, pilot = numbers(mode, size, cell, mask, slot), pilot_point(pilot)
+    fields, point = numbers(mode, size, cell, mask, slot), pilot_point(pilot)
     with lent(grid, "grid", FLOAT, writable=True) as target:
-        refused = engine.bp_ground(*fields, pilot, target.address, target.length)
+        refused = engine.bp_ground(*fields, point, target.address, target.length)
     if refused:
         lengths = (target.length, grid_len(mode, size))
         raise _refusal(refused, mode=mode, size=size, cell=cell, mask=mask, slot=slot, grid=lengths)
 
 
-def lay(mode, size, cell, slot, subchannel, points, grid, *, mask=None):
+def lay(
+    mode: Int, size: Int, cell: Int, slot: Int, subchannel: Int, points: Buffer, grid: Buffer, *, mask: Mask = None
+) -> None:
     """Lays the points of one lit subchannel on a slot's grid, the second move of filling it.
 
     No other float of the grid is written. Subchannels may be laid in any order, and again: the last time counts. Bits
@@ -385,7 +463,9 @@ def lay(mode, size, cell, slot, subchannel, points, grid, *, mask=None):
         raise _refusal(refused, **of, **lengths, lit=_lit(mode, size, mask))
 
 
-def _slot_refusal(refused, mode, size, cell, mask, slot, points, grid):
+def _slot_refusal(
+    refused: int, mode: Int, size: Int, cell: Int, mask: Int, slot: Int, points: Lent, grid: Lent
+) -> Refusal:
     """Of fill, empty and empty_first, which have all points of a slot."""
     lengths = {
         "points": (points.length, lit_points_len(mode, size, mask)),
@@ -394,19 +474,20 @@ def _slot_refusal(refused, mode, size, cell, mask, slot, points, grid):
     return _refusal(refused, mode=mode, size=size, cell=cell, mask=mask, slot=slot, **lengths)
 
 
-def _fill_refusal(fields, pilot, points, grid):
-    """The first of fill's questions that is answered no, or 0. The engine is asked for a ground of no floats, which it
-    refuses, by 9 at the latest: so nothing is written."""
+def _fill_refusal(fields: List[int], points: Lent, grid: Lent) -> int:
+    """The first of fill's questions that is answered no, or 0."""
     mode, size, _, mask, _ = fields
-    refused = engine.bp_ground(*fields, pilot, grid.address, 0)
-    if refused != 9:
+    refused = _asked_of_slot(fields)
+    if refused:
         return refused
     if points.length != engine.bp_lit_points_len(mode, size, mask):
         return 8
     return 9 if grid.length != engine.bp_grid_len(mode, size) else 0
 
 
-def fill(mode, size, cell, slot, pilot, points, grid, *, mask=None):
+def fill(
+    mode: Int, size: Int, cell: Int, slot: Int, pilot: Pilot, points: Buffer, grid: Buffer, *, mask: Mask = None
+) -> None:
     """`ground`, and then `lay` for each lit subchannel. Refusals 1, 2, 3, 17, 4, 8, 9.
 
     A convenience of this package: the engine has the two moves only. Every question is put before the first of them.
@@ -415,13 +496,13 @@ def fill(mode, size, cell, slot, pilot, points, grid, *, mask=None):
     pilot, grid: as in `ground`.
     """
     mask = _mask(mode, mask)
-    fields, pilot = numbers(mode, size, cell, mask, slot), pilot_point(pilot)
+    fields, point = numbers(mode, size, cell, mask, slot), pilot_point(pilot)
     with lent(points, "points", FLOAT) as source, lent(grid, "grid", FLOAT, writable=True) as target:
         apart(source, target)
-        refused = _fill_refusal(fields, pilot, source, target)
+        refused = _fill_refusal(fields, source, target)
         if refused:
             raise _slot_refusal(refused, mode, size, cell, mask, slot, source, target)
-        engine.bp_ground(*fields, pilot, target.address, target.length)
+        engine.bp_ground(*fields, point, target.address, target.length)
         subchannel, own = 0, source.address
         while own < source.end:
             laid = engine.bp_lay(*fields, subchannel, own, _SUBCHANNEL_LEN, target.address, target.length)
@@ -429,7 +510,7 @@ def fill(mode, size, cell, slot, pilot, points, grid, *, mask=None):
             subchannel += 1
 
 
-def empty(mode, size, cell, slot, grid, points, *, mask=None):
+def empty(mode: Int, size: Int, cell: Int, slot: Int, grid: Buffer, points: Buffer, *, mask: Mask = None) -> None:
     """Takes the points of a slot's lit subchannels off its grid, into `points`. Refusals 1, 2, 3, 17, 4, 8, 9.
 
     All points are written; only lit data carriers are read. Both buffers are as in `fill`.
@@ -443,7 +524,9 @@ def empty(mode, size, cell, slot, grid, points, *, mask=None):
             raise _slot_refusal(refused, mode, size, cell, mask, slot, target, source)
 
 
-def empty_first(mode, size, cell, slot, carriers, grid, points, *, mask=None):
+def empty_first(
+    mode: Int, size: Int, cell: Int, slot: Int, carriers: Int, grid: Buffer, points: Buffer, *, mask: Mask = None
+) -> None:
     """Takes the points off the first `carriers` carriers of a slot's grid alone. Refusals 1, 2, 3, 17, 4, 8, 9.
 
     They count from the grid's start, symbol after symbol, each by rising carrier, guards, DC and pilots too; a count
@@ -465,7 +548,7 @@ def empty_first(mode, size, cell, slot, carriers, grid, points, *, mask=None):
 _SEEN = {0: Kind.NOTHING, 2: Kind.PILOT, 3: Kind.DATA}
 
 
-def look(mode, size, cell, symbol, grid, carrier, *, mask=None):
+def look(mode: Int, size: Int, cell: Int, symbol: Int, grid: Buffer, carrier: Int, *, mask: Mask = None) -> Seen:
     """What the grid of the symbol's slot holds on a carrier, as Seen(kind, point, slot, subchannel, index).
 
     kind is Kind.NOTHING (guard, DC, or a pilot or data carrier that is unlit, whatever the grid holds there),
@@ -491,7 +574,7 @@ def look(mode, size, cell, symbol, grid, carrier, *, mask=None):
 # --- collisions -------------------------------------------------------------------------------
 
 
-def _collisions(call, fields, **mode):
+def _collisions(call: Any, fields: Dict[str, Int], **mode: Int) -> Collisions:
     hits, count = Hits(), uint()
     refused = call(*numbers(*fields.values()), hits, count)
     if refused:
@@ -499,7 +582,7 @@ def _collisions(call, fields, **mode):
     return Collisions(tuple(hit != 0 for hit in hits), count.value)
 
 
-def ofusc_collisions(size, cell_a, subchannel_a, cell_b, subchannel_b):
+def ofusc_collisions(size: Int, cell_a: Int, subchannel_a: Int, cell_b: Int, subchannel_b: Int) -> Collisions:
     """Optional FUSC: in which groups the two subchannels are on one carrier, as Collisions(hits, count).
 
     hits[k] is group k, the data numbers N*k to N*k+N-1 of a symbol; every symbol has the same answer.
@@ -509,7 +592,7 @@ def ofusc_collisions(size, cell_a, subchannel_a, cell_b, subchannel_b):
     return _collisions(engine.bp_ofusc_collisions, {"size": size, **fields}, mode=OFUSC)
 
 
-def amc_collisions(cell_a, cell_b):
+def amc_collisions(cell_a: Int, cell_b: Int) -> Collisions:
     """AMC: which indices both cells put on one carrier of one symbol, as Collisions(hits, count); hits[j] is index j.
 
     The answer is the same in every shape (modes 3 to 6), size, slot and subchannel. Refusals 3 (cell_a), 3 (cell_b).
@@ -523,22 +606,22 @@ _PLACES = 8  # the zones of a plan
 _DECIDE = 128  # bytes: what follows them changes no answer
 
 
-def plan_read(data):
+def plan_read(data: Buffer) -> Plan:
     """The zone plan that the bytes are, as Plan(size, zones). Refusals 10, 11, 12, 2, 1, 3, 13, 17, 14, 15.
 
     data: any contiguous buffer of bytes. zones has as many Zone(mode, cell, slots, mask) as the plan counts.
     """
-    count, size, places = uint(), uint(), Zones()
+    count, size, row = uint(), uint(), Zones()
     with lent(data, "data", BYTE) as memory:
-        refused = engine.bp_zone_plan_read(memory.address, memory.length, count, size, places)
+        refused = engine.bp_zone_plan_read(memory.address, memory.length, count, size, row)
         if refused:
             start = ctypes.string_at(memory.address, min(memory.length, _DECIDE))
             raise Refusal(refused, refusals.read_words(refused, start, memory.length))
-    zones = [Zone(*places[at : at + 4]) for at in range(0, 4 * count.value, 4)]
+    zones = [Zone(*row[at : at + 4]) for at in range(0, 4 * count.value, 4)]
     return Plan(size.value, tuple(zones))
 
 
-def _zone(zone):
+def _zone(zone: Iterable[Int]) -> Tuple[int, int, int, int]:
     """The four numbers of a place of a plan."""
     try:
         mode, cell, slots, mask = zone
@@ -548,7 +631,7 @@ def _zone(zone):
     return operator.index(mode), operator.index(cell), operator.index(slots), operator.index(mask)
 
 
-def plan_write(count, size, zones, dest):
+def plan_write(count: Int, size: Int, zones: Fours, dest: Buffer) -> int:
     """Writes a plan's bytes at the start of `dest` and returns how many they are; further bytes stay as they are.
 
     zones: all eight places of the plan, four numbers each (mode, cell, slots, mask); those past the count are to be
@@ -557,14 +640,14 @@ def plan_write(count, size, zones, dest):
     `plan_bytes` is the same without count, unused places and destination.
     """
     count, size = operator.index(count), operator.index(size)
-    zones = [_zone(zone) for zone in zones]
-    if len(zones) != _PLACES:
-        raise ValueError("zones: eight places are needed, not %d" % len(zones))
-    places, written = Zones(*numbers(*itertools.chain(*zones))), uint()
+    rows = [_zone(zone) for zone in zones]
+    if len(rows) != _PLACES:
+        raise ValueError("zones: eight places are needed, not %d" % len(rows))
+    row, written = Zones(*numbers(*itertools.chain(*rows))), uint()
     with lent(dest, "dest", BYTE, writable=True) as memory:
-        refused = engine.bp_zone_plan_write(*numbers(count, size), places, memory.address, memory.length, written)
+        refused = engine.bp_zone_plan_write(*numbers(count, size), row, memory.address, memory.length, written)
     if refused:
-        raise Refusal(refused, refusals.write_words(refused, count, size, zones, memory.length))
+        raise Refusal(refused, refusals.write_words(refused, count, size, rows, memory.length))
     return written.value
 
 
@@ -572,15 +655,14 @@ _UNUSED = Zone(0, 0, 0, 0)
 _LONGEST = 3 * (2 + 4 * _PLACES)  # bytes: a value takes three at most
 
 
-def plan_bytes(size, zones):
+def plan_bytes(size: Int, zones: Fours) -> bytes:
     """A plan's bytes: `plan_bytes(*plan_read(data))` is data. Refusals 12, 2, for each zone 1, 2, 3, 13, 17, 14.
 
     zones: Zone(mode, cell, slots, mask), or any four numbers, for each zone; none at all and more than eight are
     refused (12).
     """
-    zones = list(zones)
-    dest = bytearray(_LONGEST)
-    written = plan_write(len(zones), size, (zones + [_UNUSED] * _PLACES)[:_PLACES], dest)
+    given, dest = list(zones), bytearray(_LONGEST)
+    written = plan_write(len(given), size, (given + [_UNUSED] * _PLACES)[:_PLACES], dest)
     return bytes(dest[:written])
 
 
@@ -589,7 +671,7 @@ def plan_bytes(size, zones):
 _NO_BURST = 64  # in place of a position
 
 
-def _burst(burst):
+def _burst(burst: Iterable[Int]) -> Tuple[int, ...]:
     """The numbers of a burst, which are to be four."""
     try:
         return tuple(map(operator.index, burst))
@@ -598,32 +680,42 @@ def _burst(burst):
         raise TypeError(needed % (burst,)) from None
 
 
-def _in_a_row(bursts):
+def _in_a_row(bursts: List[Tuple[int, ...]]) -> ctypes.Array[uint]:
     """A list as the engine takes it. One that is not of four numbers each goes as a single number, which is refused in
     its turn: a burst of three beside one of five would pass for two of four."""
     row = list(itertools.chain(*bursts)) if all(len(burst) == 4 for burst in bursts) else [0]
     return (uint * len(row))(*numbers(*row))
 
 
-def _ask_of_bursts(call, mode, size, cell, slots, mask, bursts, *answer, **asked):
+def _ask_of_bursts(
+    call: Any,
+    mode: Int,
+    size: Int,
+    cell: Int,
+    slots: Int,
+    mask: Mask,
+    bursts: Fours,
+    *answer: Any,
+    **asked: Int,
+) -> None:
     """Puts a call's questions, of which `asked` are those of its own fields; its answer is written where it is
     accepted."""
     mask = _mask(mode, mask)
     fields = numbers(mode, size, cell, slots, mask, *asked.values())
-    bursts = [_burst(burst) for burst in bursts]
-    row = _in_a_row(bursts)
+    every = [_burst(burst) for burst in bursts]
+    row = _in_a_row(every)
     refused = call(*fields, row, len(row), *answer)
     if refused:
         size, *zone = map(operator.index, (size, mode, cell, slots, mask))
         asked = {name: operator.index(value) for name, value in asked.items()}
-        raise Refusal(refused, refusals.burst_words(refused, size, zone, bursts, asked))
+        raise Refusal(refused, refusals.burst_words(refused, size, zone, every, asked))
 
 
-def _position(owner):
+def _position(owner: int) -> Optional[int]:
     return None if owner == _NO_BURST else owner
 
 
-def bursts_check(mode, size, cell, slots, bursts, *, mask=None):
+def bursts_check(mode: Int, size: Int, cell: Int, slots: Int, bursts: Fours, *, mask: Mask = None) -> None:
     """Is a list of bursts fit for its zone? Refusals 1, 2, 3, 13, 17, 18 (the list's length), for each burst 18, 19.
 
     slots: how many the zone has. mode: one that a plan's zone may have, 0 or 2 to 6.
@@ -636,7 +728,9 @@ def bursts_check(mode, size, cell, slots, bursts, *, mask=None):
     _ask_of_bursts(engine.bp_bursts_check, mode, size, cell, slots, mask, bursts)
 
 
-def burst_owner(mode, size, cell, slots, slot, subchannel, bursts, *, mask=None):
+def burst_owner(
+    mode: Int, size: Int, cell: Int, slots: Int, slot: Int, subchannel: Int, bursts: Fours, *, mask: Mask = None
+) -> Owner:
     """The burst that a subchannel in a slot belongs to, as Owner(burst, looked).
 
     burst is its position in the list, or None; looked is how many bursts were looked at to find it, its position + 1,
@@ -649,7 +743,9 @@ def burst_owner(mode, size, cell, slots, slot, subchannel, bursts, *, mask=None)
     return Owner(_position(owner.value), looked.value)
 
 
-def burst_owners(mode, size, cell, slots, slot, bursts, *, mask=None):
+def burst_owners(
+    mode: Int, size: Int, cell: Int, slots: Int, slot: Int, bursts: Fours, *, mask: Mask = None
+) -> Tuple[Optional[int], ...]:
     """The bursts that all subchannels of one slot belong to: a tuple of 192 positions, None where there is no burst and
     past the mode's last subchannel. Refusals 1, 2, 3, 13, 17, 4, then 18 and 19 as in `bursts_check`."""
     owners = Owners()

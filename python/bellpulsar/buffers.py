@@ -5,9 +5,12 @@ import contextlib
 import ctypes
 import struct
 import sys
-from typing import NamedTuple, Tuple
+from typing import Any, Iterator, NamedTuple, Sequence, Tuple, Union
 
 from .library import Pair
+
+Buffer = Any  # what lends its memory: Python has no type for that before 3.12
+Pilot = Union[complex, Sequence[float], Buffer]
 
 
 class _Held(ctypes.Structure):
@@ -49,7 +52,7 @@ BYTE = _Element("bytes", 1, ("B", "b", "c"))
 _NATIVE = "@=<" if sys.byteorder == "little" else "@=>"
 
 
-def _check(view, name, element, writable):
+def _check(view: memoryview, name: str, element: _Element, writable: bool) -> None:
     """Of a buffer, all that the engine cannot see but its address."""
     if view.format.lstrip(_NATIVE) not in element.formats:
         raise TypeError("%s: a buffer of %s is needed, not of format %r" % (name, element.name, view.format))
@@ -59,14 +62,14 @@ def _check(view, name, element, writable):
         raise BufferError("%s: the buffer is read-only" % name)
 
 
-def _view(buffer, name, element):
+def _view(buffer: Buffer, name: str, element: _Element) -> memoryview:
     try:
         return memoryview(buffer)
     except TypeError:
         raise TypeError("%s: a buffer of %s is needed, not %s" % (name, element.name, type(buffer).__name__)) from None
 
 
-class _Lent(NamedTuple):
+class Lent(NamedTuple):
     """A buffer's memory while it is lent; the length counts elements, `end` is the address past it."""
 
     address: int
@@ -75,7 +78,7 @@ class _Lent(NamedTuple):
 
 
 @contextlib.contextmanager
-def lent(buffer, name, element, writable=False):
+def lent(buffer: Buffer, name: str, element: _Element, writable: bool = False) -> Iterator[Lent]:
     """Lends a buffer's own memory for one call, so that it neither moves nor goes away meanwhile."""
     with _view(buffer, name, element) as view:
         _check(view, name, element, writable)
@@ -85,17 +88,17 @@ def lent(buffer, name, element, writable=False):
             address = held.buf or 0
             if view.nbytes and address % element.bytes:
                 raise ValueError("%s: the buffer is not aligned to its elements" % name)
-            yield _Lent(address, view.nbytes // element.bytes, address + view.nbytes)
+            yield Lent(address, view.nbytes // element.bytes, address + view.nbytes)
         finally:
             _let_go(held)
 
 
-def apart(points, grid):
+def apart(points: Lent, grid: Lent) -> None:
     if max(points.address, grid.address) < min(points.end, grid.end):
         raise ValueError("points and grid overlap")
 
 
-def _rounded(pair):
+def _rounded(pair: Sequence[float]) -> ctypes.Array[ctypes.c_float]:
     """Two numbers as 32-bit floats."""
     if len(pair) != 2:
         raise ValueError("pilot: two numbers are needed, not %d" % len(pair))
@@ -107,7 +110,7 @@ def _rounded(pair):
         raise TypeError("pilot: two numbers are needed, not %r" % (pair,)) from None
 
 
-def pilot_point(pilot):
+def pilot_point(pilot: Pilot) -> ctypes.Array[ctypes.c_float]:
     """The pilot point's own two floats, bit for bit where it is a buffer."""
     if isinstance(pilot, complex):
         return _rounded((pilot.real, pilot.imag))

@@ -4,7 +4,11 @@ The engine alone judges a request. What stands here only explains the number tha
 explain, the words are those of document 01's question.
 """
 
-from typing import Callable, NamedTuple, Sequence, Tuple
+from typing import Any, Callable, Dict, List, Mapping, NamedTuple, Optional, Sequence, Tuple
+
+Words = Optional[str]  # nothing where there is nothing to explain
+Asked = Mapping[str, Any]  # a request's fields by name
+Numbers = Sequence[int]  # of a zone or of a burst
 
 # The questions of document 01, by number.
 QUESTIONS = {
@@ -39,8 +43,8 @@ AMC_MODES = range(3, 7)
 ALL_LIT = (0,)  # the masks of a mode that has no major groups
 
 
-class Mode(NamedTuple):
-    """Numbers of cells and subchannels are given by N, which is size / 64."""
+class Ranges(NamedTuple):
+    """A mode's. Numbers of cells and subchannels are given by N, which is size / 64."""
 
     name: str
     sizes: Tuple[int, ...]
@@ -50,15 +54,15 @@ class Mode(NamedTuple):
     masks: Sequence[int] = ALL_LIT
 
 
-def amc(bins, symbols):
+def amc(bins: int, symbols: int) -> Ranges:
     """AMC in a slot of this shape. A symbol has 6 * N bins."""
-    return Mode("AMC %dx%d" % (bins, symbols), SIZES, lambda n: AMC_CELLS, lambda n: 6 * n // bins, symbols)
+    return Ranges("AMC %dx%d" % (bins, symbols), SIZES, lambda n: AMC_CELLS, lambda n: 6 * n // bins, symbols)
 
 
 MODES = (
-    Mode("PUSC downlink", (2048,), lambda n: 32, lambda n: 60, 2, range(1, 64)),
-    Mode("PUSC uplink", (2048,), lambda n: 70, lambda n: 70, 3),
-    Mode("optional FUSC", SIZES, lambda n: n * n, lambda n: n, 1),
+    Ranges("PUSC downlink", (2048,), lambda n: 32, lambda n: 60, 2, range(1, 64)),
+    Ranges("PUSC uplink", (2048,), lambda n: 70, lambda n: 70, 3),
+    Ranges("optional FUSC", SIZES, lambda n: n * n, lambda n: n, 1),
     amc(6, 1),
     amc(2, 3),
     amc(3, 2),
@@ -70,7 +74,7 @@ PLAN_SLOTS = range(1, SLOTS + 1)
 BURSTS = 64  # of a list, at most
 
 
-def carriers_of(size):
+def carriers_of(size: int) -> range:
     """Of a symbol, by rising frequency; DC is 0."""
     return range(-(size // 2), size // 2)
 
@@ -78,37 +82,38 @@ def carriers_of(size):
 # --- words ------------------------------------------------------------------------------------
 
 
-def shown(value):
+def shown(value: int) -> str:
     return str(value) if abs(value) < 10**20 else "of more than 20 digits"
 
 
-def accepted_values(values):
+def accepted_values(values: Sequence[int]) -> str:
     if isinstance(values, range) and values[0] != values[-1]:
         return "%d to %d" % (values[0], values[-1])
     return ", ".join(map(str, values))
 
 
-def not_one_of(field, value, whose, values):
+def not_one_of(field: str, value: int, whose: str, values: Sequence[int]) -> Words:
     """The words, or nothing where the value would be accepted."""
     if value not in values:
         return "%s %s is not one of %s: %s" % (field, shown(value), whose, accepted_values(values))
+    return None
 
 
-def by_size(mode, size, count):
+def by_size(mode: int, size: int, count: Callable[[int], int]) -> str:
     """Whose a range is that goes by the mode, or by its size too."""
     whose = "mode %d's" % mode
     return whose if count(4) == count(32) else "%s at size %d" % (whose, size)
 
 
-def mode_words(field, asked):
+def mode_words(field: str, asked: Asked) -> Words:
     return not_one_of(field, asked[field], "the map's", range(len(MODES)))
 
 
-def size_words(field, asked):
+def size_words(field: str, asked: Asked) -> Words:
     return not_one_of(field, asked[field], "mode %d's" % asked["mode"], MODES[asked["mode"]].sizes)
 
 
-def cell_words(field, asked):
+def cell_words(field: str, asked: Asked) -> Words:
     if "mode" not in asked:  # AMC's collisions, the same in all its modes and sizes
         return not_one_of(field, asked[field], "AMC's", range(AMC_CELLS))
     mode, size = asked["mode"], asked["size"]
@@ -116,55 +121,56 @@ def cell_words(field, asked):
     return not_one_of(field, asked[field], by_size(mode, size, count), range(count(size // 64)))
 
 
-def mask_words(field, asked):
+def mask_words(field: str, asked: Asked) -> Words:
     return not_one_of(field, asked[field], "mode %d's" % asked["mode"], MODES[asked["mode"]].masks)
 
 
-def slot_words(field, asked):
+def slot_words(field: str, asked: Asked) -> Words:
     return not_one_of(field, asked[field], "a zone's", range(SLOTS))
 
 
-def symbol_words(field, asked):
+def symbol_words(field: str, asked: Asked) -> Words:
     mode = asked["mode"]
     return not_one_of(field, asked[field], "mode %d's" % mode, range(SLOTS * MODES[mode].symbols))
 
 
-def subchannels_of(mode, size):
+def subchannels_of(mode: int, size: int) -> Tuple[str, range]:
     """Whose they are, and all of them."""
     count = MODES[mode].subchannels
     return by_size(mode, size, count), range(count(size // 64))
 
 
-def subchannel_words(field, asked):
+def subchannel_words(field: str, asked: Asked) -> Words:
     told = not_one_of(field, asked[field], *subchannels_of(asked["mode"], asked["size"]))
     return told or unlit_words(asked)
 
 
-def runs(numbers):
+def runs(numbers: Numbers) -> List[range]:
     """Of rising numbers, a range for each run without a gap."""
     firsts = [number for number in numbers if number - 1 not in numbers]
     lasts = [number for number in numbers if number + 1 not in numbers]
     return [range(first, last + 1) for first, last in zip(firsts, lasts)]
 
 
-def unlit_words(asked):
+def unlit_words(asked: Asked) -> Words:
     """Of a lay, which has the subchannels that are lit."""
     if "lit" in asked and asked["subchannel"] not in asked["lit"]:
         accepted = ", ".join(map(accepted_values, runs(asked["lit"])))
         told = (asked["subchannel"], asked["mask"], accepted)
         return "subchannel %d is not one of those that mask %d lights: %s" % told
+    return None
 
 
-def index_words(field, asked):
+def index_words(field: str, asked: Asked) -> Words:
     return not_one_of(field, asked[field], "a subchannel's", range(POINTS))
 
 
-def carrier_words(field, asked):
+def carrier_words(field: str, asked: Asked) -> Words:
     size = asked["size"]
     return not_one_of(field, asked[field], "size %d's" % size, carriers_of(size))
 
 
-def length_words(field, asked):
+def length_words(field: str, asked: Asked) -> Words:
     given, right = asked[field]
     return "%s of %d floats, not %d" % (field, given, right)
 
@@ -184,7 +190,7 @@ FIELDS = {
 }
 
 
-def field_words(number, asked):
+def field_words(number: int, asked: Asked) -> str:
     """Of a request's fields by name, lengths as pairs of what is given and what would be accepted; `lit` has the
     subchannels that a lay's mask lights."""
     for field, words in FIELDS[number].items():
@@ -197,17 +203,18 @@ def field_words(number, asked):
 # --- plans ------------------------------------------------------------------------------------
 
 
-def order_words(size, zones, at):
+def order_words(size: int, zones: Sequence[Numbers], at: int) -> Words:
     mode = zones[at][0]
     if size == 2048 and at == 0 and mode != 0:
         return "mode %d is first at size 2048, where only mode 0 is accepted" % mode
-    before = zones[at - 1][0] if at > 0 else None
+    before = zones[at - 1][0] if at > 0 else mode
     if before in AMC_MODES and mode not in AMC_MODES:
         after = (mode, before, accepted_values(AMC_MODES))
         return "mode %d follows mode %d, after which only modes %s are accepted" % after
+    return None
 
 
-def zone_words(number, size, zone):
+def zone_words(number: int, size: int, zone: Numbers) -> Words:
     """What one of 1, 2, 3, 13 and 17 finds in a zone, or nothing."""
     mode, cell, slots, mask = zone
     asked = {"mode": mode, "size": size, "cell": cell, "mask": mask}
@@ -219,28 +226,29 @@ def zone_words(number, size, zone):
         return cell_words("cell", asked)
     if number == 13:
         return not_one_of("slots", slots, "a zone's", PLAN_SLOTS)
-    if number == 17:
-        return mask_words("mask", asked)
+    return mask_words("mask", asked) if number == 17 else None
 
 
-def in_a_row(four):
+def in_a_row(four: Numbers) -> str:
     return ",".join(map(shown, four))
 
 
-def places_words(count, zones):
+def places_words(count: int, zones: Sequence[Numbers]) -> Words:
     """The first place past the count that is not all zero."""
     for at, zone in enumerate(zones[count:], count + 1):
         if any(zone):
             told = (at, in_a_row(zone), count)
             return "place %d is %s, where past the count of %d only zeros are accepted" % told
+    return None
 
 
-def plan_words(number, count, size, zones):
+def plan_words(number: int, count: int, size: int, zones: Sequence[Numbers]) -> str:
     """Of a plan's own questions: 12, 2, and for each zone 1, 2, 3, 13, 17, 14."""
     if number == 12:
         return not_one_of("count", count, "a plan's", PLAN_COUNTS) or places_words(count, zones) or QUESTIONS[number]
-    if number == 2 and size not in SIZES:
-        return not_one_of("size", size, "a plan's", SIZES)
+    wrong_size = not_one_of("size", size, "a plan's", SIZES)
+    if number == 2 and wrong_size:
+        return wrong_size
     for at, zone in enumerate(zones[:count]):
         told = order_words(size, zones, at) if number == 14 else zone_words(number, size, zone)
         if told:
@@ -248,12 +256,12 @@ def plan_words(number, count, size, zones):
     return QUESTIONS[number]
 
 
-def value_length(value):
+def value_length(value: int) -> int:
     """The bytes that a value takes."""
     return 1 + (value >= 2**7) + (value >= 2**14)
 
 
-def value_name(at):
+def value_name(at: int) -> str:
     """What the value of a plan at this place is."""
     if at < 2:
         return ("the count", "the size")[at]
@@ -261,9 +269,9 @@ def value_name(at):
     return "zone %d's %s" % (zone + 1, ("mode", "cell", "slots", "mask")[part])
 
 
-def values_of(data):
+def values_of(data: bytes) -> Tuple[List[int], bytes]:
     """The values that the bytes start with, and the bytes behind the last that is whole and in its shortest form."""
-    values, data = [], bytes(data)
+    values: List[int] = []
     while True:
         length = next((at for at, byte in enumerate(data[:3], 1) if byte < 128), 0)
         value = sum((byte & 127) << 7 * at for at, byte in enumerate(data[:length]))
@@ -273,7 +281,7 @@ def values_of(data):
         data = data[length:]
 
 
-def value_words(number, data):
+def value_words(number: int, data: bytes) -> str:
     """Of 10 and 11."""
     values, rest = values_of(data)
     name = value_name(len(values))
@@ -284,7 +292,7 @@ def value_words(number, data):
     return "%s is %s, %s" % (name, rest[: last or 3].hex(" ").upper(), fault)
 
 
-def read_words(number, data, length):
+def read_words(number: int, data: bytes, length: int) -> str:
     """Of a plan's bytes: those that decide, and how many there are."""
     if number in (10, 11):
         return value_words(number, data)
@@ -296,7 +304,7 @@ def read_words(number, data, length):
     return plan_words(number, values[0], values[1] if values[1:] else 0, zones)
 
 
-def write_words(number, count, size, zones, room):
+def write_words(number: int, count: int, size: int, zones: Sequence[Numbers], room: int) -> str:
     """Of a plan in numbers, and of its destination's bytes."""
     if number == 16:
         need = sum(map(value_length, [count, size, *(value for zone in zones[:count] for value in zone)]))
@@ -307,16 +315,17 @@ def write_words(number, count, size, zones, room):
 # --- bursts -----------------------------------------------------------------------------------
 
 
-def length_of_list_words(bursts):
+def length_of_list_words(bursts: Sequence[Numbers]) -> Words:
     """Of a list as a whole, or nothing."""
     for at, burst in enumerate(bursts):
         if len(burst) != 4:
             return "burst %d has %d numbers, not 4" % (at, len(burst))
     if len(bursts) > BURSTS:
         return "%d bursts are given, not %d or fewer" % (len(bursts), BURSTS)
+    return None
 
 
-def side_words(field, first, count, whose, values):
+def side_words(field: str, first: int, count: int, whose: str, values: range) -> Words:
     """Of a burst's subchannels or slots, from the first on so many, or nothing."""
     if count < 1:
         return "%s %ss, not 1 or more" % (shown(count), field)
@@ -326,28 +335,30 @@ def side_words(field, first, count, whose, values):
     if first not in values or last not in values:
         own = "%ss %d to %d" % (field, first, last) if abs(first) + count < 10**20 else "its %ss" % field
         return "%s are not all of %s: %s" % (own, whose, accepted_values(values))
+    return None
 
 
-def outside_words(size, zone, burst):
+def outside_words(size: int, zone: Numbers, burst: Numbers) -> Words:
     """Of a burst that is empty or not wholly in its zone, or nothing."""
     subchannel, subchannels, slot, slots = burst
     told = side_words("subchannel", subchannel, subchannels, *subchannels_of(zone[0], size))
     return told or side_words("slot", slot, slots, "the zone's", range(zone[2]))
 
 
-def meet(first, count, other, others):
+def meet(first: int, count: int, other: int, others: int) -> bool:
     """Whether two runs of numbers, from a first on so many, have one in common."""
     return first < other + others and other < first + count
 
 
-def overlap_words(bursts, at):
+def overlap_words(bursts: Sequence[Numbers], at: int) -> Words:
     """Of a burst that overlaps an earlier one, or nothing."""
     for before, burst in enumerate(bursts[:at]):
         if meet(*bursts[at][:2], *burst[:2]) and meet(*bursts[at][2:], *burst[2:]):
             return "it overlaps burst %d, which is %s" % (before, in_a_row(burst))
+    return None
 
 
-def burst_words(number, size, zone, bursts, asked):
+def burst_words(number: int, size: int, zone: Numbers, bursts: Sequence[Numbers], asked: Asked) -> str:
     """Of a list of bursts, their zone (mode, cell, slots, mask) and, for 4 and 5, the slot and subchannel asked for."""
     if number in (4, 5):
         return field_words(number, {"mode": zone[0], "size": size, **asked})
