@@ -3,7 +3,8 @@
 
     ./build.sh && python3 tests/test_python.py
 
-Standard library only; what concerns numpy is tried where numpy is installed.
+Standard library only. What concerns numpy is tried where numpy is installed: if not for this python3, then by the
+first of the PATH that has it.
 """
 
 import contextlib
@@ -14,9 +15,13 @@ import os
 import pickle
 import random
 import re
+import shutil
 import subprocess
 import sys
+import tempfile
 import tracemalloc
+import types
+import typing
 import unittest
 from array import array
 
@@ -33,6 +38,8 @@ try:
     import numpy
 except ImportError:
     numpy = None
+else:
+    from bellpulsar import arrays
 
 SETUPS = [(mode, size) for mode in range(7) for size in ref.sizes(mode)]
 MOST = 2**32 - 1
@@ -179,6 +186,96 @@ class Map(unittest.TestCase):
             self.assertIs(type(value), int)
 
 
+def places_of(mode, size, cell, slot, subchannel):
+    """By the reference: where each point's floats start in the slot's grid, counted in points."""
+    spots = [ref.place(mode, size, cell, slot, subchannel, index)[1:] for index in range(48)]
+    return array("I", [ref.grid_at(mode, size, *spot) // 2 for spot in spots])
+
+
+class Places(unittest.TestCase):
+    """A subchannel's, and those of all that are lit."""
+
+    def test_every_place_of_some_slots(self):
+        for mode, size in SETUPS:
+            for cell, slot in zip(some_cells(mode, size, 31, more=1), (0, 511, 1, 2)):
+                wanted = [places_of(mode, size, cell, slot, s) for s in range(ref.subchannels(mode, size))]
+                found = [bp.places(mode, size, cell, slot, s) for s in range(ref.subchannels(mode, size))]
+                self.assertEqual(found, wanted, (mode, size, cell, slot))
+                self.assertEqual(bp.slot_places(mode, size, cell, slot), sum(wanted, array("I")))
+
+    def test_by_hand(self):
+        """-425 from DC is place 512 - 425 of a row; 837 in the second symbol is 2048 + 1024 + 837."""
+        self.assertEqual(bp.places(2, 1024, 17, 0, 0)[0], 87)
+        self.assertEqual(bp.places(mode=0, size=2048, cell=0, slot=0, subchannel=1)[35], 3909)
+        self.assertEqual(bp.places(6, 2048, 2351, 511, 191)[47], 4 * 2048 + 1024 + 862)
+
+    def test_every_mask(self):
+        """The places of the lit alone, by rising subchannel."""
+        for mask in ref.masks(0):
+            cell, slot = 7 * mask % 32, 8 * mask
+            lit = [bp.places(0, 2048, cell, slot, s) for s in ref.lit_subchannels(0, 2048, mask)]
+            self.assertEqual(bp.slot_places(0, 2048, cell, slot, mask=mask), sum(lit, array("I")))
+
+    def test_where_empty_takes_the_points_from(self):
+        """Each point of the grid is its own place: emptied, they are the places."""
+        for mode, size, mask in [(*setup, None) for setup in SETUPS] + [(0, 2048, 0b100110), (0, 2048, 1)]:
+            fields, count = (mode, size, ref.cells(mode, size) - 1, 100), ref.grid_floats(mode, size)
+            points = floats(bp.lit_points_len(mode, size, mask))
+            bp.empty(*fields, array("f", [float // 2 for float in range(count)]), points, mask=mask)
+            self.assertEqual(list(points[::2]), list(bp.slot_places(*fields, mask=mask)))
+
+    def test_the_slots_that_a_table_serves(self):
+        """All of them, or those that agree mod 3."""
+        for mode, size in SETUPS:
+            cell, step = ref.cells(mode, size) - 1, 3 if mode in (2, 3, 5) else 1
+            tables = [bp.slot_places(mode, size, cell, slot) for slot in (0, 1, 2)]
+            for slot in (3, 4, 5, 300, 511):
+                self.assertEqual(bp.slot_places(mode, size, cell, slot), tables[slot % 3])
+            self.assertEqual(len({table.tobytes() for table in tables}), step)
+
+    def test_what_is_given(self):
+        """An array of its own, which nothing holds."""
+        for row, length in ((bp.places(2, 256, 0, 0, 0), 48), (bp.slot_places(2, 256, 0, 0), 192)):
+            self.assertEqual((type(row), row.typecode, len(row)), (array, "I", length))
+            row.append(0)
+        self.assertRaises(TypeError, bp.slot_places, 0, 2048, 0, 0, 63)
+
+    def test_words(self):
+        last = "subchannel 16 is not one of mode 2's at size 1024: 0 to 15"
+        self.assertEqual(words(bp.places, 2, 1024, 17, 0, 16), last)
+        self.assertEqual(words(slot_places_with, 0, 2048, 0, 64, 0), "mask 64 is not one of mode 0's: 1 to 63")
+
+
+class Modes(unittest.TestCase):
+    """By name."""
+
+    def test_the_names_of_the_header(self):
+        with open(os.path.join(ROOT, "include", "bellpulsar.h")) as file:
+            body = re.search(r"enum bp_mode \{(.*?)\};", file.read(), re.DOTALL).group(1)
+        told = {name: int(number) for name, number in re.findall(r"BP_(\w+) = (\d+)", body)}
+        self.assertEqual({**told, "AMC_6X1": 3}, {name: int(mode) for name, mode in bp.Mode.__members__.items()})
+        for name, number in told.items():
+            self.assertEqual((getattr(bp, name), type(getattr(bp, name))), (number, int))
+
+    def test_the_words_of_the_command_line(self):
+        words = "pusc-dl pusc-ul ofusc amc-6x1 amc-2x3 amc-3x2 amc-1x6".split()
+        self.assertEqual([mode.word for mode in bp.Mode], words)
+        self.assertEqual([int(mode) for mode in bp.Mode], list(range(7)))
+
+    def test_a_mode_is_its_number(self):
+        for mode, size in SETUPS:
+            named = bp.Mode(mode)
+            self.assertEqual(bp.place(named, size, 1, 2, 3, 4), bp.place(mode, size, 1, 2, 3, 4))
+            self.assertEqual(bp.slot_places(named, size, 1, 2), bp.slot_places(mode, size, 1, 2))
+            self.assertEqual((str(named), "%s" % named, "%d" % named, format(named)), (str(mode),) * 4)
+        told = "mode 1 is not one of a plan's: 0, 2, 3, 4, 5, 6"
+        self.assertEqual(words(bp.bursts_check, bp.Mode.PUSC_UL, 2048, 0, 1, []), told)
+
+    def test_answers_have_numbers(self):
+        data = bp.plan_bytes(1024, [(bp.Mode.OFUSC, 17, 3, 0)])
+        self.assertEqual(repr(bp.plan_read(data).zones[0]), "Zone(mode=2, cell=17, slots=3, mask=0)")
+
+
 # --- collisions -------------------------------------------------------------------------------
 
 
@@ -235,6 +332,10 @@ def kept_by_refusals(*buffers):
         raise
 
 
+def slot_places_with(mode, size, cell, mask, slot):
+    bp.slot_places(mode, size, cell, slot, mask=mask)
+
+
 def ground_with(mode, size, cell, mask, slot, grid_len):
     grid = floats(grid_len)
     with kept_by_refusals(grid):
@@ -281,6 +382,16 @@ def owners_with(mode, size, cell, slots, mask, slot, count):
     bp.burst_owners(mode, size, cell, slots, slot, [(0, count, 0, 1)], mask=mask)
 
 
+def of_every_index(mode, size, cell, slot, subchannel):
+    """The refusal of a whole subchannel's places."""
+    return ref.place_refusal(mode, size, cell, slot, subchannel, 0)
+
+
+def of_a_slot(mode, size, cell, mask, slot):
+    """The refusal of a slot without buffers."""
+    return ref.ground_refusal(mode, size, cell, mask, slot, ref.grid_len(mode, size))
+
+
 def of_a_list(expected):
     """A refusal of the reference's, with one burst of so many subchannels in slot 0 for a list."""
     return lambda *fields: expected(*fields[:-1], [0, fields[-1], 0, 1])
@@ -306,6 +417,8 @@ def calls_of(mode, size):
     lit, unlit = (*setup, ref.full_mask(mode)), (*past, ref.full_mask(mode) + 1)
     yield bp.place, ref.place_refusal, (*setup, 511, subs - 1, 47), (*past, 512, subs, 48)
     yield bp.locate, ref.locate_refusal, (*setup, symbols - 1, size // 2 - 1), (*past, symbols, size // 2)
+    yield bp.places, of_every_index, (*setup, 511, subs - 1), (*past, 512, subs)
+    yield slot_places_with, of_a_slot, (*lit, 511), (*unlit, 512)
     yield ground_with, ref.ground_refusal, (*lit, 511, grid), (*unlit, 512, grid + 2)
     yield lay_with, ref.lay_refusal, (*lit, 511, subs - 1, 96, grid), (*unlit, 512, subs, points, grid - 2)
     yield fill_with, ref.buffers_refusal, (*lit, 511, points, grid), (*unlit, 512, points + 1, grid + 1)
@@ -335,7 +448,7 @@ def amc_refusal(cell_a, cell_b):
 AMC_COLLISIONS = (bp.amc_collisions, amc_refusal, (2351, 2351), (2352, 2352))
 LENGTHS = {ground_with: (5,), lay_with: (6, 7), fill_with: (5, 6), empty_with: (5, 6), look_with: (5,)}
 LENGTHS[empty_first_with] = (5, 6)
-MASKS = {**dict.fromkeys(LENGTHS, 3), check_with: 4, owner_with: 4, owners_with: 4}
+MASKS = {**dict.fromkeys(LENGTHS, 3), slot_places_with: 3, check_with: 4, owner_with: 4, owners_with: 4}
 CARRIERS = {bp.locate: 4, look_with: 6}
 
 
@@ -451,6 +564,8 @@ class Refusals(unittest.TestCase):
         names = {
             bp.place: "mode size cell slot subchannel index",
             bp.locate: "mode size cell symbol carrier",
+            bp.places: "mode size cell slot subchannel",
+            slot_places_with: "mode size cell mask slot",
             ground_with: "mode size cell mask slot grid",
             lay_with: "mode size cell mask slot subchannel points grid",
             look_with: "mode size cell mask symbol grid carrier",
@@ -1673,10 +1788,25 @@ class Bursts(unittest.TestCase):
 # --- loading ----------------------------------------------------------------------------------
 
 
-def imported_with(library):
-    env = dict(os.environ, PYTHONPATH=os.path.join(ROOT, "python"), BELLPULSAR_LIBRARY=library)
-    command = [sys.executable, "-c", "import bellpulsar; print(bellpulsar.place(2, 1024, 17, 0, 0, 0))"]
+ASKED = "place 2 1024 17 0 0 0".split()
+BUILT = os.path.join(ROOT, "build", "link", "libbellpulsar.so")
+
+
+def run_python(*arguments, path=os.path.join(ROOT, "python"), library=""):
+    env = dict(os.environ, PYTHONPATH=path, BELLPULSAR_LIBRARY=library)
+    command = [sys.executable, *arguments]
     return subprocess.run(command, env=env, cwd="/", capture_output=True, text=True, timeout=60)
+
+
+def imported_with(library, **path):
+    lines = "import bellpulsar; print(bellpulsar.place(2, 1024, 17, 0, 0, 0))"
+    return run_python("-c", lines, library=library, **path)
+
+
+def last_line(done):
+    """Of what an exception that nobody caught has said."""
+    assert done.returncode == 1, done
+    return done.stderr.splitlines()[-1]
 
 
 class Loading(unittest.TestCase):
@@ -1684,31 +1814,38 @@ class Loading(unittest.TestCase):
         self.assertEqual(imported_with("").stdout, "Place(symbol=0, carrier=-425)\n")
 
     def test_another_library_by_the_environment(self):
-        built = os.path.join(ROOT, "build", "link", "libbellpulsar.so")
-        self.assertEqual(imported_with(built).stdout, "Place(symbol=0, carrier=-425)\n")
-
-    def test_the_version_is_the_headers(self):
-        with open(os.path.join(ROOT, "include", "bellpulsar.h")) as file:
-            told = re.findall(r"^#define BP_VERSION (\d+)$", file.read(), re.MULTILINE)
-        self.assertEqual(told, [str(library.VERSION)])
+        self.assertEqual(imported_with(BUILT).stdout, "Place(symbol=0, carrier=-425)\n")
 
     def test_no_library(self):
-        done = imported_with("/none/libbellpulsar.so")
-        last = done.stderr.splitlines()[-1]
-        self.assertEqual((done.returncode, last.split(":")[0]), (1, "ImportError"))
+        last = last_line(imported_with("/none/libbellpulsar.so"))
+        self.assertTrue(last.startswith("ImportError: "), last)
         self.assertIn("/none/libbellpulsar.so", last)
         self.assertIn("run ./build.sh", last)
 
     def test_something_else_than_the_library(self):
         for other in (os.path.join(ROOT, "README.md"), "/"):
-            last = imported_with(other).stderr.splitlines()[-1]
+            last = last_line(imported_with(other))
             self.assertTrue(last.startswith("ImportError: %s is not a Bellpulsar library" % other), last)
 
+    def test_a_library_of_another_version(self):
+        """Its interface is told first, then a call that it lacks."""
+        with tempfile.TemporaryDirectory() as folder:
+            for body, told in (
+                ("int bp_place(void) { return 0; }", "it has no bp_version, which version %s has" % bp.__version__),
+                ("unsigned bp_version(void) { return 50007; }", "its interface is version 5, and version 4 is needed"),
+                ("unsigned bp_version(void) { return 30912; }", "its interface is version 3, and version 4 is needed"),
+                ("unsigned bp_version(void) { return 4294967295u; }", "its interface is version 429496, and .*"),
+                ("unsigned bp_version(void) { return 40299; }", "it has no bp_place, which version .* has"),
+            ):
+                other = os.path.join(folder, "other.so")
+                compiler = [*os.environ.get("CC", "cc").split(), "-shared", "-fPIC", "-x", "c", "-", "-o", other]
+                subprocess.run(compiler, input=body, text=True, check=True)
+                unfit = "^ImportError: %s is not a Bellpulsar library that can be loaded: " % re.escape(other)
+                self.assertRegex(last_line(imported_with(other)), unfit + told + "$")
+
     def test_the_command_line(self):
-        for words, status, text in (("2 1024 17 0 0 0", 0, "symbol 0 carrier -425\n"), ("2 1024 17 0 0 x", 2, "")):
-            command = [sys.executable, "-m", "bellpulsar", "place", *words.split()]
-            env = dict(os.environ, PYTHONPATH=os.path.join(ROOT, "python"))
-            done = subprocess.run(command, env=env, cwd="/", capture_output=True, text=True, timeout=60)
+        for words, status, text in ((ASKED, 0, "symbol 0 carrier -425\n"), ([*ASKED[:-1], "x"], 2, "")):
+            done = run_python("-m", "bellpulsar", *words)
             self.assertEqual((done.stdout, done.returncode), (text, status), done.stderr)
 
     def test_names(self):
@@ -1723,17 +1860,143 @@ class Loading(unittest.TestCase):
         self.assertEqual(len(bp.__all__), len(set(bp.__all__)))
 
     def test_what_is_said_of_numpy(self):
+        """Where no other python3 has it either."""
         command = [sys.executable, os.path.abspath(__file__), "Numpy"]
-        done = subprocess.run(command, capture_output=True, text=True, timeout=60)
+        env = dict(os.environ, PATH="/none")
+        done = subprocess.run(command, env=env, capture_output=True, text=True, timeout=60)
         last = "with numpy" if numpy else "numpy not here: 3 skipped"
         self.assertEqual(done.returncode, 0, done.stderr)
         self.assertRegex(done.stdout, r"^python: \d tests, %s\n$" % last)
+
+    def test_arrays_without_numpy(self):
+        lines = "import sys; sys.modules['numpy'] = None; import bellpulsar; print(bellpulsar.__version__)"
+        done = run_python("-c", lines + "; import bellpulsar.arrays")
+        self.assertEqual(done.stdout, bp.__version__ + "\n")
+        told = "^ImportError: bellpulsar.arrays needs numpy, 1.21 or later \\(bellpulsar itself does not\\): .*numpy.*$"
+        self.assertRegex(last_line(done), told)
 
     def test_the_examples_of_the_module_and_the_readme(self):
         readme = os.path.join(ROOT, "README.md")
         for failed, tried in (doctest.testmod(bp), doctest.testfile(readme, module_relative=False)):
             self.assertEqual(failed, 0)
             self.assertGreater(tried, 5)
+
+
+class Installed(unittest.TestCase):
+    """The package as an installation has it, away from its tree: a version and a library beside the modules."""
+
+    def setUp(self):
+        self.root = tempfile.mkdtemp()
+        self.addCleanup(shutil.rmtree, self.root)
+        self.path = os.path.join(self.root, "python")
+        source = os.path.join(ROOT, "python", "bellpulsar")
+        shutil.copytree(source, self.beside(), ignore=shutil.ignore_patterns("__pycache__"))
+
+    def beside(self, *name):
+        return os.path.join(self.path, "bellpulsar", *name)
+
+    def write(self, name, text):
+        with open(self.beside(name), "w") as file:
+            file.write(text)
+
+    def install(self):
+        self.write("VERSION", bp.__version__ + "\n")
+        shutil.copy(BUILT, self.beside(library.NAME))
+
+    def version(self):
+        return run_python("-c", "import bellpulsar; print(bellpulsar.__version__)", path=self.path)
+
+    def test_the_version_is_the_headers_and_the_librarys(self):
+        with open(os.path.join(ROOT, "include", "bellpulsar.h")) as file:
+            told = re.findall(r"^#define BP_VERSION(?:_MINOR|_PATCH)? (\d+)$", file.read(), re.MULTILINE)
+        self.assertEqual(bp.__version__, ".".join(told))
+        first, second, third = map(int, told)
+        self.assertEqual(library.engine.bp_version(), 10000 * first + 100 * second + third)
+        self.assertEqual(library.VERSION, first)
+
+    def test_the_version_needs_no_library(self):
+        done = run_python("-c", "import bellpulsar; print(bellpulsar.__version__)", library="/none")
+        self.assertEqual(done.stdout, bp.__version__ + "\n")
+
+    def fails_by(self, path):
+        told = "ImportError: %s does not tell the version of Bellpulsar" % path
+        self.assertEqual(last_line(self.version()), told)
+
+    def test_what_tells_the_version(self):
+        """The file beside the modules, or else the header."""
+        neither = "^ImportError: the version of Bellpulsar stands in .*/VERSION, or else in .*/include/bellpulsar.h, "
+        self.assertRegex(last_line(self.version()), neither + "and neither can be read: No such file or directory$")
+        header = os.path.join(self.root, "include", "bellpulsar.h")
+        os.mkdir(os.path.dirname(header))
+        for told in ("4", "4.8", "4.8.15"):
+            with open(header, "w") as file:
+                names = ("BP_VERSION", "BP_VERSION_MINOR", "BP_VERSION_PATCH")
+                file.writelines("#define %s %s\n" % pair for pair in zip(names, told.split(".")))
+            if told != "4.8.15":
+                self.fails_by(header)
+        self.assertEqual(self.version().stdout, "4.8.15\n")
+        self.write("VERSION", "4.16.23\n")
+        self.assertEqual(self.version().stdout, "4.16.23\n")
+        for text in ("", "4.3\n", "4.3.0 4.3.1\n"):
+            self.write("VERSION", text)
+            self.fails_by(self.beside("VERSION"))
+
+    def test_nothing_is_built(self):
+        """The library beside the modules is taken, even where there is something to build."""
+        self.install()
+        with open(os.path.join(self.root, "build.sh"), "w") as file:
+            file.write("#!/bin/sh\ntouch '%s/ran'\nexit 1\n" % self.root)
+        os.chmod(os.path.join(self.root, "build.sh"), 0o755)
+        for built in (None, os.path.join(self.root, "build")):
+            if built:
+                os.mkdir(built)
+                shutil.copy("/dev/null", os.path.join(built, library.NAME))
+            self.assertEqual(imported_with("", path=self.path).stdout, "Place(symbol=0, carrier=-425)\n")
+            done = run_python("-m", "bellpulsar", *ASKED, path=self.path)
+            self.assertEqual((done.stdout, done.stderr, done.returncode), ("symbol 0 carrier -425\n", "", 0))
+        self.assertFalse(os.path.exists(os.path.join(self.root, "ran")))
+        os.remove(self.beside(library.NAME))
+        last = last_line(imported_with("", path=self.path))
+        self.assertRegex(last, "^ImportError: .*/build/%s is old" % library.NAME)
+        self.assertTrue(os.path.exists(os.path.join(self.root, "ran")))
+
+    def test_the_environment_comes_first(self):
+        self.install()
+        last = last_line(imported_with("/none", path=self.path))
+        self.assertRegex(last, "^ImportError: no Bellpulsar library at /none:")
+        os.remove(self.beside(library.NAME))
+        self.assertEqual(imported_with(BUILT, path=self.path).stdout, "Place(symbol=0, carrier=-425)\n")
+
+    def test_without_its_library(self):
+        self.install()
+        os.remove(self.beside(library.NAME))
+        told = "no Bellpulsar library at %s: run ./build.sh, or name the library in BELLPULSAR_LIBRARY"
+        told %= self.beside(library.NAME)
+        self.assertEqual(last_line(imported_with("", path=self.path)), "ImportError: " + told)
+        done = run_python("-m", "bellpulsar", *ASKED, path=self.path)
+        self.assertEqual((done.stdout, done.stderr, done.returncode), ("", "bellpulsar: %s\n" % told, 2))
+
+
+class Hints(unittest.TestCase):
+    def is_hinted(self, module):
+        for name in module.__all__:
+            thing = getattr(module, name)
+            if isinstance(thing, types.FunctionType):
+                code = thing.__code__
+                parameters = code.co_varnames[: code.co_argcount + code.co_kwonlyargcount]
+                self.assertEqual(set(typing.get_type_hints(thing)), {*parameters, "return"}, name)
+
+    def test_of_every_function(self):
+        self.is_hinted(bp)
+        if numpy:
+            self.is_hinted(arrays)
+
+    def test_are_for_users(self):
+        self.assertTrue(os.path.exists(os.path.join(ROOT, "python", "bellpulsar", "py.typed")))
+
+    def test_no_warning(self):
+        done = run_python("-W", "error", "-c", "import bellpulsar; bellpulsar.slot_places(2, 256, 0, 0)")
+        self.assertEqual((done.stderr, done.returncode), ("", 0))
 
 
 @unittest.skipIf(numpy is None, "numpy is not installed")
@@ -1785,8 +2048,195 @@ class Numpy(unittest.TestCase):
         self.assertRaises(BufferError, bp.lay, 2, 256, 0, 0, 0, points[:192:2], grid)
 
 
-if __name__ == "__main__":
+def of_points(floats_of):
+    """A refusal of the reference's, with lengths in points."""
+    return lambda *fields: floats_of(*fields[:5], *(2 * length for length in fields[5:]))
+
+
+def fill_of(mode, size, cell, mask, slot, points):
+    arrays.fill(mode, size, cell, slot, 1j, numpy.zeros(points, numpy.complex64), mask=mask)
+
+
+def empty_of(mode, size, cell, mask, slot, grid):
+    arrays.empty(mode, size, cell, slot, numpy.zeros(grid, numpy.complex64), mask=mask)
+
+
+def table_of(mode, size, cell, mask, slot):
+    arrays.slot_places(mode, size, cell, slot, mask=mask)
+
+
+def noise(rng, *shape):
+    """Complex numbers of any bits."""
+    patterns = random_bits(rng, 2 * int(numpy.prod(shape)))
+    return numpy.frombuffer(patterns, numpy.complex64).reshape(shape)
+
+
+@unittest.skipIf(numpy is None, "numpy is not installed")
+class Arrays(unittest.TestCase):
+    """Points and grids of complex64, in and out."""
+
+    def slots(self):
+        """(mode, size, cell, slot), and a mask with what it lights."""
+        rng = random.Random(32)
+        for mode, size in SETUPS:
+            for mask in (None, 0b000011, 0b101010, 0b111111) if mode == 0 else (None,):
+                setup = (mode, size, rng.randrange(ref.cells(mode, size)), rng.randrange(512))
+                yield setup, mask, len(ref.lit_subchannels(mode, size, 63 if mask is None else mask))
+
+    def same(self, found, wanted):
+        """To the bit."""
+        self.assertEqual((found.dtype, found.shape), (wanted.dtype, wanted.shape))
+        self.assertEqual(found.tobytes(), wanted.tobytes())
+
+    def test_filled_and_emptied_to_the_bit(self):
+        rng = random.Random(33)
+        for setup, mask, lit in self.slots():
+            mode, size, *_ = setup
+            points, pilot = noise(rng, lit, 48), noise(rng, 1)
+            wanted = numpy.empty((ref.SLOT_LENGTH[mode], size), numpy.complex64)
+            bp.fill(*setup, pilot, points, wanted, mask=mask)
+            for given in (points, points.reshape(-1), points.reshape(1, lit, 48)):
+                grid = arrays.fill(*setup, pilot, given, mask=mask)
+                self.same(grid, wanted)
+            for given in (grid, grid.reshape(-1)):
+                self.same(arrays.empty(*setup, given, mask=mask), points)
+            self.same(grid, wanted)
+
+    def test_the_table_is_empty_and_lay(self):
+        """Indexed with it a grid gives what empty does; assigned with it the points are laid, and nothing else."""
+        rng = random.Random(34)
+        for setup, mask, lit in self.slots():
+            mode, size, *_ = setup
+            table = arrays.slot_places(*setup, mask=mask)
+            self.assertEqual((table.dtype, table.shape), (numpy.dtype(numpy.intp), (lit, 48)))
+            self.assertEqual(table.reshape(-1).tolist(), list(bp.slot_places(*setup, mask=mask)))
+            grid = noise(rng, ref.SLOT_LENGTH[mode], size).copy()
+            self.same(grid.reshape(-1)[table], arrays.empty(*setup, grid, mask=mask))
+            points, pilot = noise(rng, lit, 48), noise(rng, 1)
+            bp.ground(*setup, pilot, grid, mask=mask)
+            grid.reshape(-1)[table] = points
+            self.same(grid, arrays.fill(*setup, pilot, points, mask=mask))
+
+    def test_a_whole_zone_by_one_table(self):
+        rng = random.Random(35)
+        for mode, size, step in ((0, 2048, 1), (1, 2048, 1), (2, 512, 3), (5, 256, 3), (6, 256, 1)):
+            zone = noise(rng, 6, ref.SLOT_LENGTH[mode], size)
+            table = arrays.slot_places(mode, size, 3, 0)
+            taken = zone[::step].reshape(6 // step, -1)[:, table]
+            for row, slot in zip(taken, range(0, 6, step)):
+                self.same(row, arrays.empty(mode, size, 3, slot, zone[slot]))
+
+    def test_as_a_capture_delivers_it(self):
+        """New points are nan where nothing has arrived; those that are given again are written in place."""
+        rng = random.Random(36)
+        for setup, mask, lit in self.slots():
+            mode, size, *_ = setup
+            grid = numpy.arange(1, 1 + ref.grid_floats(mode, size) // 2).astype(numpy.complex64)
+            grid = grid.reshape(-1, size)
+            whole = arrays.empty(*setup, grid, mask=mask)
+            counts = sorted(rng.randrange(grid.size + 1) for _ in range(3))
+            points = arrays.empty_first(*setup, 0, grid, mask=mask)
+            self.assertEqual((points.shape, points.dtype), ((lit, 48), grid.dtype))
+            self.assertTrue(numpy.isnan(points.view(numpy.float32)).all())
+            for count in [*counts, grid.size, HUGE]:
+                again = arrays.empty_first(*setup, count, grid, points, mask=mask)
+                self.assertIs(again, points)
+                arrived = whole.real <= count
+                self.same(points[arrived], whole[arrived])
+                self.assertTrue(numpy.isnan(points[~arrived].view(numpy.float32)).all())
+                new = arrays.empty_first(*setup, count, grid, mask=mask)
+                self.assertTrue(numpy.array_equal(new, points, equal_nan=True))
+
+    def test_what_is_taken(self):
+        """Whatever complex64 holds without rounding, wherever it lies."""
+        rng = random.Random(37)
+        numbers = numpy.array([rng.randrange(-100, 100) for _ in range(192)], numpy.int16).reshape(4, 48)
+        wanted = arrays.fill(2, 256, 0, 0, 1j, numbers.astype(numpy.complex64))
+        odd = numpy.zeros(192 * 8 + 1, numpy.uint8)[1:].view(numpy.complex64).reshape(4, 48)
+        odd[:] = numbers
+        every = [numbers, numbers.astype(numpy.int8), numbers.astype(numpy.float32), numbers.astype(">c8"), odd]
+        every += [numpy.asfortranarray(numbers.astype(numpy.complex64)), numpy.repeat(numbers, 2, axis=0)[::2]]
+        for points in every:
+            before = points.copy()
+            self.same(arrays.fill(2, 256, 0, 0, 1j, points), wanted)
+            self.assertTrue(numpy.array_equal(points, before))
+        for grid in (wanted.astype(">c8"), numpy.repeat(wanted, 3, axis=1)[:, ::3], numpy.asfortranarray(wanted)):
+            self.same(arrays.empty(2, 256, 0, 0, grid), numbers.astype(numpy.complex64))
+        for pilot in (1j, (0, 1), numpy.complex64(1j), numpy.complex128(1j), numpy.array([1j], numpy.complex64)):
+            self.same(arrays.fill(2, 256, 0, 0, pilot, numbers), wanted)
+
+    def test_what_is_not(self):
+        """No rounding and no rows of another length: both come before every question."""
+        for kind in (numpy.complex128, numpy.float64, numpy.int32, numpy.int64, object, "U1"):
+            for mode in (2, 9):
+                told = "^%s: complex64 is needed, or what it holds without rounding, not "
+                with self.assertRaisesRegex(TypeError, told % "points"):
+                    arrays.fill(mode, 256, 0, 0, 1j, numpy.zeros((4, 48), kind))
+                for call in (arrays.empty, lambda *fields: arrays.empty_first(*fields[:4], 9, *fields[4:])):
+                    self.assertRaisesRegex(TypeError, told % "grid", call, mode, 256, 0, 0, numpy.zeros((1, 256), kind))
+        self.assertRaises(TypeError, arrays.fill, 2, 256, 0, 0, 1j, [1j] * 192)
+        self.assertRaises(TypeError, arrays.fill, 2, 256, 0, 0, 1.0, numpy.zeros((4, 48), numpy.complex64))
+        for shape in ((48, 4), (2, 96), (4, 48, 1), (192, 1)):
+            with self.assertRaisesRegex(ValueError, "^points: rows of 48 are needed, not of %d$" % shape[-1]):
+                arrays.fill(2, 256, 0, 0, 1j, numpy.zeros(shape, numpy.complex64))
+        for shape in ((256, 1), (2, 128), (1, 256, 1)):
+            with self.assertRaisesRegex(ValueError, "^grid: rows of 256 are needed, not of %d$" % shape[-1]):
+                arrays.empty(2, 256, 0, 0, numpy.zeros(shape, numpy.complex64))
+        grid = numpy.zeros((1, 256), numpy.complex64)
+        for kind in (numpy.complex128, numpy.float64):
+            self.assertRaises(TypeError, arrays.empty_first, 2, 256, 0, 0, 9, grid, numpy.zeros((4, 48), kind))
+        points = numpy.zeros((4, 96), numpy.complex64)[:, ::2]
+        self.assertRaises(BufferError, arrays.empty_first, 2, 256, 0, 0, 9, grid, points)
+        self.assertRaises(ValueError, arrays.empty_first, 2, 256, 0, 0, 9, grid, grid[0, :192].reshape(4, 48))
+        self.assertRaises(ValueError, arrays.empty_first, 2, 256, 0, 0, -1, grid)
+
+    def test_refusals(self):
+        """The first question that fails, whichever fields are wrong; lengths are in points here."""
+        for mode, size in ((0, 2048), (2, 256), (6, 1024)):
+            points, grid = 48 * ref.subchannels(mode, size), ref.grid_floats(mode, size) // 2
+            good = (mode, size, ref.cells(mode, size) - 1, ref.full_mask(mode), 511)
+            past = (7, size + 1, good[2] + 1, good[3] + 1, 512)
+            ground = of_points(ref.ground_refusal)
+            filled = of_points(lambda *fields: ref.buffers_refusal(*fields, ref.grid_len(*fields[:2])))
+            for call, expected, own, wrong in (
+                (fill_of, filled, (points,), (points - 48,)),
+                (empty_of, ground, (grid,), (grid + 1,)),
+                (table_of, of_a_slot, (), ()),
+            ):
+                for bad in itertools.product((False, True), repeat=5 + len(own)):
+                    fields = [two[is_bad] for is_bad, *two in zip(bad, (*good, *own), (*past, *wrong))]
+                    self.assertEqual(refusal(call, *fields), expected(*fields), (call, fields))
+
+    def test_the_examples(self):
+        failed, tried = doctest.testmod(arrays)
+        self.assertEqual((failed, tried > 9), (0, True))
+
+
+# --- running ----------------------------------------------------------------------------------
+
+
+def has_numpy(python):
+    return subprocess.run([python, "-c", "import numpy"], capture_output=True).returncode == 0
+
+
+def python_with_numpy():
+    """The first python3 of the PATH that has numpy, or None."""
+    paths = [os.path.join(folder, "python3") for folder in os.get_exec_path()]
+    return next((path for path in paths if os.access(path, os.X_OK) and has_numpy(path)), None)
+
+
+def main():
     tests = unittest.main(exit=False).result
-    skipped = "with numpy" if numpy else "numpy not here: %d skipped" % len(tests.skipped)
-    print("python: %d tests, %s" % (tests.testsRun, skipped))
-    sys.exit(not tests.wasSuccessful())
+    skipped = [test.id().partition(".")[2] for test, _ in tests.skipped]
+    other = python_with_numpy() if skipped else None
+    told = "with numpy" if numpy else "numpy not here: %d skipped" % len(skipped)
+    status = not tests.wasSuccessful()
+    if other:
+        status |= subprocess.run([other, os.path.abspath(__file__), *skipped], stdout=sys.stderr).returncode
+        told = "%d of them with numpy by %s" % (len(skipped), other)
+    print("python: %d tests, %s" % (tests.testsRun, told))
+    return status
+
+
+if __name__ == "__main__":
+    sys.exit(main())
