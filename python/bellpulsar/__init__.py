@@ -190,7 +190,7 @@ class Mode(enum.IntEnum):
     AMC_2X3 = 4
     AMC_3X2 = 5
     AMC_1X6 = 6
-    AMC = AMC_6X1
+    AMC = AMC_6X1  # the header's name for it
 
     __str__ = int.__repr__  # before Python 3.11 it would be the name
 

@@ -33,9 +33,8 @@ modes 2, 3 and 5. Here it takes the lit points of all twelve slots of a zone at 
 What is taken. Points and grids are arrays of complex64, or of a type that it holds without rounding (float32, or
 integers of 16 bits), in any memory order; they are copied only where they are not contiguous complex64 already. Nothing
 is rounded: complex128, which numpy.fft gives, is a TypeError, and astype(numpy.complex64) rounds it where that is
-meant. An array has one dimension, or its last has rows of 48 points, of a grid as many carriers as the size; rows of
-another length are a ValueError. How many points there are is the engine's question, 8 or 9. The pilot is as in
-`bellpulsar.ground`.
+meant. An array has one dimension, or rows: of 48 points, or in a grid of as many carriers as the size; other rows are a
+ValueError. How many points there are is the engine's question, 8 or 9. The pilot is as in `bellpulsar.ground`.
 """
 
 import operator
