@@ -97,13 +97,20 @@ def add_file(archive, name, data, is_program=False):
     archive.addfile(entry, io.BytesIO(data))
 
 
+def source_archive():
+    """Its bytes, not compressed yet."""
+    whole = io.BytesIO()
+    with tarfile.open(fileobj=whole, mode="w") as archive:
+        add_file(archive, "PKG-INFO", METADATA.encode())
+        for path in sorted(source_files()):
+            full = os.path.join(ROOT, path)
+            add_file(archive, path, contents(full), os.access(full, os.X_OK))
+    return whole.getvalue()
+
+
 def build_sdist(sdist_directory, config_settings=None):
     """Writes the source archive into a folder and returns its name."""
     name = STEM + ".tar.gz"
     with open(os.path.join(sdist_directory, name), "wb") as file:
-        with gzip.GzipFile("", "wb", fileobj=file, mtime=0) as packed, tarfile.open(fileobj=packed, mode="w") as archive:
-            add_file(archive, "PKG-INFO", METADATA.encode())
-            for path in sorted(source_files()):
-                full = os.path.join(ROOT, path)
-                add_file(archive, path, contents(full), os.access(full, os.X_OK))
+        file.write(gzip.compress(source_archive(), mtime=0))
     return name

@@ -1863,7 +1863,7 @@ class Loading(unittest.TestCase):
     def test_what_is_said_of_numpy(self):
         """Where no other python3 has it either."""
         command = [sys.executable, os.path.abspath(__file__), "Numpy"]
-        env = dict(os.environ, PATH="/none")
+        env = dict(os.environ, PATH="/none", BELLPULSAR_LIBRARY=BUILT)
         done = subprocess.run(command, env=env, capture_output=True, text=True, timeout=60)
         last = "with numpy" if numpy else "numpy not here: 3 skipped"
         self.assertEqual(done.returncode, 0, done.stderr)
