@@ -64,7 +64,7 @@ def _named() -> str:
 def _own() -> str:
     """This package's library: beside its modules where it is installed, else its tree's."""
     is_tree = os.path.exists(BUILDER) or os.path.exists(BUILT)
-    return BUILT if is_tree and not os.path.exists(BESIDE) else BESIDE
+    return BUILT if is_tree and not os.path.lexists(BESIDE) else BESIDE
 
 
 def _end_with_parent() -> None:
