@@ -15,8 +15,6 @@
 //!                                                      slot, how many of each), and tells whose a subchannel in a
 //!                                                      slot is and whose all subchannels of that slot are
 
-mod bellpulsar;
-
 use bellpulsar::{Address, Burst, Collisions, Content, Place, Refusal, Seen, Setup, Zone};
 use std::io::Write;
 use std::num::{IntErrorKind, ParseIntError};

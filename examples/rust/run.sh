@@ -4,6 +4,6 @@
 set -eu
 cd "$(dirname "$0")/../.."
 ./build.sh || exit 2
-rustc --edition 2021 -O examples/rust/example.rs -L native=build -l static=bellpulsar -o build/rust_example ||
-    exit 2
-exec build/rust_example "$@"
+export CARGO_TARGET_DIR=build/cargo
+cargo build --quiet --offline --release --manifest-path examples/rust/Cargo.toml || exit 2
+exec build/cargo/release/example "$@"

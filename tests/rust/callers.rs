@@ -1,15 +1,12 @@
-//! The wrapper of examples/rust, and through it every call, held to the reference's rows (rows.py): answers, first
+//! The crate, and through it every call, held to the reference's rows (rows.py): answers, first
 //! refusals, every bit of every float, and that what is not to be written keeps its contents. Run by run.sh.
-
-#[path = "../../examples/rust/bellpulsar.rs"]
-mod bellpulsar;
 
 use bellpulsar::*;
 use std::fs::read_to_string;
 
 /// The rows of this name, of which there are at least so many. A negative number stands as its 32 bits.
 fn rows(name: &str, least: usize) -> Vec<Vec<u32>> {
-    let text = read_to_string("build/rust/rows.txt").expect("rows.txt, which run.sh writes");
+    let text = read_to_string("../../build/rust/rows.txt").expect("rows.txt, which run.sh writes");
     let number = |word: &str| match word.strip_prefix('-') {
         None => word.parse::<u32>().unwrap(),
         Some(_) => word.parse::<i32>().unwrap() as u32,

@@ -1,18 +1,9 @@
 //! Bellpulsar from Rust: version 4 of the C interface, `include/bellpulsar.h`, declared, and a safe wrapper over each of its
 //! calls.
 //!
-//! Put this file beside your program, write `mod bellpulsar;`, and link the static library:
-//!
-//!     rustc --edition 2024 -O yours.rs -L native=build -l static=bellpulsar
-//!
-//! Edition 2021 or 2024, rustc 1.82 or later.
-//!
 //! Any number may stand in any field, and a slice may have any length: what is out of range is refused by the engine
 //! itself, with the number of the first question of document 01 that is answered no. On a refusal no lent slice is
 //! written. Lengths, ranges and the order of the questions stand in the header.
-
-// A program need not use every call.
-#![allow(dead_code)]
 
 use std::fmt;
 
