@@ -67,7 +67,9 @@ fn built(root: &Path) -> Result<PathBuf, String> {
 }
 
 fn installed() -> Result<PathBuf, String> {
-    variable("PKG_CONFIG_PATH");
+    for path in ["PKG_CONFIG_PATH", "PKG_CONFIG_LIBDIR"] {
+        println!("cargo::rerun-if-env-changed={path}");
+    }
     let found = pkg_config().map_err(|why| {
         format!(
             "no libbellpulsar.a is found. Name its folder in BELLPULSAR_LIB_DIR, or install it (make install, in a clone \

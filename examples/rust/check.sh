@@ -3,6 +3,7 @@
 set -eu
 cd "$(dirname "$0")/../.."
 ./build.sh
+unset BELLPULSAR_LIB_DIR
 export CARGO_TARGET_DIR=build/cargo
 RUSTFLAGS="-D warnings" cargo build --quiet --offline --release --manifest-path examples/rust/Cargo.toml
 sh examples/expected.sh "build/cargo/release/example "

@@ -1,12 +1,13 @@
 #!/bin/sh
-# Holds every call of the crate to the reference, under clippy where that is installed, and without a warning. Fails where they
-# differ.
+# Holds every call of the crate to the reference and runs its documentation's examples, all without a warning and under clippy
+# where that is installed; then takes the crate as programs do. Fails where something differs.
 set -eu
 cd "$(dirname "$0")/../.."
 ./build.sh
-export CARGO_TARGET_DIR="$PWD/build/cargo" RUSTFLAGS="-D warnings"
+unset BELLPULSAR_LIB_DIR
+export CARGO_TARGET_DIR="$PWD/build/cargo" RUSTFLAGS="-D warnings" RUSTDOCFLAGS="-D warnings"
 
-# on PACKAGE COMMAND..: cargo's command on the package in that folder, as the release that examples/rust has.
+# on PACKAGE COMMAND..: cargo's command on the package in that folder, as a release: the rows are many.
 on() {
     package=$1
     shift
@@ -21,4 +22,7 @@ fi
 mkdir -p build/rust
 python3 tests/rust/rows.py >build/rust/rows.txt
 on tests/rust test
-echo "rust: every call agrees with the reference, $said"
+on rust test --doc
+on rust doc
+sh tests/rust/crate.sh
+echo "rust: every call agrees with the reference; editions 2021 and 2024, $said"
