@@ -48,20 +48,14 @@ fn position(burst: u32) -> Option<usize> {
 
 /// Is a list of bursts fit for its zone: at most 64, none empty, each wholly in the zone and apart from every earlier one?
 pub fn bursts_check(size: u32, zone: Zone, bursts: &[Burst]) -> Result<(), Refusal> {
-    let Zone {
-        mode,
-        cell,
-        slots,
-        mask,
-    } = zone;
     // Safety: a burst is four u32 in a row, so the list has four times as many as there are bursts.
     done(unsafe {
         c::bp_bursts_check(
-            mode,
+            zone.mode,
             size,
-            cell,
-            slots,
-            mask,
+            zone.cell,
+            zone.slots,
+            zone.mask,
             bursts.as_ptr().cast(),
             4 * bursts.len(),
         )
@@ -76,21 +70,15 @@ pub fn burst_owner(
     subchannel: u32,
     bursts: &[Burst],
 ) -> Result<Owner, Refusal> {
-    let Zone {
-        mode,
-        cell,
-        slots,
-        mask,
-    } = zone;
     let (mut owner, mut looked) = (0, 0);
     // Safety: as in `bursts_check`, and the out parameters are distinct variables.
     done(unsafe {
         c::bp_burst_owner(
-            mode,
+            zone.mode,
             size,
-            cell,
-            slots,
-            mask,
+            zone.cell,
+            zone.slots,
+            zone.mask,
             slot,
             subchannel,
             bursts.as_ptr().cast(),
@@ -113,21 +101,15 @@ pub fn burst_owners(
     slot: u32,
     bursts: &[Burst],
 ) -> Result<[Option<usize>; 192], Refusal> {
-    let Zone {
-        mode,
-        cell,
-        slots,
-        mask,
-    } = zone;
     let mut owners = [0u8; 192];
     // Safety: as in `bursts_check`, and `owners` has the 192 bytes that are written.
     done(unsafe {
         c::bp_burst_owners(
-            mode,
+            zone.mode,
             size,
-            cell,
-            slots,
-            mask,
+            zone.cell,
+            zone.slots,
+            zone.mask,
             slot,
             bursts.as_ptr().cast(),
             4 * bursts.len(),

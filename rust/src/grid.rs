@@ -12,7 +12,8 @@ pub enum Seen {
     Data(Point, Address),
 }
 
-/// The mask of PUSC downlink that lights every major group: bit g is for group g. The other modes have mask 0, and all is lit.
+/// The mask of PUSC downlink that lights every major group: bit g is for group g. The other modes have mask 0, and all is
+/// lit.
 pub const ALL_GROUPS: u32 = 63;
 
 /// The floats of a slot's points where all is lit, 96 for each subchannel; 0 for a size that is not the mode's.
@@ -83,8 +84,8 @@ pub fn ground(
 
 /// The second move: lays the 48 points, 96 floats, of one lit subchannel on the grid; no other float of it is written.
 /// Subchannels may be laid in any order, and again. A ground serves every slot whose pilots are on the same carriers: all
-/// slots in PUSC, AMC 2x3 and AMC 1x6, those that agree mod 3 in optional FUSC, AMC 6x1 and AMC 3x2. Where all is lit it serves
-/// every cell too; else only the same cell and mask.
+/// slots in PUSC, AMC 2x3 and AMC 1x6, those that agree mod 3 in optional FUSC, AMC 6x1 and AMC 3x2. Where all is lit it
+/// serves every cell too; else only the same cell and mask.
 pub fn lay(
     setup: Setup,
     mask: u32,

@@ -1,10 +1,10 @@
-//! Bellpulsar from Rust: the subcarrier map of IEEE 802.16e OFDMA, proved. A safe wrapper over each call of version 4 of the C
-//! interface, `include/bellpulsar.h`.
+//! Bellpulsar from Rust: the subcarrier map of IEEE 802.16e OFDMA, proved. A safe wrapper over each call of version 4 of
+//! the C interface, `include/bellpulsar.h`.
 //!
 //! ```
 //! use bellpulsar::{locate, place, Address, Content, Mode, Place, Refusal, Setup};
 //!
-//! // Where does optional FUSC at FFT size 1024 put point 0 of subchannel 0 in slot 0 under cell 17, and what is found there?
+//! // Optional FUSC at FFT size 1024 under cell 17: where is point 0 of subchannel 0 in slot 0, and what is found there?
 //! let setup = Setup { mode: Mode::Ofusc, size: 1024, cell: 17 };
 //! let address = Address { slot: 0, subchannel: 0, index: 0 };
 //! let at = place(setup, address)?;
@@ -18,27 +18,27 @@
 //! # Ok::<(), Refusal>(())
 //! ```
 //!
-//! A program names the crate in its `Cargo.toml`; its edition may be 2021 or 2024, with rustc 1.82 or later:
+//! A program names the crate in its `Cargo.toml`. Its edition may be 2021 or 2024, with rustc 1.82 or later:
 //!
 //! ```toml
 //! [dependencies]
 //! bellpulsar = { path = "../bellpulsar/rust" }
 //! ```
 //!
-//! The static library, `libbellpulsar.a`, is looked for in the folder that `BELLPULSAR_LIB_DIR` names, an absolute path; else,
-//! in a clone of the repository, `build.sh` makes it, which takes about two minutes the first time (by itself it tells how far it
-//! is, under Cargo only where it fails); else pkg-config is asked for `bellpulsar`.
+//! The static library, `libbellpulsar.a`, is taken from the folder that `BELLPULSAR_LIB_DIR` names, an absolute path. Else,
+//! in a clone of the repository, its `build.sh` makes it; that takes about two minutes the first time, and Cargo does not
+//! show how far it is, so run it by hand before. Else pkg-config is asked for `bellpulsar`.
 //!
 //! # Requests
 //!
-//! Any number may stand in any field, and a slice may have any length: what is out of range is refused by the engine itself,
-//! with the first question of document 01 that is answered no, a [`Refusal`]. On a refusal no lent slice is written. Lengths,
-//! ranges and the order of the questions stand in the header.
+//! Any number may stand in any field, and a slice may have any length: what is out of range is refused by the engine
+//! itself, with the first question of document 01 that is answered no, a [`Refusal`]. On a refusal no lent slice is
+//! written. Lengths, ranges and the order of the questions stand in the header.
 //!
-//! A mode alone is not any number but a [`Mode`]. One that comes as a number or by name is made a `Mode` first, and refused
-//! there, by [`Refusal::Mode`], where it is not listed: no other question comes before this one in the calls that take a
-//! `Mode`. In a [`Zone`] it stays a number, since of a plan and of bursts not every mode is accepted, and the questions to an
-//! earlier zone come first.
+//! The mode alone has a type of its own, [`Mode`]. One that comes as a number or by name is made a `Mode` first, and where
+//! it is not listed that is refused, with [`Refusal::Mode`]: the first question of every call that takes a `Mode`, so no
+//! other could come before it. In a [`Zone`] the mode stays a number, and the engine is asked: of a plan and of bursts not
+//! every mode is accepted, and in a plan questions to an earlier zone come first.
 
 mod bursts;
 #[rustfmt::skip] // As the header has them.

@@ -86,9 +86,10 @@ pub fn locate(setup: Setup, at: Place) -> Result<Content, Refusal> {
     })
 }
 
-/// Where the 48 points of a subchannel stand in a slot's grid, by index, for a caller who keeps the table and copies through
-/// it. They count the grid's points: each is size times the symbol's offset in the slot, plus size/2, plus the carrier. A
-/// table serves every slot of its cell whose pilots are on the same carriers; [`lay`](crate::lay) says which these are.
+/// Where the 48 points of a subchannel stand in a slot's grid, by index, for a caller who keeps the table and copies
+/// through it. They count the grid's points: each is size times the symbol's offset in the slot, plus size/2, plus the
+/// carrier. A table serves every slot of its cell whose pilots are on the same carriers; [`lay`](crate::lay) says which
+/// these are.
 ///
 /// ```
 /// use bellpulsar::{lay, places, Mode, Point, Refusal, Setup};
