@@ -1,6 +1,6 @@
 #!/usr/bin/env python3
-"""Slots in GNU Radio's OFDM blocks, held to the engine: the carrier allocator lays a slot's points, the serializer takes
-them off again.
+"""Slots in GNU Radio's OFDM blocks, held to the engine: the carrier allocator lays a slot's points, the serializer
+takes them off again.
 
     PYTHONPATH=python python3 examples/gnuradio/slot.py
 
