@@ -1731,9 +1731,9 @@ class Loading(unittest.TestCase):
         self.assertEqual(done.returncode, 0, done.stderr)
         self.assertRegex(done.stdout, r"^python: \d tests, %s\n$" % last)
 
-    def test_the_examples_of_the_module_and_the_readme(self):
-        readme = os.path.join(ROOT, "README.md")
-        for failed, tried in (doctest.testmod(bp), doctest.testfile(readme, module_relative=False)):
+    def test_the_examples_of_the_module_and_the_documents(self):
+        pages = [os.path.join(ROOT, name) for name in ("README.md", "docs/GUIDE.md")]
+        for failed, tried in (doctest.testmod(bp), *(doctest.testfile(page, module_relative=False) for page in pages)):
             self.assertEqual(failed, 0)
             self.assertGreater(tried, 5)
 
