@@ -31,11 +31,12 @@ HOME = os.path.realpath(tempfile.mkdtemp())  # all that the tests write
 TREE = os.path.join(HOME, "tree")  # from here the first installation is made,
 AWAY = os.path.join(HOME, "away")  # and here the tree is afterwards
 PREFIX = os.path.join(HOME, "prefix")
+COMMAND = os.path.join(PREFIX, "bin", "bellpulsar")
 OUTSIDE = os.path.join(HOME, "outside")  # where what is installed is used
 
 FOLDERS = ("DESTDIR", "PREFIX", "INCLUDEDIR", "LIBDIR", "BINDIR", "MANDIR", "PKGCONFIGDIR", "PYTHONDIR")
 OWN = ("MAKEFLAGS", "MFLAGS", "MAKELEVEL", "LD_LIBRARY_PATH", "BELLPULSAR_LIBRARY", "BELLPULSAR_LIB_DIR")
-OWN += ("PYTHONPATH", "PYTHONPYCACHEPREFIX")
+OWN += ("PYTHONPATH", "PYTHONPYCACHEPREFIX", "CARGO_TARGET_DIR")
 ENV = {name: value for name, value in os.environ.items() if name not in FOLDERS + OWN}
 ENV["PYTHONDONTWRITEBYTECODE"] = "1"  # the first installation stays as it was made
 
@@ -224,7 +225,7 @@ class Files(Case):
 
     def test_below_a_prefix(self):
         self.assertEqual(installed(PREFIX), wanted())
-        self.no_file_names(PREFIX, ROOT, TREE)
+        self.no_file_names(PREFIX, ROOT + "/", TREE)
         self.assertEqual(read(PREFIX, PACKAGE, "VERSION"), VERSION + "\n")
         pc = read(PREFIX, "lib", "pkgconfig", "bellpulsar.pc")
         self.assertEqual(pc, PC % (PREFIX, "${prefix}/include", "${prefix}/lib", VERSION))
@@ -287,7 +288,7 @@ class Refused(Case):
     def test_a_build_that_fails(self):
         header = read(AWAY, "include", "bellpulsar.h")
         self.addCleanup(write, AWAY, "include/bellpulsar.h", header)
-        for name, words in (("BP_VERSION", "bellpulsar: %s\n"), ("BP_VERSION_MINOR", "%s.  Stop.")):
+        for name, words in (("BP_VERSION", "bellpulsar: %s\n"), ("BP_VERSION_MINOR", "%s.")):
             write(AWAY, "include/bellpulsar.h", header.replace("#define %s " % name, "#define OTHER "))
             self.is_refused(words % ("include/bellpulsar.h has no " + name))
 
@@ -306,17 +307,16 @@ class Uninstalled(Case):
         for name in foreign:
             os.remove(os.path.join(self.folder, name))
         self.made("uninstall", "PREFIX=" + self.folder)
-        self.assertFalse(os.path.exists(os.path.join(self.folder, PACKAGE)))
+        self.assertEqual(installed(self.folder), {})
         for name in ("include", "lib/pkgconfig", SITE, "bin", "share/man/man1"):
-            self.assertEqual(set(os.listdir(os.path.join(self.folder, name))), set())
+            self.assertEqual(os.listdir(os.path.join(self.folder, name)), [])
 
 
-def has_pkg_config():
-    return unittest.skipUnless(shutil.which("pkg-config"), "pkg-config is missing")
+needs_pkg_config = unittest.skipUnless(shutil.which("pkg-config"), "pkg-config is missing")
 
 
 class Programs(Case):
-    """By pkg-config, as README has it."""
+    """As README has them."""
 
     def compiled(self, line, name, text):
         """Of a line of shell with %s for the source and the program."""
@@ -332,15 +332,15 @@ class Programs(Case):
         self.assertTrue(is_shared)
         self.prints(answer, [program], LD_LIBRARY_PATH=os.path.join(PREFIX, "lib"))
 
-    @has_pkg_config()
+    @needs_pkg_config
     def test_c(self):
         self.works_shared("${CC:-cc}", "yours.c", C, ANSWER)
 
-    @has_pkg_config()
+    @needs_pkg_config
     def test_cpp(self):
         self.works_shared("${CXX:-c++}", "yours.cpp", CPP, "(0.5,-2)(0.5,-2)\n")
 
-    @has_pkg_config()
+    @needs_pkg_config
     def test_c_static(self):
         line = "${CC:-cc} %s $(pkg-config --cflags bellpulsar) "
         line += "$(pkg-config --variable=libdir bellpulsar)/libbellpulsar.a -o %s"
@@ -353,7 +353,7 @@ class Programs(Case):
         program, _ = self.compiled(line, "yours.c", C)
         self.prints(ANSWER, [program])
 
-    @has_pkg_config()
+    @needs_pkg_config
     @unittest.skipUnless(os.path.isdir(os.path.join(ROOT, "rust")), "the tree has no Rust crate")
     @unittest.skipUnless(shutil.which("cargo"), "cargo is missing")
     def test_rust(self):
@@ -423,17 +423,18 @@ class ManPage(Case):
         self.assertNotIn("@", read(self.PAGE))
 
     def test_every_command_has_an_entry(self):
-        told = run([os.path.join(PREFIX, "bin", "bellpulsar"), "--help"])
+        told = run([COMMAND, "--help"])
         commands = re.findall("^    ([a-z]+)\\b", told.stdout, re.MULTILINE)
         self.assertIn("place", commands)
-        entries = re.findall('^\\.BI? "?([a-z]+)', read(self.PAGE).partition(".SH COMMANDS")[2], re.MULTILINE)
+        entries = read(self.PAGE).partition(".SH COMMANDS")[2].partition(".SH OPTIONS")[0]
+        entries = re.findall('^\\.TP\n\\.BI? "?([a-z]+)', entries, re.MULTILINE)
         self.assertEqual(set(commands) - set(entries), set())
 
     def test_examples(self):
         text = read(self.PAGE).partition(".SH EXAMPLES")[2].partition(".EX\n")[2].partition(".EE")[0]
         for example in text.replace("\\-", "-").replace("\\(aq", "'").split("$ bellpulsar ")[1:]:
             words, answer = example.split("\n", 1)
-            done = run([os.path.join(PREFIX, "bin", "bellpulsar"), *words.split()], cwd=self.folder)
+            done = run([COMMAND, *words.split()], cwd=self.folder)
             self.assertEqual((done.stdout, done.stderr), (answer, ""), words)
 
     @unittest.skipUnless(shutil.which("groff"), "groff is missing")
