@@ -114,7 +114,7 @@ from typing import NamedTuple, Optional, Tuple
 
 from . import refusals
 from .buffers import BYTE, FLOAT, apart, lent, pilot_point
-from .library import Hits, Owners, Pair, Zones, counted, engine, int32, numbers, signed, uint
+from .library import Hits, Owners, Pair, Zones, counted, engine, int32, numbers, signed, uint, version
 from .refusals import QUESTIONS
 
 __all__ = [
@@ -158,6 +158,8 @@ __all__ = [
     "burst_owner",
     "burst_owners",
 ]
+
+__version__ = version()
 
 PUSC_DL, PUSC_UL, OFUSC = 0, 1, 2
 AMC, AMC_2X3, AMC_3X2, AMC_1X6 = 3, 4, 5, 6

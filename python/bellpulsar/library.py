@@ -3,6 +3,7 @@
 import ctypes
 import operator
 import os
+import re
 import signal
 import subprocess
 import sys
@@ -11,6 +12,7 @@ ROOT = os.path.dirname(os.path.dirname(os.path.dirname(os.path.abspath(__file__)
 BUILDER = os.path.join(ROOT, "build.sh")
 VERSION = 4  # of the interface as it is called here: the header's BP_VERSION
 BUILT = os.path.join(ROOT, "build", "libbellpulsar.so.%d" % VERSION)
+BESIDE = os.path.join(os.path.dirname(os.path.abspath(__file__)), os.path.basename(BUILT))  # an installation's
 
 uint = ctypes.c_uint32
 int32 = ctypes.c_int32
@@ -49,9 +51,14 @@ def _end_with_parent():
     ctypes.CDLL(None).prctl(1, signal.SIGTERM)  # 1: PR_SET_PDEATHSIG
 
 
+def _named():
+    """The library that is never built here: the environment's, or that of an installation."""
+    return os.environ.get("BELLPULSAR_LIBRARY") or (BESIDE if os.path.lexists(BESIDE) else None)
+
+
 def build():
     """Builds the library where it is missing or old; the builder tells so itself, on standard error."""
-    if not os.environ.get("BELLPULSAR_LIBRARY"):
+    if not _named():
         subprocess.run([BUILDER], stdout=sys.stderr or subprocess.DEVNULL, check=True, preexec_fn=_end_with_parent)
         engine.is_current = True
 
@@ -61,8 +68,8 @@ def _is_old():
 
 
 def _path(is_current):
-    """Of the library: named by the environment, or this tree's own, which must not be older than its source."""
-    named = os.environ.get("BELLPULSAR_LIBRARY")
+    """Of the library: that of `_named`, or this tree's own, which must not be older than its source."""
+    named = _named()
     path = named or BUILT
     if not os.path.exists(path):
         raise ImportError(
@@ -99,6 +106,17 @@ class _Engine:
 
 
 engine = _Engine()
+
+
+def version():
+    """As text: an installation has it in a file beside these modules, a tree in the header."""
+    try:
+        with open(os.path.join(os.path.dirname(BESIDE), "VERSION"), encoding="ascii") as file:
+            return file.read().strip()
+    except FileNotFoundError:
+        with open(os.path.join(ROOT, "include", "bellpulsar.h"), encoding="utf-8") as file:
+            return ".".join(re.findall(r"^#define BP_VERSION(?:_MINOR|_PATCH)? ([0-9]+)$", file.read(), re.MULTILINE))
+
 
 _MOST = 2**32 - 1
 
