@@ -67,6 +67,30 @@ done
 expect 2 "" carrier 3 256 0 0
 expect 2 "" carrier 3 256 0 0 -1 -1
 
+# table SYMBOLS MODE SIZE CELL SLOT SUBCHANNEL: what places should print, by point; a slot has so many symbols.
+table() {
+    symbols=$1
+    shift
+    for index in $(seq 0 47); do
+        where=$(${prefix}point "$@" "$index" | head -n 1)
+        symbol=${where#symbol } carrier=${where#* carrier }
+        symbol=${symbol% carrier *}
+        echo "index $index $where place $((symbol % symbols * $2 + $2 / 2 + carrier))"
+    done
+}
+expect 0 "$(table 1 2 1024 17 0 0)" places 2 1024 17 0 0
+expect 0 "$(table 2 0 2048 5 511 59)" places 0 2048 5 511 59
+expect 0 "$(table 3 1 2048 69 7 69)" places 1 2048 69 7 69
+expect 0 "$(table 6 6 256 176 1 23)" places 6 256 176 1 23
+expect 1 "refused 1: Is the mode listed (in a plan and of bursts: 0 or 2 to 6)?" places 7 128 256 512 16
+expect 1 "refused 2: Is the size that mode's (of a plan: 256, 512, 1024 or 2048)?" places 2 128 256 512 16
+expect 1 "refused 3: Is the cell in range?" places 2 1024 256 512 16
+expect 1 "refused 4: Is the slot below 512, the zone's symbol below 512 times the slot length?" places 2 1024 255 512 16
+expect 1 "refused 5: Is the subchannel in range (of a lay: and lit)?" places 2 1024 255 511 16
+expect 2 "" places 2 1024 17 0
+expect 2 "" places 2 1024 17 0 0 0
+expect 2 "" places 2 1024 17 0 x
+
 expect 0 "groups 0 1 31 32
 count 4" collisions 2048 0 2 1010 0
 expect 1 "refused 3: Is the cell in range?" collisions 256 0 4 16 0

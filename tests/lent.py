@@ -18,7 +18,9 @@ FIELD, CARRIER, LENGTH, POINTER = ctypes.c_uint32, ctypes.c_int32, ctypes.c_size
 
 # The arguments of each call: f a field, c a carrier, which has a sign, p a pointer, n a length.
 SIGNATURES = {
+    "bp_version": "",
     "bp_place": "ffffffpp",
+    "bp_places": "fffffp",
     "bp_locate": "ffffcpppp",
     "bp_points_len": "ff",
     "bp_lit_points_len": "fff",

@@ -150,6 +150,19 @@ class Place:
         return fields + list(map(self.arena.address, (0, 1))), [], number, written, met
 
 
+class Places:
+    name, arena = "bp_places", Arena(4 * ref.POINTS)
+    refusals, cases = [1, 2, 3, 4, 5], SETUPS
+
+    def request(self, dice, noise, mode, size, cell, mask, slot):
+        limits = setup_limits(mode, size) + [ref.SLOTS, ref.subchannels(mode, size)]
+        good = [mode, size] + [within(dice, limit) for limit in limits[2:]]
+        fields = spoiled(dice, good, limits, {1: other_size})
+        number, places = ref.places(*fields)
+        written = [] if number else [(0, words(places))]
+        return fields + [self.arena.address(0)], [], number, written, [] if number else [tuple(fields[:2])]
+
+
 def place_in(dice, mode, size, slot):
     """A symbol of the slot and a carrier of it, and the limits of both."""
     length = ref.SLOT_LENGTH[mode]
@@ -632,7 +645,7 @@ class BurstOwners(BurstsCheck):
         return 0, [(0, bytes(owners))], [met]
 
 
-MAP_CALLS = [Place, Locate, PointsLen, LitPointsLen, GridLen, Ground, Lay, Slot, Empty, EmptyFirst, Look]
+MAP_CALLS = [Place, Places, Locate, PointsLen, LitPointsLen, GridLen, Ground, Lay, Slot, Empty, EmptyFirst, Look]
 CALLS = MAP_CALLS + [OfuscCollisions, AmcCollisions, PlanRead, PlanWrite, BurstsCheck, BurstOwner, BurstOwners]
 
 

@@ -112,12 +112,20 @@ def lit_questions(mode, size, cell, mask):
     yield 17, mask in masks(mode)
 
 
-@refusal
-def place_refusal(mode, size, cell, slot, subchannel, index):
+def subchannel_questions(mode, size, cell, slot, subchannel):
+    """Of a call that has a slot and a subchannel, lit or not."""
     yield from setup_questions(mode, size, cell)
     yield 4, slot < SLOTS
     yield 5, subchannel < subchannels(mode, size)
+
+
+@refusal
+def place_refusal(mode, size, cell, slot, subchannel, index):
+    yield from subchannel_questions(mode, size, cell, slot, subchannel)
     yield 6, index < POINTS
+
+
+places_refusal = refusal(subchannel_questions)
 
 
 @refusal
@@ -453,6 +461,15 @@ def column(size, carrier):
 def grid_at(mode, size, symbol, carrier):
     """Where a point's two floats start in its slot's grid."""
     return 2 * (symbol % SLOT_LENGTH[mode] * size + column(size, carrier))
+
+
+def places(mode, size, cell, slot, subchannel):
+    """(refusal, the place in the slot's grid of each of the subchannel's points), counted in points."""
+    number = places_refusal(mode, size, cell, slot, subchannel)
+    if number:
+        return number, []
+    at = [place(mode, size, cell, slot, subchannel, index)[1:] for index in range(POINTS)]
+    return 0, [grid_at(mode, size, symbol, carrier) // 2 for symbol, carrier in at]
 
 
 def points_at(mode, size, mask, subchannel, index):

@@ -1116,10 +1116,13 @@ class Usage(Case):
                 tried += 1
         self.assertGreaterEqual(tried, 10)
 
-    def test_examples_of_the_readme(self):
-        with open(os.path.join(ROOT, "README.md")) as file:
-            examples = re.findall(r"^    \$ \./bellpulsar (.*)\n((?:    [^$\n].*\n)+)", file.read(), re.MULTILINE)
-        self.assertGreaterEqual(len(examples), 6)
+    def test_examples_of_the_documents(self):
+        examples = []
+        for name in ("README.md", "docs/GUIDE.md", "docs/RULES.md"):
+            with open(os.path.join(ROOT, name)) as file:
+                found = re.findall(r"^    \$ \./bellpulsar (.*)\n((?:    [^$\n].*\n)+)", file.read(), re.MULTILINE)
+            self.assertGreaterEqual(len(found), 5, name)
+            examples += found
         for line, output in examples:
             text = "".join(part[4:] + "\n" for part in output.splitlines())
             self.assertEqual(asked(*shlex.split(line)).stdout.decode(), text, line)

@@ -727,10 +727,12 @@ class Refusals(unittest.TestCase):
         self.assertEqual(len(set(bp.QUESTIONS.values())), 19)
         self.assertTrue(all(text[0].isupper() and text.endswith("?") for text in bp.QUESTIONS.values()))
 
-    def test_the_wrapper_in_rust_has_the_same_questions(self):
-        with open(os.path.join(ROOT, "examples", "rust", "bellpulsar.rs")) as file:
-            rust = dict(re.findall(r'^ +(\d+) => "(.*\?)",$', file.read(), re.MULTILINE))
-        self.assertEqual(rust, {str(n): text for n, text in bp.QUESTIONS.items()})
+    def test_the_crate_in_rust_has_the_same_questions(self):
+        with open(os.path.join(ROOT, "rust", "src", "refusal.rs")) as file:
+            text = file.read()
+        numbers = re.findall(r"^ +(\w+) = (\d+),$", text, re.MULTILINE)
+        questions = dict(re.findall(r'^ +Refusal::(\w+) => "(.*\?)",$', text, re.MULTILINE))
+        self.assertEqual({int(n): questions[name] for name, n in numbers}, dict(bp.QUESTIONS))
 
     def test_the_examples_in_c_have_the_same_questions(self):
         with open(os.path.join(ROOT, "examples", "c", "refusal.h")) as file:
@@ -1876,9 +1878,9 @@ class Loading(unittest.TestCase):
         told = "^ImportError: bellpulsar.arrays needs numpy, 1.21 or later \\(bellpulsar itself does not\\): .*numpy.*$"
         self.assertRegex(last_line(done), told)
 
-    def test_the_examples_of_the_module_and_the_readme(self):
-        readme = os.path.join(ROOT, "README.md")
-        for failed, tried in (doctest.testmod(bp), doctest.testfile(readme, module_relative=False)):
+    def test_the_examples_of_the_module_and_the_documents(self):
+        pages = [os.path.join(ROOT, name) for name in ("README.md", "docs/GUIDE.md")]
+        for failed, tried in (doctest.testmod(bp), *(doctest.testfile(page, module_relative=False) for page in pages)):
             self.assertEqual(failed, 0)
             self.assertGreater(tried, 5)
 

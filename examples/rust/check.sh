@@ -3,7 +3,8 @@
 set -eu
 cd "$(dirname "$0")/../.."
 ./build.sh
-rustc --edition 2021 -O -D warnings examples/rust/example.rs -L native=build -l static=bellpulsar \
-    -o build/rust_example
-sh examples/expected.sh "build/rust_example "
+unset BELLPULSAR_LIB_DIR
+export CARGO_TARGET_DIR=build/cargo
+RUSTFLAGS="-D warnings" cargo build --quiet --offline --release --manifest-path examples/rust/Cargo.toml
+sh examples/expected.sh "build/cargo/release/example "
 echo "examples: each in Rust prints what it should"

@@ -2,6 +2,8 @@
 //!
 //!     point MODE SIZE CELL SLOT SUBCHANNEL INDEX       where a point is placed, and what is found there
 //!     carrier MODE SIZE CELL SYMBOL CARRIER            what a carrier, counted from DC, holds in a symbol
+//!     places MODE SIZE CELL SLOT SUBCHANNEL            where the points of a subchannel lie, and their places in the
+//!                                                      slot's grid
 //!     collisions SIZE CELL SUBCHANNEL CELL SUBCHANNEL  where two cells collide in optional FUSC
 //!     collisions CELL CELL                             where two cells collide in AMC
 //!     slot MODE SIZE CELL MASK SLOT                    fills a slot's grid in two moves, lays the last lit
@@ -15,15 +17,14 @@
 //!                                                      slot, how many of each), and tells whose a subchannel in a
 //!                                                      slot is and whose all subchannels of that slot are
 
-mod bellpulsar;
-
-use bellpulsar::{Address, Burst, Collisions, Content, Place, Refusal, Seen, Setup, Zone};
+use bellpulsar::{Address, Burst, Collisions, Content, Mode, Place, Refusal, Seen, Setup, Zone};
 use std::io::Write;
 use std::num::{IntErrorKind, ParseIntError};
 use std::process::exit;
 
 const USAGE: &str = "usage: point MODE SIZE CELL SLOT SUBCHANNEL INDEX
        carrier MODE SIZE CELL SYMBOL CARRIER
+       places MODE SIZE CELL SLOT SUBCHANNEL
        collisions SIZE CELL SUBCHANNEL CELL SUBCHANNEL, or collisions CELL CELL
        slot MODE SIZE CELL MASK SLOT
        capture MODE SIZE CELL MASK SLOT
@@ -76,6 +77,12 @@ fn byte(word: &str) -> u8 {
     u8::from_str_radix(word, 16).unwrap()
 }
 
+/// A mode that is not listed is refused here, before every other question.
+fn setup(mode: u32, size: u32, cell: u32) -> Result<Setup, Refusal> {
+    let mode = Mode::try_from(mode)?;
+    Ok(Setup { mode, size, cell })
+}
+
 /// A burst from its four numbers.
 fn burst(four: &[u32]) -> Burst {
     Burst {
@@ -109,6 +116,20 @@ fn carrier(setup: Setup, at: Place) -> Result<String, Refusal> {
             of.slot, of.subchannel, of.index
         ),
     })
+}
+
+fn places(setup: Setup, slot: u32, subchannel: u32) -> Result<String, Refusal> {
+    let mut text = String::new();
+    for (index, place) in (0..).zip(bellpulsar::places(setup, slot, subchannel)?) {
+        let address = Address {
+            slot,
+            subchannel,
+            index,
+        };
+        let Place { symbol, carrier } = bellpulsar::place(setup, address)?;
+        text += &format!("index {index} symbol {symbol} carrier {carrier} place {place}\n");
+    }
+    Ok(text)
 }
 
 fn collisions(what: &str, found: Result<Collisions, Refusal>) -> Result<String, Refusal> {
@@ -159,7 +180,7 @@ fn slot(setup: Setup, mask: u32, slot: u32) -> Result<String, Refusal> {
     while !left.is_empty() {
         match bellpulsar::lay(setup, mask, slot, next, &left[..OWN], &mut grid) {
             Ok(()) => (last, left) = (next, &left[OWN..]),
-            Err(Refusal(5)) => {}
+            Err(Refusal::Subchannel) => {}
             Err(refusal) => return Err(refusal),
         }
         next += 1;
@@ -250,7 +271,8 @@ fn bursts(
 
     // The row has a place for each of 192 subchannels; the mode has as many as there are points for.
     let mut first = 0;
-    for run in owners[..bellpulsar::points_len(zone.mode, size) / 96].chunk_by(|a, b| a == b) {
+    let subchannels = bellpulsar::points_len(zone.mode.try_into()?, size) / 96;
+    for run in owners[..subchannels].chunk_by(|a, b| a == b) {
         let last = first + run.len() - 1;
         text += &format!("subchannels {first} to {last}: {}\n", owned_by(run[0]));
         first = last + 1;
@@ -260,31 +282,37 @@ fn bursts(
 
 /// What an example prints.
 fn run(name: &str, words: &[String]) -> Result<String, Refusal> {
-    if name == "plan" {
-        return plan(&words.iter().map(|word| byte(word)).collect::<Vec<u8>>());
+    match (name, words) {
+        ("plan", bytes) => plan(&bytes.iter().map(|word| byte(word)).collect::<Vec<u8>>()),
+        ("carrier", [mode, size, cell, symbol, at]) => {
+            let [mode, size, cell, symbol] = [mode, size, cell, symbol].map(|word| field(word));
+            let at = Place {
+                symbol,
+                carrier: signed_field(at),
+            };
+            carrier(setup(mode, size, cell)?, at)
+        }
+        _ => {
+            let fields: Vec<u32> = words.iter().map(|word| field(word)).collect();
+            run_with(name, &fields)
+        }
     }
-    if let ("carrier", [mode, size, cell, symbol, at]) = (name, words) {
-        let setup = Setup {
-            mode: field(mode),
-            size: field(size),
-            cell: field(cell),
-        };
-        let at = Place {
-            symbol: field(symbol),
-            carrier: signed_field(at),
-        };
-        return carrier(setup, at);
-    }
-    let fields: Vec<u32> = words.iter().map(|word| field(word)).collect();
-    match (name, fields.as_slice()) {
+}
+
+/// The same of those whose words are all fields.
+fn run_with(name: &str, fields: &[u32]) -> Result<String, Refusal> {
+    match (name, fields) {
         ("point", &[mode, size, cell, slot, subchannel, index]) => point(
-            Setup { mode, size, cell },
+            setup(mode, size, cell)?,
             Address {
                 slot,
                 subchannel,
                 index,
             },
         ),
+        ("places", &[mode, size, cell, slot, subchannel]) => {
+            places(setup(mode, size, cell)?, slot, subchannel)
+        }
         ("collisions", &[size, cell_a, subchannel_a, cell_b, subchannel_b]) => collisions(
             "groups",
             bellpulsar::ofusc_collisions(size, cell_a, subchannel_a, cell_b, subchannel_b),
@@ -292,11 +320,9 @@ fn run(name: &str, words: &[String]) -> Result<String, Refusal> {
         ("collisions", &[cell_a, cell_b]) => {
             collisions("indices", bellpulsar::amc_collisions(cell_a, cell_b))
         }
-        ("slot", &[mode, size, cell, mask, number]) => {
-            slot(Setup { mode, size, cell }, mask, number)
-        }
+        ("slot", &[mode, size, cell, mask, number]) => slot(setup(mode, size, cell)?, mask, number),
         ("capture", &[mode, size, cell, mask, slot]) => {
-            capture(Setup { mode, size, cell }, mask, slot)
+            capture(setup(mode, size, cell)?, mask, slot)
         }
         ("bursts", &[mode, size, cell, slots, mask, slot, subchannel, ref list @ ..])
             if list.len() % 4 == 0 =>

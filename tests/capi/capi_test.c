@@ -14,13 +14,18 @@ struct place_row {
     int32_t carrier;
 };
 
+enum { INDICES = 48, MARKS = 48 };
+
+struct places_row {
+    uint32_t mode, size, cell, slot, subchannel;
+    uint32_t refusal, places[INDICES];
+};
+
 struct locate_row {
     uint32_t mode, size, cell, symbol;
     int32_t carrier;
     uint32_t refusal, kind, slot, subchannel, index;
 };
-
-enum { MARKS = 48 };
 
 /* What a collision call must give: the refusal, the marks and their count. */
 struct met {
@@ -88,6 +93,19 @@ static int place_agrees(const struct place_row *row, uint32_t fill)
     int accepted = row->refusal == 0;
     return refusal == row->refusal && holds(&symbol, fill, accepted ? row->symbol : fill) && carrier.before == ~fill &&
            carrier.value == (accepted ? row->carrier : (int32_t)fill) && carrier.after == ~fill;
+}
+
+/* The row between two guard words: all of it written, or nothing. */
+static int places_agree(const struct places_row *row, uint32_t fill)
+{
+    struct { uint32_t before, places[INDICES], after; } out = {.before = ~fill, .after = ~fill};
+    for (int i = 0; i < INDICES; i++)
+        out.places[i] = fill;
+    uint32_t refusal = bp_places(row->mode, row->size, row->cell, row->slot, row->subchannel, out.places);
+    int same = refusal == row->refusal && out.before == ~fill && out.after == ~fill;
+    for (int i = 0; i < INDICES; i++)
+        same &= out.places[i] == (row->refusal == 0 ? row->places[i] : fill);
+    return same;
 }
 
 static int locate_agrees(const struct locate_row *row, uint32_t fill)
@@ -162,6 +180,51 @@ static int test_place(void)
     return wrong;
 }
 
+static int test_places(void)
+{
+    int wrong = 0;
+    for (size_t i = 0; i < COUNT(places_rows); i++) {
+        const struct places_row *row = &places_rows[i];
+        if (places_agree(row, fills[0]) && places_agree(row, fills[1]))
+            continue;
+        wrong = 1;
+        printf("bp_places differs: mode %" PRIu32 " size %" PRIu32 " cell %" PRIu32 " slot %" PRIu32 " subchannel %" PRIu32
+               "\n",
+               row->mode, row->size, row->cell, row->slot, row->subchannel);
+    }
+    return wrong;
+}
+
+static int are_placed(uint32_t mode, uint32_t size, uint32_t cell, uint32_t slot, uint32_t subchannel, size_t grid_len)
+{
+    const uint32_t symbols = (uint32_t)(grid_len / 2 / size);
+    uint32_t places[INDICES], symbol;
+    int32_t carrier;
+    if (bp_places(mode, size, cell, slot, subchannel, places) != 0)
+        return 0;
+    for (uint32_t m = 0; m < INDICES; m++)
+        if (bp_place(mode, size, cell, slot, subchannel, m, &symbol, &carrier) != 0 ||
+            (int64_t)places[m] != (int64_t)(symbol % symbols) * size + size / 2 + carrier)
+            return 0;
+    return 1;
+}
+
+/* Every subchannel of every mode and size, in some cells and slots, index by index where bp_place puts it. */
+static int test_places_are_placed(void)
+{
+    for (size_t i = 0; i < COUNT(length_rows); i++) {
+        const struct length_row *row = &length_rows[i];
+        for (uint32_t s = 0; s < row->points_len / (2 * INDICES); s++) {
+            if (are_placed(row->mode, row->size, 7 * s % 16, 31 * s % 512, s, row->grid_len))
+                continue;
+            printf("bp_places is not where bp_place is: mode %" PRIu32 " size %" PRIu32 " subchannel %" PRIu32 "\n", row->mode,
+                   row->size, s);
+            return 1;
+        }
+    }
+    return 0;
+}
+
 static int test_locate(void)
 {
     int wrong = 0;
@@ -234,9 +297,9 @@ static int test_lit_lengths(void)
 
 int main(void)
 {
-    int wrong = test_place() | test_locate() | test_ofusc_collisions() | test_amc_collisions() | test_lengths() |
-                test_lit_lengths();
+    int wrong = test_place() | test_places() | test_places_are_placed() | test_locate() | test_ofusc_collisions() |
+                test_amc_collisions() | test_lengths() | test_lit_lengths();
     if (!wrong)
-        puts("capi: place, locate, both collision calls and the three lengths agree with the reference");
+        puts("capi: place, places, locate, both collision calls and the three lengths agree with the reference");
     return wrong;
 }

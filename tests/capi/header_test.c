@@ -4,6 +4,7 @@
 #include "bellpulsar.h"
 
 #include <stdio.h>
+#include <string.h>
 
 #if BP_VERSION != 4
 #error "written for version 4 of the header"
@@ -21,8 +22,10 @@ static complex_float points[192], back[192], grid[256], sector[960], sector_back
 
 static float *floats(complex_float *numbers) { return (float *)numbers; }
 
-/* The calls that have a carrier, a mask or bursts, by their whole types: a compiler takes no other. */
+/* The calls that have a row, a carrier, a mask or bursts, by their whole types: a compiler takes no other. */
 static uint32_t (*const place)(uint32_t, uint32_t, uint32_t, uint32_t, uint32_t, uint32_t, uint32_t *, int32_t *) = bp_place;
+static uint32_t (*const version)(void) = bp_version;
+static uint32_t (*const places_of)(uint32_t, uint32_t, uint32_t, uint32_t, uint32_t, uint32_t *) = bp_places;
 static uint32_t (*const locate)(uint32_t, uint32_t, uint32_t, uint32_t, int32_t, uint32_t *, uint32_t *, uint32_t *,
                                 uint32_t *) = bp_locate;
 static size_t (*const lit_points_len)(uint32_t, uint32_t, uint32_t) = bp_lit_points_len;
@@ -54,6 +57,28 @@ static int map_is_right(void)
         return 0;
     return locate(BP_OFUSC, 1024, 0, symbol, carrier, &kind, &slot, &subchannel, &index) == BP_ACCEPTED && kind == BP_DATA &&
            slot == 1 && subchannel == 3 && index == 5;
+}
+
+/* The library is the header's. */
+static int version_is_right(void)
+{
+    char text[16];
+    snprintf(text, sizeof text, "%d.%d.%d", BP_VERSION, BP_VERSION_MINOR, BP_VERSION_PATCH);
+    return version() == BP_VERSION_NUMBER && BP_VERSION_NUMBER / 10000 == BP_VERSION &&
+           strcmp(text, BP_VERSION_STRING) == 0;
+}
+
+/* Carrier -425 at 1024 is the row's 87, since the row starts at -512. In AMC 1x6 at 512, carrier 209 of the slot's fifth symbol
+   is 465 in that row. */
+static int places_are_right(void)
+{
+    uint32_t row[48] = {9};
+    if (places_of(BP_OFUSC, 1024, 17, 512, 0, row) != BP_REFUSED_SLOT || row[0] != 9 ||
+        places_of(BP_OFUSC, 1024, 17, 511, 16, row) != BP_REFUSED_SUBCHANNEL || row[0] != 9)
+        return 0;
+    if (places_of(BP_OFUSC, 1024, 17, 0, 0, row) != BP_ACCEPTED || row[0] != 87)
+        return 0;
+    return places_of(BP_AMC_1X6, 512, 0, 1, 47, row) == BP_ACCEPTED && row[2] == 4 * 512 + 465;
 }
 
 /* The slot shapes of AMC by name. In cell 0 index 2 is at traffic place 33: with one bin in each symbol that is place 1 in
@@ -285,8 +310,8 @@ static int bursts_are_right(void)
 
 int main(void)
 {
-    if (map_is_right() && shapes_are_right() && ground_is_right() && grid_is_right() && arrival_is_right() &&
-        sector_is_right() && refusals_are_right() && collisions_are_right() && plan_is_right() && bursts_are_right())
+    if (version_is_right() && map_is_right() && places_are_right() && shapes_are_right() && ground_is_right() &&
+        grid_is_right() && arrival_is_right() && sector_is_right() && refusals_are_right() && collisions_are_right() && plan_is_right() && bursts_are_right())
         return 0;
     puts("a call through the header gave a wrong answer");
     return 1;

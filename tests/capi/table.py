@@ -58,6 +58,21 @@ def place_rows(dice, mode, size):
         yield place_row(spoiled(dice, good, limits))
 
 
+def places_row(fields):
+    number, places = ref.places(*fields)
+    return fields + [number, places or [0]]
+
+
+def places_rows(dice, mode, size):
+    """The first and the last subchannel in the slots whose pilots differ, others in any slot; each also spoiled."""
+    limits = [ref.UNLISTED, 2049, ref.cells(mode, size), 512, ref.subchannels(mode, size)]
+    ends = [[dice.randrange(limits[2]), slot, s] for slot in (0, 1, 2, 511) for s in (0, limits[4] - 1)]
+    for fields in ends + [[dice.randrange(limit) for limit in limits[2:]] for _ in range(40)]:
+        good = [mode, size] + fields
+        yield places_row(good)
+        yield places_row(spoiled(dice, good, limits))
+
+
 def carrier_edges(size):
     """The ends of the range and of 32 bits, those just past the range, DC and both beside it."""
     end = size // 2
@@ -144,9 +159,11 @@ def main():
     dice = random.Random(16)
     places = [row for setup in SETUPS for row in place_rows(dice, *setup)]
     locates = [row for setup in SETUPS for row in locate_rows(dice, *setup)]
+    rows = [row for setup in SETUPS for row in places_rows(dice, *setup)]
     ofuscs = [row for size in ref.sizes(ref.OFUSC) for row in ofusc_rows(dice, size)]
     amcs = list(amc_rows(dice))
     assert {row[6] for row in places} == {0, 1, 2, 3, 4, 5, 6}
+    assert {row[5] for row in rows} == {0, 1, 2, 3, 4, 5}
     assert {row[5] for row in locates} == {0, 1, 2, 3, 4, 7}
     assert {row[6] for row in locates} == {0, 1, 2, 3}
     assert {row[-1][0] for row in ofuscs} == {0, 2, 3, 5}
@@ -154,6 +171,7 @@ def main():
     assert {row[-1][2] for row in ofuscs} >= {0, 1, 2, 3, 48}
     assert {row[-1][2] for row in amcs} == {0, 1, 2, 3, 48}
     print_table("struct place_row", "place_rows", places)
+    print_table("struct places_row", "places_rows", rows)
     print_table("struct locate_row", "locate_rows", locates)
     print_table("struct ofusc_row", "ofusc_rows", ofuscs)
     print_table("struct amc_row", "amc_rows", amcs)

@@ -1,15 +1,12 @@
-//! The wrapper of examples/rust, and through it every call, held to the reference's rows (rows.py): answers, first
+//! The crate, and through it every call, held to the reference's rows (rows.py): answers, first
 //! refusals, every bit of every float, and that what is not to be written keeps its contents. Run by run.sh.
-
-#[path = "../../examples/rust/bellpulsar.rs"]
-mod bellpulsar;
 
 use bellpulsar::*;
 use std::fs::read_to_string;
 
 /// The rows of this name, of which there are at least so many. A negative number stands as its 32 bits.
 fn rows(name: &str, least: usize) -> Vec<Vec<u32>> {
-    let text = read_to_string("build/rust/rows.txt").expect("rows.txt, which run.sh writes");
+    let text = read_to_string("../../build/rust/rows.txt").expect("rows.txt, which run.sh writes");
     let number = |word: &str| match word.strip_prefix('-') {
         None => word.parse::<u32>().unwrap(),
         Some(_) => word.parse::<i32>().unwrap() as u32,
@@ -27,8 +24,18 @@ fn rows(name: &str, least: usize) -> Vec<Vec<u32>> {
 fn expected<T>(refusal: u32, answer: T) -> Result<T, Refusal> {
     match refusal {
         0 => Ok(answer),
-        number => Err(Refusal(number)),
+        number => Err(refused(number)),
     }
+}
+
+fn refused(number: u32) -> Refusal {
+    Refusal::ALL[number as usize - 1]
+}
+
+/// A row's setup. An unlisted mode is refused here, and the call is not made.
+fn setup(mode: u32, size: u32, cell: u32) -> Result<Setup, Refusal> {
+    let mode = Mode::try_from(mode)?;
+    Ok(Setup { mode, size, cell })
 }
 
 /// Floats lent to a call, and guards on both sides.
@@ -87,17 +94,14 @@ fn place_agrees() {
         let [mode, size, cell, slot, subchannel, index, refusal, symbol, carrier] = row[..] else {
             panic!("{row:?}")
         };
-        let placed = place(
-            Setup { mode, size, cell },
-            Address {
-                slot,
-                subchannel,
-                index,
-            },
-        );
+        let address = Address {
+            slot,
+            subchannel,
+            index,
+        };
         let carrier = carrier as i32;
         assert_eq!(
-            placed,
+            setup(mode, size, cell).and_then(|setup| place(setup, address)),
             expected(refusal, Place { symbol, carrier }),
             "{row:?}"
         );
@@ -105,12 +109,30 @@ fn place_agrees() {
 }
 
 #[test]
+fn places_agree() {
+    for row in rows("places", 2600) {
+        let [mode, size, cell, slot, subchannel, refusal] = row[..6] else {
+            panic!("{row:?}")
+        };
+        let table = setup(mode, size, cell).and_then(|setup| places(setup, slot, subchannel));
+        assert_eq!(
+            table.map(Vec::from),
+            expected(refusal, row[6..].to_vec()),
+            "{row:?}"
+        );
+    }
+}
+
+/// Of an unlisted mode nothing has a length.
+#[test]
 fn lengths_agree() {
     for row in rows("length", 300) {
         let [mode, size, points, grid] = row[..] else {
             panic!("{row:?}")
         };
-        let lengths = (points_len(mode, size), grid_len(mode, size));
+        let lengths = Mode::try_from(mode).map_or((0, 0), |mode| {
+            (points_len(mode, size), grid_len(mode, size))
+        });
         assert_eq!(lengths, (points as usize, grid as usize), "{row:?}");
     }
 }
@@ -121,7 +143,8 @@ fn lit_lengths_agree() {
         let [mode, size, mask, points] = row[..] else {
             panic!("{row:?}")
         };
-        assert_eq!(lit_points_len(mode, size, mask), points as usize, "{row:?}");
+        let lit = Mode::try_from(mode).map_or(0, |mode| lit_points_len(mode, size, mask));
+        assert_eq!(lit, points as usize, "{row:?}");
     }
 }
 
@@ -143,7 +166,8 @@ fn locate_agrees() {
             }),
         };
         let carrier = carrier as i32;
-        let located = locate(Setup { mode, size, cell }, Place { symbol, carrier });
+        let at = Place { symbol, carrier };
+        let located = setup(mode, size, cell).and_then(|setup| locate(setup, at));
         assert_eq!(located, expected(refusal, content), "{row:?}");
     }
 }
@@ -201,11 +225,7 @@ fn grids() -> Vec<Grid> {
         let (places, rest) = rest.split_at(points.len() / 2);
         let (ground, grid) = rest.split_at(rest.len() / 2);
         Grid {
-            setup: Setup {
-                mode: row[0],
-                size: row[1],
-                cell: row[2],
-            },
+            setup: setup(row[0], row[1], row[2]).unwrap(),
             mask: row[3],
             slot: row[4],
             pilot: point_of(&row[5..7]),
@@ -288,7 +308,7 @@ fn a_row_of_lit_points_is_laid() {
             if laid.is_ok() {
                 next.next();
             } else {
-                assert_eq!(laid, Err(Refusal(5)), "{:?}", of.setup);
+                assert_eq!(laid, Err(Refusal::Subchannel), "{:?}", of.setup);
             }
         }
         assert!(next.next().is_none() && grid.is(&of.grid), "{:?}", of.setup);
@@ -344,10 +364,10 @@ fn ground_refuses_and_writes_nothing() {
             panic!("{row:?}")
         };
         let mut grid = Lent::spoiled(grid_len as usize);
-        let setup = Setup { mode, size, cell };
+        let setup = setup(mode, size, cell);
         assert_eq!(
-            ground(setup, mask, slot, [1.0, -1.0], grid.at_mut()),
-            Err(Refusal(refusal)),
+            setup.and_then(|setup| ground(setup, mask, slot, [1.0, -1.0], grid.at_mut())),
+            Err(refused(refusal)),
             "{row:?}"
         );
         assert!(grid.is(&Lent::spoiled(grid_len as usize)), "{row:?}");
@@ -363,10 +383,10 @@ fn lay_refuses_and_writes_nothing() {
         };
         let points = Lent::spoiled(points_len as usize);
         let mut grid = Lent::spoiled(grid_len as usize);
-        let setup = Setup { mode, size, cell };
+        let setup = setup(mode, size, cell);
         assert_eq!(
-            lay(setup, mask, slot, subchannel, points.at(), grid.at_mut()),
-            Err(Refusal(refusal)),
+            setup.and_then(|setup| lay(setup, mask, slot, subchannel, points.at(), grid.at_mut())),
+            Err(refused(refusal)),
             "{row:?}"
         );
         assert!(points.is(&Lent::spoiled(points_len as usize)), "{row:?}");
@@ -383,16 +403,23 @@ fn empty_refuses_and_writes_nothing() {
         };
         let mut points = Lent::spoiled(points_len as usize);
         let grid = Lent::spoiled(grid_len as usize);
-        let setup = Setup { mode, size, cell };
+        let setup = setup(mode, size, cell);
         assert_eq!(
-            empty(setup, mask, slot, grid.at(), points.at_mut()),
-            Err(Refusal(refusal)),
+            setup.and_then(|setup| empty(setup, mask, slot, grid.at(), points.at_mut())),
+            Err(refused(refusal)),
             "{row:?}"
         );
         for carriers in [0, 1, grid_len / 2, u32::MAX] {
             assert_eq!(
-                empty_first(setup, mask, slot, carriers, grid.at(), points.at_mut()),
-                Err(Refusal(refusal)),
+                setup.and_then(|setup| empty_first(
+                    setup,
+                    mask,
+                    slot,
+                    carriers,
+                    grid.at(),
+                    points.at_mut()
+                )),
+                Err(refused(refusal)),
                 "{carriers} carriers {row:?}"
             );
         }
@@ -438,9 +465,9 @@ fn look_refuses() {
             panic!("{row:?}")
         };
         let grid = Lent::spoiled(grid_len as usize);
-        let setup = Setup { mode, size, cell };
-        let seen = look(setup, mask, symbol, grid.at(), carrier as i32).map(numbers);
-        assert_eq!(seen, Err(Refusal(refusal)), "{row:?}");
+        let setup = setup(mode, size, cell);
+        let seen = setup.and_then(|setup| look(setup, mask, symbol, grid.at(), carrier as i32));
+        assert_eq!(seen.map(numbers), Err(refused(refusal)), "{row:?}");
     }
 }
 
@@ -566,14 +593,71 @@ fn bursts_agree() {
     }
 }
 
+/// The names of one of the header's enums, in small letters without underscores, and their numbers.
+fn enumerators(of: &str) -> Vec<(String, u32)> {
+    let header = include_str!("../../include/bellpulsar.h");
+    let (_, body) = header.split_once(&format!("enum {of} {{\n")).unwrap();
+    let (body, _) = body.split_once("\n};").unwrap();
+    let read = |line: &str| {
+        let (name, rest) = line.trim().split_once(" = ").unwrap();
+        let number = rest.split([',', ' ']).next().unwrap();
+        (
+            name.to_lowercase().replace('_', ""),
+            number.parse().unwrap(),
+        )
+    };
+    body.lines().map(read).collect()
+}
+
 #[test]
-fn refusals_have_words() {
-    let questions: Vec<&str> = (1..=19).map(|number| Refusal(number).question()).collect();
-    for (n, question) in questions.iter().enumerate() {
-        assert!(
-            question.ends_with('?') && !questions[..n].contains(question),
-            "{question}"
-        );
+fn refusals_are_the_headers() {
+    let name = |refusal: &Refusal| format!("bprefused{refusal:?}").to_lowercase();
+    let mut all = vec![("bpaccepted".to_string(), 0)];
+    all.extend(
+        Refusal::ALL
+            .iter()
+            .map(|refusal| (name(refusal), refusal.number())),
+    );
+    assert_eq!(all, enumerators("bp_refusal"));
+    assert_eq!(
+        Refusal::Index.to_string(),
+        "refused 6: Is the index below 48?"
+    );
+}
+
+/// In the header AMC alone stands for AMC 6x1.
+#[test]
+fn modes_are_the_headers() {
+    let name = |mode: &Mode| format!("bp{mode:?}").to_lowercase().replace("6x1", "");
+    let all: Vec<(String, u32)> = Mode::ALL
+        .iter()
+        .map(|mode| (name(mode), mode.number()))
+        .collect();
+    assert_eq!(all, enumerators("bp_mode"));
+}
+
+#[test]
+fn modes_have_names() {
+    let names = [
+        "pusc-dl", "pusc-ul", "ofusc", "amc-6x1", "amc-2x3", "amc-3x2", "amc-1x6",
+    ];
+    for (n, mode) in Mode::ALL.iter().enumerate() {
+        assert_eq!(mode.to_string(), names[n]);
+        assert_eq!(names[n].parse(), Ok(*mode));
+        assert_eq!(n.to_string().parse(), Ok(*mode));
     }
-    assert_eq!(Refusal(6).to_string(), "refused 6: Is the index below 48?");
+    for word in [
+        "",
+        "7",
+        "-1",
+        "+2",
+        "02",
+        " 2",
+        "4294967298",
+        "amc",
+        "OFUSC",
+        "amc-6x1 ",
+    ] {
+        assert_eq!(word.parse::<Mode>(), Err(Refusal::Mode), "{word}");
+    }
 }

@@ -3,6 +3,7 @@
     python3 tests/rust/rows.py > build/rust/rows.txt
 
     place     mode size cell slot subchannel index; refusal symbol carrier
+    places    mode size cell slot subchannel; refusal places(48)
     locate    mode size cell symbol carrier; refusal kind slot subchannel index
     length    mode size; points_len grid_len
     lit       mode size mask; lit_points_len
@@ -43,7 +44,8 @@ KINDS = {"nothing": 0, ref.PILOT: 2, ref.DATA: 3}
 
 
 def line(name, numbers):
-    print(name, *numbers)
+    # In one piece: where Python does not buffer its output, print would make a write of each number.
+    sys.stdout.write(" ".join([name, *map(str, numbers)]) + "\n")
 
 
 def wrong_length(dice, right, other):
@@ -62,6 +64,23 @@ def setups(dice, mode, size, turn):
     mask = [32, 63, 42, 61][turn % 4] if mode == ref.PUSC_DL else 0
     others = [0, 64, mask + 64, mask + 2**16] if mode == ref.PUSC_DL else [1, 63, 64, 2**16]
     return [mode, size, cells - 1, mask], [ref.UNLISTED, 128, cells, dice.choice(others + [2**32 - 1])]
+
+
+def places_row(fields):
+    refused = ref.place(*fields, 0)[0]
+    if refused:
+        return fields + [refused] + [0] * ref.POINTS
+    mode, size = fields[:2]
+    placed = [ref.place(*fields, index)[1:] for index in range(ref.POINTS)]
+    return fields + [0] + [symbol % ref.SLOT_LENGTH[mode] * size + size // 2 + carrier for symbol, carrier in placed]
+
+
+def places_rows(dice, mode, size):
+    limits = [ref.UNLISTED, 2049, ref.cells(mode, size), ref.SLOTS, ref.subchannels(mode, size)]
+    for _ in range(60):
+        good = [mode, size] + [dice.randrange(limit) for limit in limits[2:]]
+        yield places_row(good)
+        yield places_row(table.spoiled(dice, good, limits))
 
 
 def ground_rows(dice, mode, size):
@@ -191,6 +210,7 @@ def main():
     for mode, size in table.SETUPS:
         for name, rows in [
             ("place", table.place_rows),
+            ("places", places_rows),
             ("locate", table.locate_rows),
             ("ground", ground_rows),
             ("lay", lay_rows),

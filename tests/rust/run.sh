@@ -1,22 +1,28 @@
 #!/bin/sh
-# Compiles the wrapper of examples/rust in both editions, under clippy where that is installed, and without a warning; then
-# builds it with its tests and holds every call to the reference. Fails where they differ.
+# Holds every call of the crate to the reference and runs its documentation's examples, all without a warning and under clippy
+# where that is installed; then takes the crate as programs do. Fails where something differs.
 set -eu
 cd "$(dirname "$0")/../.."
-out=build/rust
-
 ./build.sh
-mkdir -p "$out"
-if clippy-driver --version >"$out/clippy" 2>&1; then clippy=clippy-driver said="with clippy"; else clippy='' said="clippy is not here"; fi
-for edition in 2021 2024; do
-    for compiler in rustc $clippy; do
-        for program in examples/rust/example.rs "--test tests/rust/callers.rs"; do
-            $compiler --edition $edition --emit metadata -D warnings $program --out-dir "$out"
-        done
-    done
-done
-python3 tests/rust/rows.py > "$out/rows.txt"
-rustc --edition 2021 --test -O -D warnings tests/rust/callers.rs -L native=build -l static=bellpulsar \
-    -o "$out/callers"
-"$out/callers" --quiet
+unset BELLPULSAR_LIB_DIR
+export CARGO_TARGET_DIR="$PWD/build/cargo" RUSTFLAGS="-D warnings" RUSTDOCFLAGS="-D warnings"
+
+# on PACKAGE COMMAND..: cargo's command on the package in that folder, as a release: the rows are many.
+on() {
+    package=$1
+    shift
+    cargo "$@" --quiet --offline --release --manifest-path "$package/Cargo.toml"
+}
+
+said="clippy is not here"
+if cargo clippy --version >/dev/null 2>&1; then
+    for package in rust examples/rust tests/rust; do on "$package" clippy --all-targets; done
+    said="with clippy"
+fi
+mkdir -p build/rust
+python3 tests/rust/rows.py >build/rust/rows.txt
+on tests/rust test
+on rust test --doc
+on rust doc
+sh tests/rust/crate.sh
 echo "rust: every call agrees with the reference; editions 2021 and 2024, $said"

@@ -4,12 +4,10 @@ use mathlib.Core.List.{List}
 use Prim.Native.Nat.{ℕ, _+_, _<_, _≤_}
 use native.Mathlib.Omega.{arith}
 use borrow.Author.Tests.{lt-ltb, le-ltb}
-use Rattle.base.specs.Answer.{Answer, accepted, refused, ask, refusalOf}
+use Rattle.base.specs.Answer.{accepted, refused, refusalOf}
 use Rattle.base.specs.Tabulate.{tabulate}
 use Rattle.base.proofs.Chain.{chain-no, chain-yes}
-use Rattle.map.specs.declared.Setup.{Setup}
 use Rattle.map.specs.Mode.{subchannels}
-use Rattle.map.specs.Question.{isSlot, isSubchannel}
 use Rattle.map.proofs.ByMode.{few}
 use Rattle.plan.specs.declared.Zone.{Zone}
 use Rattle.plan.specs.Zone.{setupOf, fieldsRefusal}
@@ -29,24 +27,6 @@ zone-limits size zone e = (few (fields-valid size zone e) .subchannels-few, fiel
 -- what the list's questions ask of it
 pub list-asks : (size : ℕ) (zone : Zone) {n s : ℕ} → n ≡ fieldsRefusal size zone → n ≡ 0 → s ≡ subchannels (setupOf size zone) → (s < 65536) × (zone .slots < 65536)
 list-asks size zone e z q = let limits = zone-limits size zone (sym e ∙ z) in (omega arith, omega arith)
-
--- 4 and 5
-module _ {A : Type 0} (rest : Answer A) where
-  pub slot-no : (slot : ℕ) → 512 ≤ slot → ask (isSlot slot) 4 rest ≡ refused 4
-  unfolding isSlot
-  slot-no slot h = rw (le-ltb slot 512 h)
-
-  pub slot-yes : (slot : ℕ) → slot < 512 → ask (isSlot slot) 4 rest ≡ rest
-  unfolding isSlot
-  slot-yes slot h = rw (lt-ltb slot 512 h)
-
-  pub subchannel-no : (setup : Setup) (s : ℕ) → subchannels setup ≤ s → ask (isSubchannel setup s) 5 rest ≡ refused 5
-  unfolding isSubchannel
-  subchannel-no setup s h = rw (le-ltb s (subchannels setup) h)
-
-  pub subchannel-yes : (setup : Setup) (s : ℕ) → s < subchannels setup → ask (isSubchannel setup s) 5 rest ≡ rest
-  unfolding isSubchannel
-  subchannel-yes setup s h = rw (lt-ltb s (subchannels setup) h)
 
 -- the first owner, of its position
 module _ (numbers : List ℕ) (slot s : ℕ) {p : ℕ} (e : p ≡ position numbers slot s) where

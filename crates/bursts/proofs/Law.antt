@@ -15,6 +15,7 @@ use Rattle.base.proofs.Tabulate.{length-tabulate, getD-tabulate}
 use Rattle.base.proofs.Chain.{number-yes, numbered-zero, chain-yes}
 use Rattle.map.specs.Mode.{subchannels}
 use Rattle.map.specs.Question.{isSlot, isSubchannel}
+use Rattle.map.proofs.Accept.{slot-yes, subchannel-yes}
 use Rattle.plan.specs.declared.Zone.{Zone}
 use Rattle.plan.specs.Zone.{setupOf, askFields, fieldsRefusal}
 use Rattle.plan.proofs.Number.{fields-numbered}
@@ -27,7 +28,7 @@ use Rattle.bursts.specs.Model.{listRefusal}
 use Rattle.base.proofs.First.{none-is}
 use Rattle.bursts.proofs.Cover.{inside-covers, inside-first, inside-is, overlap-common}
 use Rattle.bursts.proofs.Each.{list-numbered, list-is, list-of, list-yes, list-passes}
-use Rattle.bursts.proofs.Answer.{zone-limits, slot-yes, subchannel-yes, check-list, owner-accepted, row-accepted}
+use Rattle.bursts.proofs.Answer.{zone-limits, check-list, owner-accepted, row-accepted}
 use Rattle.bursts.proofs.Row.{alone, owner-here, by-owner}
 
 -- the outcomes by their answer

@@ -1,14 +1,13 @@
--- What the owners of bursts come to at the C boundary.
+-- What the owner of a subchannel comes to at the C boundary.
 use mathlib.Core.Path.{_≡_}
 use mathlib.Core.List.{List}
 use Prim.Native.Nat.{ℕ, _≤_}
 use borrow.Author.Tests.{eq-eqb, ne-eqb}
 use Rattle.plan.specs.declared.Zone.{Zone}
 use Rattle.bursts.specs.declared.Owned.{Owned}
-use Rattle.bursts.specs.declared.OwnerRow.{OwnerRow}
 use Rattle.bursts.specs.Owner.{ownerOf}
 use Rattle.bursts.proofs.Law.{owner-most}
-use Rattle.capi.specs.Burst.{ownerOut, ownersOut}
+use Rattle.capi.specs.Burst.{ownerOut}
 
 -- an owner and how many were looked at are small
 pub owner-small : (size : ℕ) (zone : Zone) (slot s : ℕ) (numbers : List ℕ) {r : Owned} → r ≡ ownerOf size zone slot s numbers → (r .owner ≤ 64) × (r .looked ≤ 64)
@@ -22,12 +21,3 @@ module _ (answer r : Owned) (e : r ≡ answer) (owner looked : ℕ) where
   pub owner-yes : r .refusal ≡ 0 → record { refusal = 0; owner = r .owner; looked = r .looked } ≡ ownerOut answer owner looked
   unfolding ownerOut
   owner-yes h = rw (← e, eq-eqb (r .refusal) 0 h)
-
-module _ (answer r : OwnerRow) (e : r ≡ answer) (owners : List ℕ) where
-  pub owners-no : (r .refusal ≡ 0 → ⊥) → record { refusal = r .refusal; owners = owners } ≡ ownersOut answer owners
-  unfolding ownersOut
-  owners-no h = rw (← e, ne-eqb (r .refusal) 0 h)
-
-  pub owners-yes : r .refusal ≡ 0 → record { refusal = 0; owners = r .owners } ≡ ownersOut answer owners
-  unfolding ownersOut
-  owners-yes h = rw (← e, eq-eqb (r .refusal) 0 h)

@@ -1,4 +1,5 @@
 -- Laws of the C interface.
+pub mod Row
 pub mod Map
 pub mod Collision
 pub mod Grid

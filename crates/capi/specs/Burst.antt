@@ -5,6 +5,7 @@ use lib.Dec.{eqb}
 use Rattle.base.specs.Choice.{pick}
 use Rattle.bursts.specs.declared.Owned.{Owned}
 use Rattle.bursts.specs.declared.OwnerRow.{OwnerRow}
+use Rattle.capi.specs.Row.{RowOut, rowOut}
 
 pub record OwnerOut : Type 0 where
   pub refusal : ℕ
@@ -18,13 +19,6 @@ ownerOut answer owner looked =
     (record { refusal = 0; owner = answer .owner; looked = answer .looked })
     (record { refusal = answer .refusal; owner = owner; looked = looked })
 
-pub record OwnersOut : Type 0 where
-  pub refusal : ℕ
-  pub owners : List ℕ
-
 -- 0 with the row, or the refusal's number and the caller's row as it was
-unfoldable pub ownersOut : (answer : OwnerRow) (owners : List ℕ) → OwnersOut
-ownersOut answer owners =
-    pick (eqb (answer .refusal) 0)
-    (record { refusal = 0; owners = answer .owners })
-    (record { refusal = answer .refusal; owners = owners })
+abbrev pub ownersOut : (answer : OwnerRow) (owners : List ℕ) → RowOut
+ownersOut answer owners = rowOut (answer .refusal) (answer .owners) owners

@@ -13,7 +13,11 @@ ghost use lib.ListN.{length};
 ghost use Rattle.map.specs.declared.Setup.{Setup};
 ghost use Rattle.map.specs.Place.{placeOf, locateOf};
 ghost use Rattle.collision.specs.Collision.{ofuscOf, amcOf};
+ghost use Rattle.capi.specs.Row.{RowOut};
 ghost use Rattle.capi.specs.Map.{PlaceOut, placeOut, LocateOut, locateOut};
+ghost use Rattle.places.specs.Places.{placesOf};
+ghost use Rattle.capi.specs.Places.{placesOut};
+ghost use Rattle.capi.specs.Version.{version};
 ghost use Rattle.capi.specs.Collision.{CollisionOut, collisionOut};
 ghost use Rattle.grid.specs.Grid.{groundOf, layOf, emptyOf, emptyFirstOf, lookOf};
 ghost use Rattle.lengths.specs.Length.{pointsLength, litPointsLength, gridLength};
@@ -24,7 +28,7 @@ ghost use Rattle.plan_numbers.specs.Numbers.{planIn};
 ghost use Rattle.capi.specs.Plan.{ReadOut, readOut, WriteOut, writeOut};
 ghost use Rattle.bursts.specs.Burst.{checkOf};
 ghost use Rattle.bursts.specs.Owner.{ownerOf, ownersOf};
-ghost use Rattle.capi.specs.Burst.{OwnerOut, ownerOut, OwnersOut, ownersOut};
+ghost use Rattle.capi.specs.Burst.{OwnerOut, ownerOut, ownersOut};
 
 fn setup(mode: u32, size: u32, cell: u32) -> Setup
     ensures { λ r. ⌜ r ≡ record { mode = mode; size = size; cell = cell } ⌝ }
@@ -34,6 +38,13 @@ fn setup(mode: u32, size: u32, cell: u32) -> Setup
         size: size as usize,
         cell: cell as usize,
     }
+}
+
+#[no_mangle]
+pub extern "C" fn bp_version() -> u32
+    ensures { λ r. ⌜ r ≡ version ⌝ }
+{
+    40300
 }
 
 #[no_mangle]
@@ -109,6 +120,28 @@ pub extern "C" fn bp_locate(
         }
         Located::Refused(number) => number as u32,
     }
+}
+
+#[no_mangle]
+pub extern "C" fn bp_places(
+    mode: u32,
+    size: u32,
+    cell: u32,
+    slot: u32,
+    subchannel: u32,
+    places: &mut [u32; 48],
+) -> u32
+    ensures { λ r. ⌜ record { refusal = r; row = now (places .exit) } ≡ placesOut (placesOf (record { mode = mode; size = size; cell = cell }) slot subchannel) (now (places .entry)) ⌝ }
+{
+    let of = setup(mode, size, cell);
+    let found = places::row(of, slot as usize, subchannel as usize);
+    let number = found.refusal;
+    if number != 0 {
+        return number as u32;
+    }
+    let row = found.places;
+    *places = row;
+    0
 }
 
 // Hands an answer over: 0, its marks as bytes and their count, or the refusal's number alone.
@@ -420,7 +453,7 @@ pub extern "C" fn bp_burst_owners(
     bursts: &[u32],
     owners: &mut [u8; 192],
 ) -> u32
-    ensures { λ r. ⌜ record { refusal = r; owners = now (owners .exit) } ≡ ownersOut (ownersOf size (record { mode = mode; cell = cell; slots = slots; mask = mask }) slot (now (bursts .entry))) (now (owners .entry)) ⌝ }
+    ensures { λ r. ⌜ record { refusal = r; row = now (owners .exit) } ≡ ownersOut (ownersOf size (record { mode = mode; cell = cell; slots = slots; mask = mask }) slot (now (bursts .entry))) (now (owners .entry)) ⌝ }
 {
     let of = zone(mode, cell, slots, mask);
     let found = bursts::owners(size as usize, of, slot as usize, bursts);

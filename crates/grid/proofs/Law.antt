@@ -105,14 +105,14 @@ module _ (setup : Setup) (mask slot s : ℕ) (points grid next : List Float) (e 
   unfolding layOf
   left-lay = left _ _ _ (lay-numbered setup mask slot s (length points) (length grid) (accepted (laid setup mask slot s points grid))) _ next e
 
-  lay-fits : LayAccepted setup mask slot s (length points) (length grid)
+  pub lay-fits : LayAccepted setup mask slot s (length points) (length grid)
   lay-fits = lay-accepted setup mask slot s (length points) (length grid) _ refl (left-lay .0)
 
   lay-long : length next ≡ 2 * gridPoints setup
   unfolding laid
   lay-long = ap length (left-lay .1) ∙ floats-long setup _
 
-  lay-at : (n : ℕ) → n < gridPoints setup → pointAt next n ≡ relaid s points (pointAt grid n) (contentAt setup mask slot n)
+  pub lay-at : (n : ℕ) → n < gridPoints setup → pointAt next n ≡ relaid s points (pointAt grid n) (contentAt setup mask slot n)
   unfolding laid
   lay-at n h = ap (λ (g : List Float). pointAt g n) (left-lay .1) ∙ point-floats (gridPoints setup) _ n h
 

@@ -190,7 +190,7 @@ carrier-stands setup slot s m = refl
 -- a subchannel's row, started at the place of its first point: what the copies ask of it, and what they come to
 module _ {setup : Setup} (v : Valid setup) (slot s : ℕ) (hs : s < subchannels setup) (row : List ℕ)
     (t : Turned (shiftOf setup s) (λ m. carrierNumber (setup .size) (band setup) (spotOf setup slot s m)) row) (by : ℕ) (e : by ≡ shiftOf setup s) where
-  row-at : (m : ℕ) → m < 48 → turned row by m ≡ standsAt setup slot s m
+  pub row-at : (m : ℕ) → m < 48 → turned row by m ≡ standsAt setup slot s m
   row-at m h = rw e (t m h ∙ carrier-stands setup slot s m)
 
   pub row-within : (floats : ℕ) → floats ≡ 2 * gridPoints setup → Within row floats

@@ -1,18 +1,18 @@
--- Questions 1, 2 and 3 let pass just the valid setups.
+-- Questions 1, 2 and 3 let pass just the valid setups; and what 4 and 5 come to.
 use mathlib.Core.Path.{_≡_, refl, ap, subst⁻¹, _∙_}
 use mathlib.Core.Bool.{true, false}
 use Prim.Native.Nat.{ℕ, zero, suc, _*_, _/_, _<_, _≤_}
 use native.Mathlib.Omega.{arith}
 use lib.Dec.{eqb, ltb}
 use borrow.Author.Tests.{ltb-true, eqb-true, ne-eqb, lt-ltb, le-ltb}
-use Rattle.base.specs.Answer.{Answer, refused}
+use Rattle.base.specs.Answer.{Answer, refused, ask}
 use Rattle.base.proofs.Test.{cases}
 use Rattle.base.proofs.Chain.{numbered, no-first, no-question, question, number-yes}
 use Rattle.ofusc.specs.Width.{Width, n4, n8, n16, n32}
 use Rattle.ofusc.proofs.Sequence.{size}
 use Rattle.map.specs.declared.Setup.{Setup}
-use Rattle.map.specs.Mode.{width, cells, setupWith}
-use Rattle.map.specs.Question.{isMode, isFourSizes, isSize, isCell, askSetup}
+use Rattle.map.specs.Mode.{width, cells, subchannels, setupWith}
+use Rattle.map.specs.Question.{isMode, isFourSizes, isSize, isCell, isSlot, isSubchannel, askSetup}
 use Rattle.map.specs.Model.{setupRefusal, IsAmc, Valid, pusc-dl, pusc-ul, ofusc, amc}
 use Rattle.map.proofs.Choice.{amc-tests, mode-amc}
 
@@ -130,3 +130,21 @@ module _ (c : Setup) where
     where
       most : {z : ℕ} → Sized z → z ≤ 2048
       most (sized w) = omega (arith, size w .most)
+
+-- 4 and 5, before whatever follows them
+module _ {A : Type 0} (rest : Answer A) where
+  pub slot-no : (slot : ℕ) → 512 ≤ slot → ask (isSlot slot) 4 rest ≡ refused 4
+  unfolding isSlot
+  slot-no slot h = rw (le-ltb slot 512 h)
+
+  pub slot-yes : (slot : ℕ) → slot < 512 → ask (isSlot slot) 4 rest ≡ rest
+  unfolding isSlot
+  slot-yes slot h = rw (lt-ltb slot 512 h)
+
+  pub subchannel-no : (setup : Setup) (s : ℕ) → subchannels setup ≤ s → ask (isSubchannel setup s) 5 rest ≡ refused 5
+  unfolding isSubchannel
+  subchannel-no setup s h = rw (le-ltb s (subchannels setup) h)
+
+  pub subchannel-yes : (setup : Setup) (s : ℕ) → s < subchannels setup → ask (isSubchannel setup s) 5 rest ≡ rest
+  unfolding isSubchannel
+  subchannel-yes setup s h = rw (lt-ltb s (subchannels setup) h)

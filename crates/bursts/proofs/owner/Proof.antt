@@ -5,11 +5,12 @@ use Rattle.base.specs.Answer.{Answer, ask}
 use Rattle.base.proofs.Chain.{chain-no, chain-yes}
 use Rattle.map.specs.Mode.{subchannels}
 use Rattle.map.specs.Question.{isSlot, isSubchannel}
+use Rattle.map.proofs.Accept.{slot-no, slot-yes, subchannel-no, subchannel-yes}
 use Rattle.plan.specs.Zone.{setupOf, askFields}
 use Rattle.plan.proofs.Number.{fields-numbered}
 use Rattle.bursts.specs.Model.{listRefusal}
 use Rattle.bursts.proofs.Each.{list-numbered, list-most}
-use Rattle.bursts.proofs.Answer.{list-asks, slot-no, slot-yes, subchannel-no, subchannel-yes, owner-refused, owner-accepted}
+use Rattle.bursts.proofs.Answer.{list-asks, owner-refused, owner-accepted}
 use Rattle.bursts.proofs.owner.Statement.{statement}
 use Rattle.bursts.proofs.owner.Tie as tie
 

@@ -5,11 +5,12 @@ use Rattle.base.specs.Answer.{Answer, ask}
 use Rattle.base.proofs.Chain.{chain-no, chain-yes}
 use Rattle.map.specs.Mode.{subchannels}
 use Rattle.map.specs.Question.{isSlot}
+use Rattle.map.proofs.Accept.{slot-no, slot-yes}
 use Rattle.plan.specs.Zone.{setupOf, askFields, fieldsRefusal}
 use Rattle.plan.proofs.Number.{fields-numbered}
 use Rattle.bursts.specs.Model.{listRefusal}
 use Rattle.bursts.proofs.Each.{list-numbered}
-use Rattle.bursts.proofs.Answer.{list-asks, slot-no, slot-yes, row-refused, row-accepted}
+use Rattle.bursts.proofs.Answer.{list-asks, row-refused, row-accepted}
 use Rattle.bursts.proofs.Row.{zone-accepted, whole-row}
 use Rattle.bursts.proofs.owners.Statement.{statement}
 use Rattle.bursts.proofs.owners.Tie as tie

@@ -2,7 +2,7 @@
 use mathlib.Core.Path.{_≡_}
 use borrow.Author.Needs.{needs}
 use Rattle.bursts.specs.Owner.{ownersOf}
-use Rattle.capi.proofs.Burst.{owners-no, owners-yes}
+use Rattle.capi.proofs.Row.{row-no, row-yes}
 use Rattle.capi.proofs.bp_burst_owners.Statement.{statement}
 use Rattle.capi.proofs.bp_burst_owners.Tie as tie
 
@@ -15,5 +15,5 @@ bp-burst-owners-spec =
     tie.close
     (tie.spec
     (λ c κs. search needs) (λ c κs. search needs) (λ c. search needs)
-    (λ c. owners-no _ _ (asked (c .before)) _ (c .if1 .taken))
-    (λ c. owners-yes _ _ (asked (c .before .before)) _ (c .before .if1 .left)))
+    (λ c. rw (← asked (c .before)) (row-no _ _ _ (c .if1 .taken)))
+    (λ c. rw (← asked (c .before .before)) (row-yes _ _ _ (c .before .if1 .left))))

@@ -1,0 +1,109 @@
+-- THE LAW OF THE PLACES, from the questions of a row and from where a point stands in the grid.
+use mathlib.Core.Path.{_≡_, refl, sym, ap, _∙_}
+use mathlib.Core.List.{List}
+use Prim.Native.Nat.{ℕ, _+_, _*_, _%_, _<_}
+use lib.Arith.{digits-mod}
+use lib.ListN.{length}
+use lib.Ieee.{Float}
+use borrow.Author.Tests.{lt-ltb, ltb-true, eq-eqb}
+use Rattle.base.specs.Answer.{Answer, accepted, refused, refusalOf}
+use Rattle.base.specs.Steps.{entry}
+use Rattle.base.proofs.Chain.{numbered, no-question, question, number-yes, number-is}
+use Rattle.base.proofs.Tabulate.{length-tabulate, entry-of}
+use Rattle.carriers.specs.Band.{carrierOf}
+use Rattle.map.specs.declared.Setup.{Setup}
+use Rattle.map.specs.Mode.{subchannels, symbols, band, spotOf}
+use Rattle.map.specs.Question.{isMode, isSize, isCell, isSlot, isSubchannel, isIndex}
+use Rattle.map.specs.Place.{Place, usedCarrier, placeAt, placeOf}
+use Rattle.map.specs.Model.{Valid}
+use Rattle.map.proofs.Accept.{valid}
+use Rattle.map.proofs.Slot.{slot-law, centred}
+use Rattle.map.proofs.Law.{placing}
+use Rattle.points.specs.Points.{pointAt}
+use Rattle.lengths.specs.Length.{gridPoints}
+use Rattle.grid.specs.Row.{position, usedPosition, carrierPosition}
+use Rattle.grid.specs.Grid.{relaid, standsAt, layOf}
+use Rattle.grid.specs.Law.{Leaves}
+use Rattle.grid.proofs.Slot.{stands-lt, lit-holds}
+use Rattle.grid.proofs.Law.{lay-fits, lay-at}
+use Rattle.places.specs.declared.PlaceRow.{PlaceRow}
+use Rattle.places.specs.Places.{askPlaces, placeRow, placesOf}
+use Rattle.places.specs.Law.{PlaceLaw}
+use Rattle.places.proofs.Answer.{row-is}
+
+-- of an answer, whatever it is
+number-of : (place : ℕ → ℕ) (answer : Answer (Unit {0})) → placeRow place answer .refusal ≡ refusalOf answer
+number-of place (accepted tt) = refl
+number-of place (refused k) = refl
+
+long-of : (place : ℕ → ℕ) (answer : Answer (Unit {0})) → length (placeRow place answer .places) ≡ 48
+long-of place (accepted tt) = length-tabulate 48 place
+long-of place (refused k) = length-tabulate 48 _
+
+module _ (setup : Setup) (slot s : ℕ) where
+  abbrev asked : Answer (Unit {0})
+  asked = askPlaces setup slot s (accepted tt)
+
+  abbrev row : List ℕ
+  row = placesOf setup slot s .places
+
+  row-number : placesOf setup slot s .refusal ≡ refusalOf asked
+  unfolding placesOf
+  row-number = number-of (standsAt setup slot s) asked
+
+  row-long : length row ≡ 48
+  unfolding placesOf
+  row-long = long-of (standsAt setup slot s) asked
+
+  -- the questions before an answer, as a number
+  asked-before : {A : Type 0} (rest : Answer A) → askPlaces setup slot s rest ≡ numbered (refusalOf asked) rest
+  asked-before rest = question (isMode setup) 0 (question (isSize setup) 1 (question (isCell setup) 2 (question (isSlot slot) 3 (question (isSubchannel setup s) 4 no-question)))) .is
+
+  pub refused-alike : (index : ℕ) → index < 48 → placesOf setup slot s .refusal ≡ refusalOf (placeOf setup slot s index)
+  unfolding placeOf isIndex
+  refused-alike index h =
+      rw (lt-ltb index 48 h) (row-number ∙ sym (ap refusalOf (asked-before (accepted (placeAt setup slot (spotOf setup slot s index)))) ∙ number-is _ _))
+
+  module _ (v : Valid setup) (hs : slot < 512) (l : s < subchannels setup) where
+    at : (index : ℕ) → index < 48 → entry row index ≡ standsAt setup slot s index
+    at index h = entry-of row 48 (standsAt setup slot s) (ap (λ (x : PlaceRow). x .places) (row-is setup slot s v hs l)) index h
+
+  in-grid : (index : ℕ) → placesOf setup slot s .refusal ≡ 0 → index < 48 → entry row index < gridPoints setup
+  unfolding isSlot isSubchannel
+  in-grid index z h =
+      let q₁ = number-yes (isMode setup) 0 _ (sym row-number ∙ z) in
+      let q₂ = number-yes (isSize setup) 1 _ (q₁ .1) in
+      let q₃ = number-yes (isCell setup) 2 _ (q₂ .1) in
+      let q₄ = number-yes (isSlot slot) 3 _ (q₃ .1) in
+      let v = valid setup (q₁ .0) (q₂ .0) (q₃ .0) in
+      let l = ltb-true s (subchannels setup) (number-yes (isSubchannel setup s) 4 _ (q₄ .1) .0) in
+      rw (at v (ltb-true slot 512 (q₄ .0)) l index h) (stands-lt setup v slot s index l h)
+
+  is-placed : (index : ℕ) (place : Place) → placeOf setup slot s index ≡ accepted place → entry row index ≡ carrierPosition setup (place .symbol % symbols setup) (place .carrier)
+  unfolding standsAt usedPosition placeAt usedCarrier
+  is-placed index place e =
+      let q = placing setup slot s index e in
+      let x = spotOf setup slot s index in
+      let o = slot-law (q .is-valid) slot .lies s index (q .subchannel-lt) (q .index-lt) .offset-lt in
+      rw (← q .place-is, digits-mod slot o, centred (q .is-valid) .0 .back (carrierOf (band setup) (x .used)))
+      (at (q .is-valid) (q .slot-lt) (q .subchannel-lt) index (q .index-lt))
+
+  laid-there : (mask : ℕ) (points grid next : List Float) → Leaves (layOf setup mask slot s points grid) next
+      → (index : ℕ) → index < 48 → pointAt next (entry row index) ≡ pointAt points index
+  unfolding relaid
+  laid-there mask points grid next e index h =
+      let a = lay-fits setup mask slot s points grid next e in
+      let v = a .fits .lit .valid in
+      rw (at v (a .fits .slot-lt) (a .subchannel-lt) index h)
+      (lay-at setup mask slot s points grid next e (standsAt setup slot s index) (stands-lt setup v slot s index (a .subchannel-lt) h)
+      ∙ rw (lit-holds setup v slot s index (a .subchannel-lt) h mask (a .subchannel-lit), eq-eqb s s refl))
+
+pub place-law : (setup : Setup) (slot subchannel : ℕ) → PlaceLaw setup slot subchannel
+place-law setup slot s =
+    record {
+      row-long = row-long setup slot s;
+      is-placed = is-placed setup slot s;
+      in-grid = in-grid setup slot s;
+      refused-alike = refused-alike setup slot s;
+      laid-there = laid-there setup slot s;
+    }

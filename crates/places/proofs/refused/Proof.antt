@@ -1,0 +1,9 @@
+-- `places::refused` meets its contract.
+use mathlib.Core.Path.{refl}
+use Rattle.base.specs.Tabulate.{tabulate}
+use Rattle.places.proofs.refused.Statement.{statement}
+use Rattle.places.proofs.refused.Tie as tie
+
+pub refused-spec : {M : Type 1} → statement M
+unfolding tabulate
+refused-spec = tie.close (tie.spec (λ c. refl))

@@ -1,0 +1,31 @@
+-- What is claimed of a row of places: THE LAW OF THE PLACES. Its proof is `place-law`.
+use mathlib.Core.Path.{_≡_}
+use mathlib.Core.List.{List}
+use Prim.Native.Nat.{ℕ, _%_, _<_}
+use lib.ListN.{length}
+use lib.Ieee.{Float}
+use Rattle.base.specs.Answer.{accepted, refusalOf}
+use Rattle.base.specs.Steps.{entry}
+use Rattle.map.specs.declared.Setup.{Setup}
+use Rattle.map.specs.Mode.{symbols}
+use Rattle.map.specs.Place.{Place, placeOf}
+use Rattle.points.specs.Points.{pointAt}
+use Rattle.lengths.specs.Length.{gridPoints}
+use Rattle.grid.specs.Row.{carrierPosition}
+use Rattle.grid.specs.Grid.{layOf}
+use Rattle.grid.specs.Law.{Leaves}
+use Rattle.places.specs.Places.{placesOf}
+
+pub record PlaceLaw (setup : Setup) (slot subchannel : ℕ) : Type 0 where
+  -- A row has an entry for each index, whatever is asked.
+  pub row-long : length (placesOf setup slot subchannel .places) ≡ 48
+  -- Each entry is where `place` puts that index: its carrier, in the symbol's row of the grid.
+  pub is-placed : (index : ℕ) (place : Place) → placeOf setup slot subchannel index ≡ accepted place
+      → entry (placesOf setup slot subchannel .places) index ≡ carrierPosition setup (place .symbol % symbols setup) (place .carrier)
+  -- It lies in the grid.
+  pub in-grid : (index : ℕ) → placesOf setup slot subchannel .refusal ≡ 0 → index < 48 → entry (placesOf setup slot subchannel .places) index < gridPoints setup
+  -- The row is refused where `place` is, with the same number.
+  pub refused-alike : (index : ℕ) → index < 48 → placesOf setup slot subchannel .refusal ≡ refusalOf (placeOf setup slot subchannel index)
+  -- After a lay, the point of each index stands at its entry.
+  pub laid-there : (mask : ℕ) (points grid next : List Float) → Leaves (layOf setup mask slot subchannel points grid) next
+      → (index : ℕ) → index < 48 → pointAt next (entry (placesOf setup slot subchannel .places) index) ≡ pointAt points index

@@ -1,0 +1,60 @@
+use crate::refusal::done;
+use crate::{c, Refusal};
+
+/// The groups (optional FUSC) or indices (AMC) that are on one carrier, and how many they are.
+///
+/// ```
+/// use bellpulsar::{amc_collisions, ofusc_collisions, Refusal};
+///
+/// let found = ofusc_collisions(2048, 0, 2, 1010, 0)?; // subchannel 2 of cell 0 and subchannel 0 of cell 1010
+/// assert_eq!(found.count, 4);
+/// assert!([0, 1, 31, 32].iter().all(|group| found.hits[*group]));
+///
+/// let found = amc_collisions(48, 176)?;
+/// assert_eq!(found.count, 3);
+/// assert!([8, 24, 32].iter().all(|index| found.hits[*index]));
+/// # Ok::<(), Refusal>(())
+/// ```
+#[derive(Clone, Copy, Debug, PartialEq, Eq)]
+pub struct Collisions {
+    pub hits: [bool; 48],
+    pub count: u32,
+}
+
+/// Optional FUSC: the groups in which two subchannels, each of its cell, are on one carrier.
+pub fn ofusc_collisions(
+    size: u32,
+    cell_a: u32,
+    subchannel_a: u32,
+    cell_b: u32,
+    subchannel_b: u32,
+) -> Result<Collisions, Refusal> {
+    let (mut hits, mut count) = ([0u8; 48], 0);
+    // Safety: `hits` has the 48 bytes that are written.
+    done(unsafe {
+        c::bp_ofusc_collisions(
+            size,
+            cell_a,
+            subchannel_a,
+            cell_b,
+            subchannel_b,
+            hits.as_mut_ptr(),
+            &mut count,
+        )
+    })?;
+    Ok(Collisions {
+        hits: hits.map(|hit| hit == 1),
+        count,
+    })
+}
+
+/// AMC: the indices that both cells put on one carrier of one symbol, the same in every slot shape.
+pub fn amc_collisions(cell_a: u32, cell_b: u32) -> Result<Collisions, Refusal> {
+    let (mut hits, mut count) = ([0u8; 48], 0);
+    // Safety: `hits` has the 48 bytes that are written.
+    done(unsafe { c::bp_amc_collisions(cell_a, cell_b, hits.as_mut_ptr(), &mut count) })?;
+    Ok(Collisions {
+        hits: hits.map(|hit| hit == 1),
+        count,
+    })
+}
