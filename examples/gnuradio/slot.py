@@ -17,6 +17,7 @@ from typing import NamedTuple, Optional
 
 import bellpulsar
 import numpy
+from bellpulsar import arrays
 from gnuradio import blocks, digital, gr
 
 PILOT = 1.5 - 0.5j
@@ -45,19 +46,6 @@ SLOTS = (
     Slot(bellpulsar.AMC_3X2, 1024, 2351, 2),
     Slot(bellpulsar.AMC_1X6, 2048, 48, 0),
 )
-
-
-def lit_subchannels(at):
-    if at.mask is None:
-        return range(bellpulsar.points_len(at.mode, at.size) // 96)
-    groups = (range(0, 12), range(12, 20), range(20, 32), range(32, 40), range(40, 52), range(52, 60))
-    return [subchannel for bit, group in enumerate(groups) if at.mask >> bit & 1 for subchannel in group]
-
-
-def slot_places(at, symbols):
-    """Where each point of the slot stands in its grid, by lit subchannel and index."""
-    points = [bellpulsar.place(*at[:4], s, index) for s in lit_subchannels(at) for index in range(48)]
-    return [(symbol - symbols * at.slot) * at.size + at.size // 2 + carrier for symbol, carrier in points]
 
 
 def by_symbol(places, grid):
@@ -90,7 +78,7 @@ def passed(items, block, shape):
 
 def differences(at, points, grid):
     """What GNU Radio and the engine make of a slot otherwise, by name."""
-    order, carriers = by_symbol(numpy.array(slot_places(at, len(grid))), grid)
+    order, carriers = by_symbol(arrays.slot_places(*at[:4], mask=at.mask).ravel(), grid)
     pilots = pilots_by_symbol(at, grid)
     pilot_points = [[PILOT] * len(row) for row in pilots]
     allocator = digital.ofdm_carrier_allocator_cvc(at.size, carriers, pilots, pilot_points, [], LENGTH_TAG)
