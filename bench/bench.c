@@ -16,6 +16,7 @@ enum { LAID = 2 * INDICES, MOST_POINTS = LAID * 192, MOST_GRID = 2 * 6 * 2048 };
 // The calls of one side.
 struct side {
     uint32_t (*place)(uint32_t, uint32_t, uint32_t, uint32_t, uint32_t, uint32_t, uint32_t *, int32_t *);
+    uint32_t (*places)(uint32_t, uint32_t, uint32_t, uint32_t, uint32_t, uint32_t *);
     uint32_t (*locate)(uint32_t, uint32_t, uint32_t, uint32_t, int32_t, uint32_t *, uint32_t *, uint32_t *,
                        uint32_t *);
     uint32_t (*slot)(uint32_t, uint32_t, uint32_t, uint32_t, uint32_t, const float *, const float *, size_t, float *,
@@ -56,17 +57,19 @@ static uint32_t engine_slot(uint32_t mode, uint32_t size, uint32_t cell, uint32_
 }
 
 static const struct side engine = {
-    bp_place,        bp_locate,      engine_slot,         bp_ground,         bp_lay,            bp_empty,
-    bp_empty_first,  bp_look,        bp_ofusc_collisions, bp_amc_collisions, bp_zone_plan_read, bp_zone_plan_write,
-    bp_bursts_check, bp_burst_owner, bp_burst_owners};
+    bp_place,           bp_places,           bp_locate,         engine_slot,
+    bp_ground,          bp_lay,              bp_empty,          bp_empty_first,
+    bp_look,            bp_ofusc_collisions, bp_amc_collisions, bp_zone_plan_read,
+    bp_zone_plan_write, bp_bursts_check,     bp_burst_owner,    bp_burst_owners};
 static const struct side plain = {
-    plain_place,        plain_locate,      plain_fill,             plain_ground,         plain_lay,       plain_empty,
-    plain_empty_first,  plain_look,        plain_ofusc_collisions, plain_amc_collisions, plain_plan_read, plain_plan_write,
-    plain_bursts_check, plain_burst_owner, plain_burst_owners};
+    plain_place,      plain_places,           plain_locate,         plain_fill,
+    plain_ground,     plain_lay,              plain_empty,          plain_empty_first,
+    plain_look,       plain_ofusc_collisions, plain_amc_collisions, plain_plan_read,
+    plain_plan_write, plain_bursts_check,     plain_burst_owner,    plain_burst_owners};
 
 // All that a call may write.
 struct outcome {
-    uint32_t symbol, kind, slot, subchannel, index, count, size, written, zones[32], owner, looked;
+    uint32_t symbol, places[INDICES], kind, slot, subchannel, index, count, size, written, zones[32], owner, looked;
     int32_t carrier;
     uint8_t hits[48], bytes[PLAN_ROOM], owners[192];
     float point[2], points[MOST_POINTS], grid[MOST_GRID];
@@ -140,6 +143,13 @@ static uint32_t run_place(const struct side *side, struct outcome *o, uint32_t f
     uint32_t sum = 0;
     for (const struct request *q = requests + from; q < requests + to; q++)
         sum += side->place(q->mode, q->size, q->cell, q->slot, q->subchannel, q->index, &o->symbol, &o->carrier);
+    return sum;
+}
+
+static uint32_t run_places(const struct side *side, struct outcome *o, uint32_t from, uint32_t to) {
+    uint32_t sum = 0;
+    for (const struct request *q = requests + from; q < requests + to; q++)
+        sum += side->places(q->mode, q->size, q->cell, q->slot, q->subchannel, o->places);
     return sum;
 }
 
@@ -401,6 +411,7 @@ int main(int argc, char **argv) {
     map_rows("empty_first, half", run_empty_half, SOME_LIT, POINT);
     map_rows("empty_first, all", run_empty_whole, SOME_LIT, POINT);
     map_rows("place", run_place, ENDS, CALL);
+    map_rows("places", run_places, ENDS, CALL);
     map_rows("locate", run_locate, ENDS, CALL);
     map_rows("look", run_look, ENDS, CALL);
     collision_rows();

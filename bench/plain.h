@@ -1,7 +1,7 @@
 // The benchmark's other side: the engine's calls in plain C. The same formulas, the same questions in the same order,
 // the same signatures; bellpulsar.h says what they mean.
 //
-// Each place is worked out by itself from mode, size, cell, slot, subchannel and index, also in lay, empty and
+// Each place is worked out by itself from mode, size, cell, slot, subchannel and index, also in places, lay, empty and
 // empty_first, which then tests whether it is one of the first. place goes by the inverse table of R, locate and look
 // by those of Q, P and both B; plain_tables works them out once.
 // A list of bursts is checked in each call that has one, every burst against all before it, by four comparisons without a
@@ -19,6 +19,8 @@ void plain_tables(void);
 
 uint32_t plain_place(uint32_t mode, uint32_t size, uint32_t cell, uint32_t slot, uint32_t subchannel, uint32_t index,
                      uint32_t *symbol, int32_t *carrier);
+uint32_t plain_places(uint32_t mode, uint32_t size, uint32_t cell, uint32_t slot, uint32_t subchannel,
+                      uint32_t places[48]);
 uint32_t plain_locate(uint32_t mode, uint32_t size, uint32_t cell, uint32_t symbol, int32_t carrier, uint32_t *kind,
                       uint32_t *slot, uint32_t *subchannel, uint32_t *index);
 uint32_t plain_ground(uint32_t mode, uint32_t size, uint32_t cell, uint32_t mask, uint32_t slot, const float pilot[2],

@@ -184,15 +184,35 @@ static inline uint32_t place(uint32_t mode, uint32_t size, uint32_t cell, uint32
     return column_of(mode, size, used_amc(mode, cell, slot, s, m, row));
 }
 
-uint32_t plain_place(uint32_t mode, uint32_t size, uint32_t cell, uint32_t slot, uint32_t subchannel, uint32_t index,
-                     uint32_t *symbol, int32_t *carrier) {
-    uint32_t row, refusal = setup_refusal(mode, size, cell);
+// The place of a point in its slot's grid, which is counted in points.
+static inline uint32_t grid_place(uint32_t mode, uint32_t size, uint32_t cell, uint32_t slot, uint32_t s, uint32_t m) {
+    uint32_t row, column = place(mode, size, cell, slot, s, m, &row);
+    return row * size + column;
+}
+
+// The first of questions 1, 2, 3, 4 and 5 that is answered no, or 0.
+static uint32_t subchannel_refusal(uint32_t mode, uint32_t size, uint32_t cell, uint32_t slot, uint32_t subchannel) {
+    uint32_t refusal = setup_refusal(mode, size, cell);
     if (refusal) return refusal;
     if (slot >= SLOTS) return 4;
-    if (subchannel >= subchannels(mode, size)) return 5;
+    return subchannel < subchannels(mode, size) ? 0 : 5;
+}
+
+uint32_t plain_place(uint32_t mode, uint32_t size, uint32_t cell, uint32_t slot, uint32_t subchannel, uint32_t index,
+                     uint32_t *symbol, int32_t *carrier) {
+    uint32_t row, refusal = subchannel_refusal(mode, size, cell, slot, subchannel);
+    if (refusal) return refusal;
     if (index >= INDICES) return 6;
     *carrier = (int32_t)place(mode, size, cell, slot, subchannel, index, &row) - dc_column(size);
     *symbol = slot * symbols(mode) + row;
+    return 0;
+}
+
+uint32_t plain_places(uint32_t mode, uint32_t size, uint32_t cell, uint32_t slot, uint32_t subchannel,
+                      uint32_t places[48]) {
+    uint32_t refusal = subchannel_refusal(mode, size, cell, slot, subchannel);
+    if (refusal) return refusal;
+    for (uint32_t m = 0; m < INDICES; m++) places[m] = grid_place(mode, size, cell, slot, subchannel, m);
     return 0;
 }
 
@@ -311,10 +331,8 @@ static inline void put_ground(uint32_t mode, uint32_t size, uint32_t cell, uint3
 
 static inline void put_points(uint32_t mode, uint32_t size, uint32_t cell, uint32_t slot, uint32_t subchannel,
                               const float *points, float *grid) {
-    for (uint32_t m = 0; m < INDICES; m++) {
-        uint32_t row, column = place(mode, size, cell, slot, subchannel, m, &row);
-        copy_point(grid + 2 * (row * size + column), points + 2 * m);
-    }
+    for (uint32_t m = 0; m < INDICES; m++)
+        copy_point(grid + 2 * grid_place(mode, size, cell, slot, subchannel, m), points + 2 * m);
 }
 
 uint32_t plain_ground(uint32_t mode, uint32_t size, uint32_t cell, uint32_t mask, uint32_t slot, const float pilot[2],
@@ -353,15 +371,13 @@ uint32_t plain_fill(uint32_t mode, uint32_t size, uint32_t cell, uint32_t mask, 
 
 uint32_t plain_empty(uint32_t mode, uint32_t size, uint32_t cell, uint32_t mask, uint32_t slot, const float *grid,
                      size_t grid_len, float *points, size_t points_len) {
-    uint32_t row, refusal = slot_refusal(mode, size, cell, mask, slot);
+    uint32_t refusal = slot_refusal(mode, size, cell, mask, slot);
     if (!refusal) refusal = buffers_refusal(mode, size, mask, points_len, grid_len);
     if (refusal) return refusal;
     for (uint32_t s = 0; s < subchannels(mode, size); s++) {
         if (!is_lit(mode, mask, s)) continue;
-        for (uint32_t m = 0; m < INDICES; m++) {
-            uint32_t column = place(mode, size, cell, slot, s, m, &row);
-            copy_point(points + 2 * m, grid + 2 * (row * size + column));
-        }
+        for (uint32_t m = 0; m < INDICES; m++)
+            copy_point(points + 2 * m, grid + 2 * grid_place(mode, size, cell, slot, s, m));
         points += 2 * INDICES;
     }
     return 0;
@@ -369,14 +385,14 @@ uint32_t plain_empty(uint32_t mode, uint32_t size, uint32_t cell, uint32_t mask,
 
 uint32_t plain_empty_first(uint32_t mode, uint32_t size, uint32_t cell, uint32_t mask, uint32_t slot, uint32_t carriers,
                            const float *grid, size_t grid_len, float *points, size_t points_len) {
-    uint32_t row, refusal = slot_refusal(mode, size, cell, mask, slot);
+    uint32_t refusal = slot_refusal(mode, size, cell, mask, slot);
     if (!refusal) refusal = buffers_refusal(mode, size, mask, points_len, grid_len);
     if (refusal) return refusal;
     for (uint32_t s = 0; s < subchannels(mode, size); s++) {
         if (!is_lit(mode, mask, s)) continue;
         for (uint32_t m = 0; m < INDICES; m++) {
-            uint32_t column = place(mode, size, cell, slot, s, m, &row);
-            if (row * size + column < carriers) copy_point(points + 2 * m, grid + 2 * (row * size + column));
+            uint32_t at = grid_place(mode, size, cell, slot, s, m);
+            if (at < carriers) copy_point(points + 2 * m, grid + 2 * at);
         }
         points += 2 * INDICES;
     }
