@@ -8,6 +8,8 @@
 // branch, and one branch a burst; the owner is the first burst that covers, a row is set to none and marked burst by burst.
 // plain_fill is no call of the engine: it writes at once what the ground and a lay of each lit subchannel write, and
 // puts questions 1 2 3 17 4 8 9, 8 about the points of the whole slot.
+// plain_put and plain_take are what is left of lay and empty where the caller keeps the places: they copy so many
+// points to a grid and from it, and ask nothing.
 #ifndef PLAIN_H
 #define PLAIN_H
 
@@ -29,6 +31,8 @@ uint32_t plain_lay(uint32_t mode, uint32_t size, uint32_t cell, uint32_t mask, u
                    const float *points, size_t points_len, float *grid, size_t grid_len);
 uint32_t plain_fill(uint32_t mode, uint32_t size, uint32_t cell, uint32_t mask, uint32_t slot, const float pilot[2],
                     const float *points, size_t points_len, float *grid, size_t grid_len);
+void plain_put(const uint32_t *places, size_t count, const float *points, float *grid);
+void plain_take(const uint32_t *places, size_t count, const float *grid, float *points);
 uint32_t plain_empty(uint32_t mode, uint32_t size, uint32_t cell, uint32_t mask, uint32_t slot, const float *grid,
                      size_t grid_len, float *points, size_t points_len);
 uint32_t plain_empty_first(uint32_t mode, uint32_t size, uint32_t cell, uint32_t mask, uint32_t slot, uint32_t carriers,
