@@ -1,5 +1,6 @@
 // Holds the engine against plain C of the same formulas, call by call, and whole slots, which the engine fills in two
-// moves: first both must give the same answers, then both are timed. bench --check leaves the timing out.
+// moves, and where points are copied against a copy by a table of places that the caller keeps: first all must give the
+// same answers, then all are timed. bench --check leaves the timing out.
 #include "bellpulsar.h"
 #include "plain.h"
 #include "plain_ranges.h"
@@ -11,11 +12,13 @@
 #include <time.h>
 
 enum { ROUNDS = 15, ROUND_MS = 10 }; // a round is as long as that or up to twice as long
-enum { LAID = 2 * INDICES, MOST_POINTS = LAID * 192, MOST_GRID = 2 * 6 * 2048 }; // floats; LAID of one subchannel
+enum { MOST_SUBCHANNELS = 192 };
+enum { LAID = 2 * INDICES, MOST_POINTS = LAID * MOST_SUBCHANNELS, MOST_GRID = 2 * 6 * 2048 }; // floats; LAID of one
 
 // The calls of one side.
 struct side {
     uint32_t (*place)(uint32_t, uint32_t, uint32_t, uint32_t, uint32_t, uint32_t, uint32_t *, int32_t *);
+    uint32_t (*places)(uint32_t, uint32_t, uint32_t, uint32_t, uint32_t, uint32_t *);
     uint32_t (*locate)(uint32_t, uint32_t, uint32_t, uint32_t, int32_t, uint32_t *, uint32_t *, uint32_t *,
                        uint32_t *);
     uint32_t (*slot)(uint32_t, uint32_t, uint32_t, uint32_t, uint32_t, const float *, const float *, size_t, float *,
@@ -56,23 +59,25 @@ static uint32_t engine_slot(uint32_t mode, uint32_t size, uint32_t cell, uint32_
 }
 
 static const struct side engine = {
-    bp_place,        bp_locate,      engine_slot,         bp_ground,         bp_lay,            bp_empty,
-    bp_empty_first,  bp_look,        bp_ofusc_collisions, bp_amc_collisions, bp_zone_plan_read, bp_zone_plan_write,
-    bp_bursts_check, bp_burst_owner, bp_burst_owners};
+    bp_place,           bp_places,           bp_locate,         engine_slot,
+    bp_ground,          bp_lay,              bp_empty,          bp_empty_first,
+    bp_look,            bp_ofusc_collisions, bp_amc_collisions, bp_zone_plan_read,
+    bp_zone_plan_write, bp_bursts_check,     bp_burst_owner,    bp_burst_owners};
 static const struct side plain = {
-    plain_place,        plain_locate,      plain_fill,             plain_ground,         plain_lay,       plain_empty,
-    plain_empty_first,  plain_look,        plain_ofusc_collisions, plain_amc_collisions, plain_plan_read, plain_plan_write,
-    plain_bursts_check, plain_burst_owner, plain_burst_owners};
+    plain_place,      plain_places,           plain_locate,         plain_fill,
+    plain_ground,     plain_lay,              plain_empty,          plain_empty_first,
+    plain_look,       plain_ofusc_collisions, plain_amc_collisions, plain_plan_read,
+    plain_plan_write, plain_bursts_check,     plain_burst_owner,    plain_burst_owners};
 
 // All that a call may write.
 struct outcome {
-    uint32_t symbol, kind, slot, subchannel, index, count, size, written, zones[32], owner, looked;
+    uint32_t symbol, places[INDICES], kind, slot, subchannel, index, count, size, written, zones[32], owner, looked;
     int32_t carrier;
-    uint8_t hits[48], bytes[PLAN_ROOM], owners[192];
+    uint8_t hits[48], bytes[PLAN_ROOM], owners[MOST_SUBCHANNELS];
     float point[2], points[MOST_POINTS], grid[MOST_GRID];
 };
 
-static struct outcome engine_outcome, plain_outcome;
+static struct outcome engine_outcome, plain_outcome, table_outcome;
 static float pilot[2] = {-1.0f, -2.0f}, source_points[MOST_POINTS], source_grid[MOST_GRID];
 
 // --- the calls -------------------------------------------------------------------------------------------------------
@@ -143,6 +148,13 @@ static uint32_t run_place(const struct side *side, struct outcome *o, uint32_t f
     return sum;
 }
 
+static uint32_t run_places(const struct side *side, struct outcome *o, uint32_t from, uint32_t to) {
+    uint32_t sum = 0;
+    for (const struct request *q = requests + from; q < requests + to; q++)
+        sum += side->places(q->mode, q->size, q->cell, q->slot, q->subchannel, o->places);
+    return sum;
+}
+
 static uint32_t run_locate(const struct side *side, struct outcome *o, uint32_t from, uint32_t to) {
     uint32_t sum = 0;
     for (const struct request *q = requests + from; q < requests + to; q++)
@@ -210,23 +222,95 @@ static uint32_t run_burst_owners(const struct side *side, struct outcome *o, uin
     return sum;
 }
 
+// --- by table --------------------------------------------------------------------------------------------------------
+
+// What a caller keeps who stays in one cell, for the slots whose pilots are on the same carriers: the places of all lit
+// subchannels, the number of each of these among them, and the ground.
+static struct kept {
+    uint32_t lit, number[MOST_SUBCHANNELS], places[INDICES * MOST_SUBCHANNELS];
+    float ground[MOST_GRID];
+} kept[3];
+
+// The first slot whose pilots are on the same carriers as those of the request's; what is kept of it serves for both.
+static uint32_t first_alike(const struct request *q) {
+    bool pilots_move = q->mode == OFUSC || q->mode == AMC || q->mode == AMC_3X2;
+    return pilots_move ? q->slot % 3 : 0;
+}
+
+// What serves for a request that is accepted.
+static void keep(const struct request *q) {
+    uint32_t slot = first_alike(q);
+    struct kept *k = &kept[slot];
+    k->lit = 0;
+    for (uint32_t s = 0; s < subchannels(q->mode, q->size); s++) {
+        if (!is_lit(q->mode, q->mask, s)) continue;
+        k->number[s] = k->lit++;
+        bp_places(q->mode, q->size, q->cell, slot, s, k->places + INDICES * k->number[s]);
+    }
+    bp_ground(q->mode, q->size, q->cell, q->mask, slot, pilot, k->ground, q->grid_len);
+}
+
+// What serves for all slots of a request's cell.
+static void keep_cell(struct request q) {
+    for (q.slot = 0; q.slot < 3; q.slot++) keep(&q);
+}
+
+// These do by what is kept, whatever the request's cell, what run_slot, run_lay and run_empty do by a side's calls.
+
+static uint32_t put_slot(const struct side *none, struct outcome *o, uint32_t from, uint32_t to) {
+    (void)none;
+    for (const struct request *q = requests + from; q < requests + to; q++) {
+        const struct kept *k = &kept[first_alike(q)];
+        memcpy(o->grid, k->ground, sizeof(float) * q->grid_len);
+        plain_put(k->places, INDICES * k->lit, source_points, o->grid);
+    }
+    return 0;
+}
+
+static uint32_t put_subchannel(const struct side *none, struct outcome *o, uint32_t from, uint32_t to) {
+    (void)none;
+    for (const struct request *q = requests + from; q < requests + to; q++) {
+        const struct kept *k = &kept[first_alike(q)];
+        plain_put(k->places + INDICES * k->number[q->subchannel], INDICES, source_points, o->grid);
+    }
+    return 0;
+}
+
+static uint32_t take_slot(const struct side *none, struct outcome *o, uint32_t from, uint32_t to) {
+    (void)none;
+    for (const struct request *q = requests + from; q < requests + to; q++) {
+        const struct kept *k = &kept[first_alike(q)];
+        plain_take(k->places, INDICES * k->lit, source_grid, o->points);
+    }
+    return 0;
+}
+
 // --- a row of the table ----------------------------------------------------------------------------------------------
 
-// A call in one setup. `timed` requests are timed, the strays after them only compared; times are for one of `units` a
-// request. before: the ratio that is known of an earlier way to do it, or 0.
+// A call in one setup, and how it is done by table, or NULL. `timed` requests are timed, the strays after them only
+// compared; times are for one of `units` a request. before: the ratio that is known of an earlier way to do it, or 0.
 struct row {
     const char *call, *setup;
-    run_fn *run;
+    run_fn *run, *by_table;
     uint32_t timed, units;
     double before;
 };
 
 static bool timing;
-static uint32_t rows, compared, refused;
+static uint32_t rows, compared, refused, also_by_table;
 
 static void fail(const struct row *r, uint32_t i, const char *what) {
     printf("bench: %s, %s, request %u: %s\n", r->call, r->setup, i, what);
     exit(1);
+}
+
+// A request that the engine accepted: the table's way writes the same and leaves the same alone.
+static void compare_table(const struct row *r, uint32_t i) {
+    memset(&table_outcome, 0xA5, sizeof table_outcome);
+    keep(&requests[i]);
+    r->by_table(NULL, &table_outcome, i, i + 1);
+    if (memcmp(&engine_outcome, &table_outcome, sizeof table_outcome)) fail(r, i, "by table it is written differently");
+    also_by_table++;
 }
 
 // Every request alone: both sides give the same refusal, write the same and leave the same alone.
@@ -238,6 +322,7 @@ static void compare(const struct row *r) {
         if (r->run(&plain, &plain_outcome, i, i + 1) != refusal) fail(r, i, "the sides refuse differently");
         if (memcmp(&engine_outcome, &plain_outcome, sizeof plain_outcome)) fail(r, i, "the sides write differently");
         if (i < r->timed && refusal) fail(r, i, "refused, and should be timed");
+        if (r->by_table && !refusal) compare_table(r, i);
         refused += refusal != 0;
     }
     compared += r->timed + STRAYS;
@@ -250,38 +335,65 @@ static double seconds(void) {
     return (double)t.tv_sec + 1e-9 * (double)t.tv_nsec;
 }
 
-static double seconds_of(const struct row *r, const struct side *side, struct outcome *o, uint32_t passes) {
+// A way to do a row: by the calls of a side, or by table.
+struct way {
+    run_fn *run;
+    const struct side *side;
+    struct outcome *outcome;
+};
+enum { ENGINE, PLAIN, BY_TABLE, WAYS };
+
+static double seconds_of(const struct row *r, const struct way *way, uint32_t passes) {
     double start = seconds();
     for (uint32_t i = 0; i < passes; i++)
-        if (r->run(side, o, 0, r->timed)) fail(r, 0, "refused while it was timed");
+        if (way->run(way->side, way->outcome, 0, r->timed)) fail(r, 0, "refused while it was timed");
     return seconds() - start;
 }
 
-// How many passes over the requests fill a round; warms the side up.
-static uint32_t passes_a_round(const struct row *r, const struct side *side, struct outcome *o) {
+// How many passes over the requests fill a round; warms the way up.
+static uint32_t passes_a_round(const struct row *r, const struct way *way) {
     uint32_t passes = 1;
-    while (seconds_of(r, side, o, passes) < 1e-3 * ROUND_MS) passes *= 2;
+    while (seconds_of(r, way, passes) < 1e-3 * ROUND_MS) passes *= 2;
     return passes;
 }
 
 static double lesser(double a, double b) { return a < b ? a : b; }
 
-// The best of several rounds of both sides, taken in turn, in ns.
-static void time_row(const struct row *r) {
-    uint32_t a_passes = passes_a_round(r, &engine, &engine_outcome);
-    uint32_t b_passes = passes_a_round(r, &plain, &plain_outcome);
-    double a = 1e9, b = 1e9;
-    for (uint32_t i = 0; i < ROUNDS; i++) {
-        a = lesser(a, seconds_of(r, &engine, &engine_outcome, a_passes));
-        b = lesser(b, seconds_of(r, &plain, &plain_outcome, b_passes));
+// The best of several rounds of each way, taken in turn, in ns; 0 by table where there is none.
+static void time_ways(const struct row *r, double ns[WAYS]) {
+    const struct way ways[WAYS] = {{r->run, &engine, &engine_outcome},
+                                   {r->run, &plain, &plain_outcome},
+                                   {r->by_table, NULL, &table_outcome}};
+    uint32_t passes[WAYS], count = r->by_table ? WAYS : BY_TABLE;
+    ns[BY_TABLE] = 0;
+    for (uint32_t w = 0; w < count; w++) {
+        passes[w] = passes_a_round(r, &ways[w]);
+        ns[w] = 1e9;
     }
-    a *= 1e9 / ((double)a_passes * r->timed * r->units);
-    b *= 1e9 / ((double)b_passes * r->timed * r->units);
-    printf("| %-24s | %-19s | %8.2f | %8.2f | %5.2f |", r->call, r->setup, a, b, a / b);
-    if (r->before > 0)
-        printf(" %6.2f |\n", r->before);
+    for (uint32_t i = 0; i < ROUNDS; i++)
+        for (uint32_t w = 0; w < count; w++) ns[w] = lesser(ns[w], seconds_of(r, &ways[w], passes[w]));
+    for (uint32_t w = 0; w < count; w++) ns[w] *= 1e9 / ((double)passes[w] * r->timed * r->units);
+}
+
+// A figure in its column; 0 is none.
+static void print_figure(int width, double figure) {
+    if (figure > 0)
+        printf(" %*.2f |", width, figure);
     else
-        printf("        |\n");
+        printf(" %*s |", width, "");
+}
+
+static void time_row(const struct row *r) {
+    double ns[WAYS];
+    if (r->by_table) keep_cell(requests[0]);
+    time_ways(r, ns);
+    printf("| %-24s | %-19s |", r->call, r->setup);
+    print_figure(8, ns[ENGINE]);
+    print_figure(8, ns[PLAIN]);
+    print_figure(5, ns[ENGINE] / ns[PLAIN]);
+    print_figure(8, ns[BY_TABLE]);
+    print_figure(6, r->before);
+    printf("\n");
     fflush(stdout);
 }
 
@@ -330,58 +442,63 @@ enum { SETUPS = sizeof setups / sizeof setups[0] };
 
 enum unit { CALL, POINT }; // what the times are for: a point is one of the slot's data points, lit or not
 
-static void map_rows(const char *call, run_fn *run, enum extent extent, enum unit unit) {
+static void map_rows(const char *call, run_fn *run, run_fn *by_table, enum extent extent, enum unit unit) {
     for (const struct setup *s = setups; s < setups + SETUPS; s++) {
         if (s->from > extent) continue;
         uint32_t points = INDICES * subchannels(s->mode, s->size);
         draw_requests(s->mode, s->size, s->mask);
-        do_row((struct row){call, s->name, run, REQUESTS, unit == POINT ? points : 1,
+        do_row((struct row){call, s->name, run, by_table, REQUESTS, unit == POINT ? points : 1,
                             run == run_empty ? s->empty_before : 0});
     }
 }
 
 static void collision_rows(void) {
     draw_requests(OFUSC, 256, 0);
-    do_row((struct row){"optional FUSC collisions", "256", run_ofusc_collisions, REQUESTS, 1, 0});
+    do_row((struct row){"optional FUSC collisions", "256", run_ofusc_collisions, NULL, REQUESTS, 1, 0});
     draw_requests(OFUSC, 2048, 0);
-    do_row((struct row){"optional FUSC collisions", "2048", run_ofusc_collisions, REQUESTS, 1, 0});
+    do_row((struct row){"optional FUSC collisions", "2048", run_ofusc_collisions, NULL, REQUESTS, 1, 0});
     draw_requests(AMC, 2048, 0);
-    do_row((struct row){"AMC collisions", "any size and shape", run_amc_collisions, REQUESTS, 1, 0});
+    do_row((struct row){"AMC collisions", "any size and shape", run_amc_collisions, NULL, REQUESTS, 1, 0});
 }
 
 static void plan_rows(const char *call, run_fn *run) {
     draw_plans(SHORTEST_PLAN);
-    do_row((struct row){call, "1 zone, 7 bytes", run, PLANS, 1, 0});
+    do_row((struct row){call, "1 zone, 7 bytes", run, NULL, PLANS, 1, 0});
     draw_plans(LONGEST_PLAN);
-    do_row((struct row){call, "8 zones, 51 bytes", run, PLANS, 1, 0});
+    do_row((struct row){call, "8 zones, 51 bytes", run, NULL, PLANS, 1, 0});
 }
 
 // Zones of 512 slots with the fewest subchannels, 60, and the most.
 static void burst_rows(const char *call, run_fn *run, uint32_t bursts) {
     draw_lists(OFUSC, 256, 0, bursts);
-    do_row((struct row){call, "optional FUSC, 256", run, LISTS, 1, 0});
+    do_row((struct row){call, "optional FUSC, 256", run, NULL, LISTS, 1, 0});
     draw_lists(PUSC_DL, 2048, FULL_MASK, bursts);
-    do_row((struct row){call, "PUSC downlink, 2048", run, LISTS, 1, 0});
+    do_row((struct row){call, "PUSC downlink, 2048", run, NULL, LISTS, 1, 0});
     draw_lists(AMC_1X6, 2048, 0, bursts);
-    do_row((struct row){call, "AMC 1x6, 2048", run, LISTS, 1, 0});
+    do_row((struct row){call, "AMC 1x6, 2048", run, NULL, LISTS, 1, 0});
 }
 
 static void heading(void) {
     printf("ns a data point of the slot for slot, ground, empty and empty_first, ns a call for the others; the loop\n"
            "around a call is in its time. slot: the engine's ground and a lay for each subchannel, questions and all,\n"
-           "against plain C that fills the slot in one call. lay: one subchannel, 48 points. empty_first: half of the\n"
-           "grid's carriers, and all. Groups lit: of PUSC downlink. A data point of the slot is any of it, lit or not,\n"
-           "emptied or not, so that these rows can be held to the ones with all. before: the ratio published for empty\n"
-           "when it went subchannel by subchannel, from another run, where there is one; it goes by carrier now.\n"
-           "Bursts: so many in a list, which is checked in every call; the zone has 512 slots, and the bursts tile it, where\n"
-           "there are any. The owner of any slot and subchannel, the owners of any slot.\n"
-           "Warm buffers: %d requests (%d plans, %d lists), drawn at random from what the call accepts, again and again.\n"
-           "Best of %d rounds of %d to %d ms of processor time, both sides in turn.\n"
-           "Each row first compared both sides on its requests and on %d more, many of which are refused.\n"
+           "against plain C that fills the slot in one call. lay: one subchannel, 48 points. places: those of one\n"
+           "subchannel. empty_first: half of the grid's carriers, and all. Groups lit: of PUSC downlink. A data point\n"
+           "of the slot is any of it, lit or not, emptied or not, so that these rows can be held to those with all.\n"
+           "by table: plain C of a caller who stays in one cell and keeps, made before the timing, the places of all\n"
+           "lit subchannels as bp_places gives them, 4 bytes a point, and the slot's ground; three of each where the\n"
+           "pilots move from slot to slot (optional FUSC, AMC 6x1, AMC 3x2), else one. It asks nothing. slot: a copy\n"
+           "of the ground, then of each point to its place; lay, empty: a copy of each point.\n"
+           "before: the ratio published for empty when it went subchannel by subchannel, from another run, where\n"
+           "there is one; it goes by carrier now.\n"
+           "Bursts: so many in a list, which is checked in every call; the zone has 512 slots, and the bursts tile\n"
+           "it, where there are any. The owner of any slot and subchannel, the owners of any slot.\n"
+           "Warm buffers: %d requests (%d plans, %d lists), drawn at random from what the call accepts, again and\n"
+           "again. Best of %d rounds of %d to %d ms of processor time, all ways in turn.\n"
+           "Each row first compared all ways on its requests and on %d more, many of which are refused.\n"
            "Plain C: %s, %s. The engine: its static archive.\n\n",
            REQUESTS, PLANS, LISTS, ROUNDS, ROUND_MS, 2 * ROUND_MS, STRAYS, BENCH_COMPILER, BENCH_FLAGS);
-    printf("| call                     | setup               |   engine |  plain C | ratio | before |\n"
-           "|--------------------------|---------------------|---------:|---------:|------:|-------:|\n");
+    printf("| call                     | setup               |   engine |  plain C | ratio | by table | before |\n"
+           "|--------------------------|---------------------|---------:|---------:|------:|---------:|-------:|\n");
 }
 
 int main(int argc, char **argv) {
@@ -394,15 +511,16 @@ int main(int argc, char **argv) {
     for (int i = 0; i < MOST_POINTS; i++) source_points[i] = (float)i + 0.5f;
     for (int i = 0; i < MOST_GRID; i++) source_grid[i] = (float)i + 0.25f;
     if (timing) heading();
-    map_rows("slot", run_slot, ALL_SIZES, POINT);
-    map_rows("ground", run_ground, SOME_LIT, POINT);
-    map_rows("lay", run_lay, ALL_SIZES, CALL);
-    map_rows("empty", run_empty, SOME_LIT, POINT);
-    map_rows("empty_first, half", run_empty_half, SOME_LIT, POINT);
-    map_rows("empty_first, all", run_empty_whole, SOME_LIT, POINT);
-    map_rows("place", run_place, ENDS, CALL);
-    map_rows("locate", run_locate, ENDS, CALL);
-    map_rows("look", run_look, ENDS, CALL);
+    map_rows("slot", run_slot, put_slot, ALL_SIZES, POINT);
+    map_rows("ground", run_ground, NULL, SOME_LIT, POINT);
+    map_rows("lay", run_lay, put_subchannel, ALL_SIZES, CALL);
+    map_rows("empty", run_empty, take_slot, SOME_LIT, POINT);
+    map_rows("empty_first, half", run_empty_half, NULL, SOME_LIT, POINT);
+    map_rows("empty_first, all", run_empty_whole, NULL, SOME_LIT, POINT);
+    map_rows("place", run_place, NULL, ENDS, CALL);
+    map_rows("places", run_places, NULL, ENDS, CALL);
+    map_rows("locate", run_locate, NULL, ENDS, CALL);
+    map_rows("look", run_look, NULL, ENDS, CALL);
     collision_rows();
     plan_rows("plan read", run_plan_read);
     plan_rows("plan write", run_plan_write);
@@ -415,6 +533,8 @@ int main(int argc, char **argv) {
     burst_rows("burst owners, 64", run_burst_owners, 64);
     burst_rows("burst owners, 8", run_burst_owners, 8);
     burst_rows("burst owners, none", run_burst_owners, 0);
-    if (!timing) printf("bench: %u rows, %u requests, %u of them refused: both sides agree\n", rows, compared, refused);
+    if (!timing)
+        printf("bench: %u rows, %u requests, %u of them refused, %u done by table too: all agree\n", rows, compared,
+               refused, also_by_table);
     return 0;
 }

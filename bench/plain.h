@@ -1,13 +1,15 @@
 // The benchmark's other side: the engine's calls in plain C. The same formulas, the same questions in the same order,
 // the same signatures; bellpulsar.h says what they mean.
 //
-// Each place is worked out by itself from mode, size, cell, slot, subchannel and index, also in lay, empty and
+// Each place is worked out by itself from mode, size, cell, slot, subchannel and index, also in places, lay, empty and
 // empty_first, which then tests whether it is one of the first. place goes by the inverse table of R, locate and look
 // by those of Q, P and both B; plain_tables works them out once.
 // A list of bursts is checked in each call that has one, every burst against all before it, by four comparisons without a
 // branch, and one branch a burst; the owner is the first burst that covers, a row is set to none and marked burst by burst.
 // plain_fill is no call of the engine: it writes at once what the ground and a lay of each lit subchannel write, and
 // puts questions 1 2 3 17 4 8 9, 8 about the points of the whole slot.
+// plain_put and plain_take are what is left of lay and empty where the caller keeps the places: they copy so many
+// points to a grid and from it, and ask nothing.
 #ifndef PLAIN_H
 #define PLAIN_H
 
@@ -19,6 +21,8 @@ void plain_tables(void);
 
 uint32_t plain_place(uint32_t mode, uint32_t size, uint32_t cell, uint32_t slot, uint32_t subchannel, uint32_t index,
                      uint32_t *symbol, int32_t *carrier);
+uint32_t plain_places(uint32_t mode, uint32_t size, uint32_t cell, uint32_t slot, uint32_t subchannel,
+                      uint32_t places[48]);
 uint32_t plain_locate(uint32_t mode, uint32_t size, uint32_t cell, uint32_t symbol, int32_t carrier, uint32_t *kind,
                       uint32_t *slot, uint32_t *subchannel, uint32_t *index);
 uint32_t plain_ground(uint32_t mode, uint32_t size, uint32_t cell, uint32_t mask, uint32_t slot, const float pilot[2],
@@ -27,6 +31,8 @@ uint32_t plain_lay(uint32_t mode, uint32_t size, uint32_t cell, uint32_t mask, u
                    const float *points, size_t points_len, float *grid, size_t grid_len);
 uint32_t plain_fill(uint32_t mode, uint32_t size, uint32_t cell, uint32_t mask, uint32_t slot, const float pilot[2],
                     const float *points, size_t points_len, float *grid, size_t grid_len);
+void plain_put(const uint32_t *places, size_t count, const float *points, float *grid);
+void plain_take(const uint32_t *places, size_t count, const float *grid, float *points);
 uint32_t plain_empty(uint32_t mode, uint32_t size, uint32_t cell, uint32_t mask, uint32_t slot, const float *grid,
                      size_t grid_len, float *points, size_t points_len);
 uint32_t plain_empty_first(uint32_t mode, uint32_t size, uint32_t cell, uint32_t mask, uint32_t slot, uint32_t carriers,

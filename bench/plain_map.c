@@ -22,8 +22,7 @@ static const uint8_t b8_table[8] = {7, 4, 0, 2, 1, 5, 3, 6};
 static const uint8_t p_table[48] = {1,  22, 46, 52, 42, 41, 26, 50, 5,  33, 62, 43, 63, 65, 32, 40,
                                     4,  11, 23, 61, 21, 24, 13, 60, 6,  55, 31, 25, 35, 36, 51, 20,
                                     2,  44, 15, 34, 14, 12, 45, 30, 3,  66, 54, 16, 56, 53, 64, 10};
-// The six major groups of PUSC downlink.
-static const uint8_t first_subchannel[GROUPS] = {0, 12, 20, 32, 40, 52};
+// Of the six major groups of PUSC downlink.
 static const uint8_t first_cluster[GROUPS] = {0, 24, 40, 64, 80, 104};
 
 static uint8_t r_inverse[120], q_inverse[70], b12_inverse[12], b8_inverse[8];
@@ -67,13 +66,7 @@ static inline uint32_t column_of(uint32_t mode, uint32_t size, uint32_t used) {
     return left_guards(mode, size) + used + (used >= used_numbers(mode, size) / 2);
 }
 
-// The major group of a subchannel, and of a logical cluster.
-static inline uint32_t group_of_subchannel(uint32_t s) {
-    uint32_t g = 0;
-    while (g < GROUPS - 1 && s >= first_subchannel[g + 1]) g++;
-    return g;
-}
-
+// The major group of a logical cluster.
 static inline uint32_t group_of_cluster(uint32_t logical) {
     uint32_t g = 0;
     while (g < GROUPS - 1 && logical >= first_cluster[g + 1]) g++;
@@ -82,11 +75,7 @@ static inline uint32_t group_of_cluster(uint32_t logical) {
 
 static inline uint32_t logical_cluster(uint32_t cell, uint32_t used) { return r_table[(used / 14 + 13 * cell) % 120]; }
 
-// Whether a mask lights a subchannel, and a used number.
-static inline bool is_lit(uint32_t mode, uint32_t mask, uint32_t s) {
-    return mode != PUSC_DL || mask >> group_of_subchannel(s) & 1;
-}
-
+// Whether a mask lights a used number.
 static inline bool is_lit_used(uint32_t mode, uint32_t cell, uint32_t mask, uint32_t used) {
     return mode != PUSC_DL || mask >> group_of_cluster(logical_cluster(cell, used)) & 1;
 }
@@ -184,15 +173,35 @@ static inline uint32_t place(uint32_t mode, uint32_t size, uint32_t cell, uint32
     return column_of(mode, size, used_amc(mode, cell, slot, s, m, row));
 }
 
-uint32_t plain_place(uint32_t mode, uint32_t size, uint32_t cell, uint32_t slot, uint32_t subchannel, uint32_t index,
-                     uint32_t *symbol, int32_t *carrier) {
-    uint32_t row, refusal = setup_refusal(mode, size, cell);
+// The place of a point in its slot's grid, which is counted in points.
+static inline uint32_t grid_place(uint32_t mode, uint32_t size, uint32_t cell, uint32_t slot, uint32_t s, uint32_t m) {
+    uint32_t row, column = place(mode, size, cell, slot, s, m, &row);
+    return row * size + column;
+}
+
+// The first of questions 1, 2, 3, 4 and 5 that is answered no, or 0.
+static uint32_t subchannel_refusal(uint32_t mode, uint32_t size, uint32_t cell, uint32_t slot, uint32_t subchannel) {
+    uint32_t refusal = setup_refusal(mode, size, cell);
     if (refusal) return refusal;
     if (slot >= SLOTS) return 4;
-    if (subchannel >= subchannels(mode, size)) return 5;
+    return subchannel < subchannels(mode, size) ? 0 : 5;
+}
+
+uint32_t plain_place(uint32_t mode, uint32_t size, uint32_t cell, uint32_t slot, uint32_t subchannel, uint32_t index,
+                     uint32_t *symbol, int32_t *carrier) {
+    uint32_t row, refusal = subchannel_refusal(mode, size, cell, slot, subchannel);
+    if (refusal) return refusal;
     if (index >= INDICES) return 6;
     *carrier = (int32_t)place(mode, size, cell, slot, subchannel, index, &row) - dc_column(size);
     *symbol = slot * symbols(mode) + row;
+    return 0;
+}
+
+uint32_t plain_places(uint32_t mode, uint32_t size, uint32_t cell, uint32_t slot, uint32_t subchannel,
+                      uint32_t places[48]) {
+    uint32_t refusal = subchannel_refusal(mode, size, cell, slot, subchannel);
+    if (refusal) return refusal;
+    for (uint32_t m = 0; m < INDICES; m++) places[m] = grid_place(mode, size, cell, slot, subchannel, m);
     return 0;
 }
 
@@ -300,6 +309,14 @@ static uint32_t buffers_refusal(uint32_t mode, uint32_t size, uint32_t mask, siz
 
 static void copy_point(float *to, const float *from) { memcpy(to, from, 2 * sizeof(float)); }
 
+void plain_put(const uint32_t *places, size_t count, const float *points, float *grid) {
+    for (size_t i = 0; i < count; i++) copy_point(grid + 2 * (size_t)places[i], points + 2 * i);
+}
+
+void plain_take(const uint32_t *places, size_t count, const float *grid, float *points) {
+    for (size_t i = 0; i < count; i++) copy_point(points + 2 * i, grid + 2 * (size_t)places[i]);
+}
+
 static inline void put_ground(uint32_t mode, uint32_t size, uint32_t cell, uint32_t mask, uint32_t slot,
                               const float pilot[2], float *grid) {
     memset(grid, 0, sizeof(float) * grid_floats(mode, size));
@@ -311,10 +328,8 @@ static inline void put_ground(uint32_t mode, uint32_t size, uint32_t cell, uint3
 
 static inline void put_points(uint32_t mode, uint32_t size, uint32_t cell, uint32_t slot, uint32_t subchannel,
                               const float *points, float *grid) {
-    for (uint32_t m = 0; m < INDICES; m++) {
-        uint32_t row, column = place(mode, size, cell, slot, subchannel, m, &row);
-        copy_point(grid + 2 * (row * size + column), points + 2 * m);
-    }
+    for (uint32_t m = 0; m < INDICES; m++)
+        copy_point(grid + 2 * grid_place(mode, size, cell, slot, subchannel, m), points + 2 * m);
 }
 
 uint32_t plain_ground(uint32_t mode, uint32_t size, uint32_t cell, uint32_t mask, uint32_t slot, const float pilot[2],
@@ -353,15 +368,13 @@ uint32_t plain_fill(uint32_t mode, uint32_t size, uint32_t cell, uint32_t mask, 
 
 uint32_t plain_empty(uint32_t mode, uint32_t size, uint32_t cell, uint32_t mask, uint32_t slot, const float *grid,
                      size_t grid_len, float *points, size_t points_len) {
-    uint32_t row, refusal = slot_refusal(mode, size, cell, mask, slot);
+    uint32_t refusal = slot_refusal(mode, size, cell, mask, slot);
     if (!refusal) refusal = buffers_refusal(mode, size, mask, points_len, grid_len);
     if (refusal) return refusal;
     for (uint32_t s = 0; s < subchannels(mode, size); s++) {
         if (!is_lit(mode, mask, s)) continue;
-        for (uint32_t m = 0; m < INDICES; m++) {
-            uint32_t column = place(mode, size, cell, slot, s, m, &row);
-            copy_point(points + 2 * m, grid + 2 * (row * size + column));
-        }
+        for (uint32_t m = 0; m < INDICES; m++)
+            copy_point(points + 2 * m, grid + 2 * grid_place(mode, size, cell, slot, s, m));
         points += 2 * INDICES;
     }
     return 0;
@@ -369,14 +382,14 @@ uint32_t plain_empty(uint32_t mode, uint32_t size, uint32_t cell, uint32_t mask,
 
 uint32_t plain_empty_first(uint32_t mode, uint32_t size, uint32_t cell, uint32_t mask, uint32_t slot, uint32_t carriers,
                            const float *grid, size_t grid_len, float *points, size_t points_len) {
-    uint32_t row, refusal = slot_refusal(mode, size, cell, mask, slot);
+    uint32_t refusal = slot_refusal(mode, size, cell, mask, slot);
     if (!refusal) refusal = buffers_refusal(mode, size, mask, points_len, grid_len);
     if (refusal) return refusal;
     for (uint32_t s = 0; s < subchannels(mode, size); s++) {
         if (!is_lit(mode, mask, s)) continue;
         for (uint32_t m = 0; m < INDICES; m++) {
-            uint32_t column = place(mode, size, cell, slot, s, m, &row);
-            if (row * size + column < carriers) copy_point(points + 2 * m, grid + 2 * (row * size + column));
+            uint32_t at = grid_place(mode, size, cell, slot, s, m);
+            if (at < carriers) copy_point(points + 2 * m, grid + 2 * at);
         }
         points += 2 * INDICES;
     }

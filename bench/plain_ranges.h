@@ -1,5 +1,5 @@
-// The ranges of documents 01 and 02, their first three questions, that of the mask and those of a zone, for the map, for
-// plans and for bursts.
+// The ranges of documents 01 and 02, what a mask lights, their first three questions, that of the mask and those of a
+// zone, for the map, for plans and for bursts.
 #ifndef PLAIN_RANGES_H
 #define PLAIN_RANGES_H
 
@@ -9,6 +9,7 @@
 enum { PUSC_DL, PUSC_UL, OFUSC, AMC, AMC_2X3, AMC_3X2, AMC_1X6, MODES };
 enum { SLOTS = 512, INDICES = 48, AMC_CELLS = 2352 };
 enum { GROUPS = 6, FULL_MASK = 63 }; // of PUSC downlink; the other modes have mask 0
+static const uint8_t first_subchannel[GROUPS] = {0, 12, 20, 32, 40, 52};
 
 static inline bool is_bin_size(uint32_t size) { return size == 256 || size == 512 || size == 1024 || size == 2048; }
 
@@ -34,6 +35,17 @@ static inline uint32_t lit_subchannels(uint32_t mode, uint32_t size, uint32_t ma
     for (uint32_t g = 0; g < GROUPS; g++)
         if (mask >> g & 1) count += g % 2 ? 8 : 12;
     return count;
+}
+
+// The major group of a subchannel of PUSC downlink.
+static inline uint32_t group_of_subchannel(uint32_t s) {
+    uint32_t g = 0;
+    while (g < GROUPS - 1 && s >= first_subchannel[g + 1]) g++;
+    return g;
+}
+
+static inline bool is_lit(uint32_t mode, uint32_t mask, uint32_t s) {
+    return mode != PUSC_DL || mask >> group_of_subchannel(s) & 1;
 }
 
 // Question 17.
