@@ -28,7 +28,7 @@ use Rattle.bursts.specs.Model.{listRefusal}
 use Rattle.base.proofs.First.{none-is}
 use Rattle.bursts.proofs.Cover.{inside-covers, inside-first, inside-is, overlap-common}
 use Rattle.bursts.proofs.Each.{list-numbered, list-is, list-of, list-yes, list-passes}
-use Rattle.bursts.proofs.Answer.{zone-limits, check-list, owner-accepted, row-accepted}
+use Rattle.bursts.proofs.Answer.{zone-limits, past-slot, check-list, owner-by, row-by}
 use Rattle.bursts.proofs.Row.{alone, owner-here, by-owner}
 
 -- the outcomes by their answer
@@ -119,7 +119,7 @@ module _ (size : ℕ) (zone : Zone) (numbers : List ℕ) where
           zone-passed = z;
           slot-lt = h;
           list-passed = l;
-          is = sym (owner-accepted size zone numbers slot s (chain-yes _ _ (fields-numbered size zone _) refl z ∙ slot-yes _ slot h ∙ subchannel-yes _ (setupOf size zone) s k ∙ chain-yes _ _ (list-numbered end (zone .slots) numbers _) refl l));
+          is = sym (owner-by size zone numbers slot s (past-slot size zone refl z h _ ∙ subchannel-yes _ (setupOf size zone) s k ∙ chain-yes _ _ (list-numbered end (zone .slots) numbers _) refl l));
         }
 
     owner-alike : slot < 512 → s < end → ownerOf size zone slot s numbers .refusal ≡ checkOf size zone numbers
@@ -209,7 +209,7 @@ module _ (size : ℕ) (zone : Zone) (numbers : List ℕ) where
           zone-passed = z;
           slot-lt = h;
           list-passed = l;
-          is = sym (row-accepted size zone numbers slot (chain-yes _ _ (fields-numbered size zone _) refl z ∙ slot-yes _ slot h ∙ chain-yes _ _ (list-numbered end (zone .slots) numbers _) refl l));
+          is = sym (row-by size zone numbers slot (past-slot size zone refl z h _ ∙ chain-yes _ _ (list-numbered end (zone .slots) numbers _) refl l));
         }
 
     row-alike : slot < 512 → ownersOf size zone slot numbers .refusal ≡ checkOf size zone numbers
