@@ -4,17 +4,17 @@ use mathlib.Core.List.{List}
 use Prim.Native.Nat.{ℕ, _+_, _<_, _≤_}
 use native.Mathlib.Omega.{arith}
 use borrow.Author.Tests.{lt-ltb, le-ltb}
-use Rattle.base.specs.Answer.{accepted, refused, refusalOf}
-use Rattle.base.specs.Tabulate.{tabulate}
+use Rattle.base.specs.Answer.{Answer, accepted, ask, refusalOf}
 use Rattle.base.proofs.Chain.{chain-no, chain-yes}
 use Rattle.map.specs.Mode.{subchannels}
+use Rattle.map.specs.Question.{isSlot}
 use Rattle.map.proofs.ByMode.{few}
+use Rattle.map.proofs.Accept.{slot-yes}
 use Rattle.plan.specs.declared.Zone.{Zone}
-use Rattle.plan.specs.Zone.{setupOf, fieldsRefusal}
+use Rattle.plan.specs.Zone.{setupOf, askFields, fieldsRefusal}
 use Rattle.plan.proofs.Number.{fields-numbered}
 use Rattle.plan.proofs.Judge.{fields-valid, fields-slots}
 use Rattle.bursts.specs.declared.Owned.{Owned}
-use Rattle.bursts.specs.declared.OwnerRow.{OwnerRow}
 use Rattle.bursts.specs.Burst.{burstAt, burstCount, isCovering, checkOf}
 use Rattle.bursts.specs.Owner.{position, noOwner, ownerAt, lookedAt, askOwner, owned, ownerOf, rowAt, askOwners, ownerRow, ownersOf}
 use Rattle.bursts.specs.Model.{listRefusal}
@@ -40,6 +40,14 @@ module _ (numbers : List ℕ) (slot s : ℕ) {p : ℕ} (e : p ≡ position numbe
       let all : p ≡ burstCount numbers = omega (arith, first-most (λ i. isCovering (burstAt numbers i) slot s) (burstCount numbers)) in
       rw (← e, le-ltb p (burstCount numbers) h, all)
 
+-- past the zone's own questions, and past that to the slot
+module _ (size : ℕ) (zone : Zone) {n : ℕ} (e : n ≡ fieldsRefusal size zone) (z : n ≡ 0) where
+  pub past-zone : (rest : Answer (Unit {0})) → askFields size zone rest ≡ rest
+  past-zone rest = chain-yes _ _ (fields-numbered size zone rest) e z
+
+  pub past-slot : {slot : ℕ} → slot < 512 → (rest : Answer (Unit {0})) → askFields size zone (ask (isSlot slot) 4 rest) ≡ rest
+  past-slot {slot} h rest = past-zone _ ∙ slot-yes rest slot h
+
 -- the outcomes of the calls, by what their questions come to
 module _ (size : ℕ) (zone : Zone) (numbers : List ℕ) where
   pub check-no : {n : ℕ} → n ≡ fieldsRefusal size zone → (n ≡ 0 → ⊥) → n ≡ checkOf size zone numbers
@@ -48,22 +56,13 @@ module _ (size : ℕ) (zone : Zone) (numbers : List ℕ) where
 
   pub check-list : {n : ℕ} → n ≡ fieldsRefusal size zone → n ≡ 0 → listRefusal (subchannels (setupOf size zone)) (zone .slots) numbers ≡ checkOf size zone numbers
   unfolding checkOf listRefusal
-  check-list e h = sym (ap refusalOf (chain-yes _ _ (fields-numbered size zone _) e h))
+  check-list e h = sym (ap refusalOf (past-zone size zone e h _))
 
-  module _ (slot : ℕ) where
-    module _ (s : ℕ) where
-      pub owner-refused : {k : ℕ} → askOwner {A = Unit {0}} size zone slot s numbers (accepted tt) ≡ refused k → _≡_ {A = Owned} (record { refusal = k; owner = noOwner; looked = 0 }) (ownerOf size zone slot s numbers)
-      unfolding ownerOf
-      owner-refused e = sym (ap (owned (ownerAt numbers slot s) (lookedAt numbers slot s)) e)
+  module _ (slot : ℕ) {answer : Answer (Unit {0})} where
+    pub owner-by : (s : ℕ) → askOwner size zone slot s numbers (accepted tt) ≡ answer → owned (ownerAt numbers slot s) (lookedAt numbers slot s) answer ≡ ownerOf size zone slot s numbers
+    unfolding ownerOf
+    owner-by s e = sym (ap (owned (ownerAt numbers slot s) (lookedAt numbers slot s)) e)
 
-      pub owner-accepted : askOwner {A = Unit {0}} size zone slot s numbers (accepted tt) ≡ accepted tt → _≡_ {A = Owned} (record { refusal = 0; owner = ownerAt numbers slot s; looked = lookedAt numbers slot s }) (ownerOf size zone slot s numbers)
-      unfolding ownerOf
-      owner-accepted e = sym (ap (owned (ownerAt numbers slot s) (lookedAt numbers slot s)) e)
-
-    pub row-refused : {k : ℕ} → askOwners {A = Unit {0}} size zone slot numbers (accepted tt) ≡ refused k → _≡_ {A = OwnerRow} (record { refusal = k; owners = tabulate 192 (λ s. noOwner) }) (ownersOf size zone slot numbers)
+    pub row-by : askOwners size zone slot numbers (accepted tt) ≡ answer → ownerRow (rowAt size zone slot numbers) answer ≡ ownersOf size zone slot numbers
     unfolding ownersOf
-    row-refused e = sym (ap (ownerRow (rowAt size zone slot numbers)) e)
-
-    pub row-accepted : askOwners {A = Unit {0}} size zone slot numbers (accepted tt) ≡ accepted tt → _≡_ {A = OwnerRow} (record { refusal = 0; owners = tabulate 192 (rowAt size zone slot numbers) }) (ownersOf size zone slot numbers)
-    unfolding ownersOf
-    row-accepted e = sym (ap (ownerRow (rowAt size zone slot numbers)) e)
+    row-by e = sym (ap (ownerRow (rowAt size zone slot numbers)) e)

@@ -1,14 +1,14 @@
 -- The bursts of a list in columns, and that their overlaps are the list's.
 use mathlib.Core.Path.{_≡_, ap, _∙_}
 use mathlib.Core.List.{List}
-use Prim.Native.Nat.{ℕ, _+_, _<_}
+use Prim.Native.Nat.{ℕ, _+_, _<_, _≤_}
 use native.Mathlib.Omega.{arith}
 use lib.Dec.{eqb}
-use lib.ListN.{set, replicate}
+use lib.ListN.{length, set, replicate}
 use Rattle.base.proofs.Tabulate.{Written, written-none, written-next}
 use Rattle.bursts.specs.declared.Burst.{Burst}
 use Rattle.base.specs.First.{isNone}
-use Rattle.bursts.specs.Burst.{burstAt, isOverlap, isApart}
+use Rattle.bursts.specs.Burst.{burstAt, burstCount, isOverlap, isApart}
 use Rattle.bursts.specs.Model.{columnsOverlap}
 use Rattle.base.proofs.First.{first-as}
 
@@ -23,9 +23,10 @@ pub columns-none : (numbers : List ℕ) → Columns numbers (replicate 64 0) (re
 columns-none numbers = record { starts-are = written-none 64 _; ends-are = written-none 64 _; slot-starts-are = written-none 64 _; slot-ends-are = written-none 64 _ }
 
 module _ {numbers starts ends slotStarts slotEnds : List ℕ} where
-  pub columns-next : {n : ℕ} → Columns numbers starts ends slotStarts slotEnds n → n < 64 → (b : Burst) → b ≡ burstAt numbers n → (end slotEnd : ℕ) → end ≡ b .subchannel + b .subchannels → slotEnd ≡ b .slot + b .slots
+  pub columns-next : {n end slotEnd : ℕ} {b : Burst} → Columns numbers starts ends slotStarts slotEnds n → n < burstCount numbers → length numbers ≤ 256 → b ≡ burstAt numbers n → end ≡ b .subchannel + b .subchannels → slotEnd ≡ b .slot + b .slots
       → Columns numbers (set starts n (b .subchannel)) (set ends n end) (set slotStarts n (b .slot)) (set slotEnds n slotEnd) (n + 1)
-  columns-next w h b e end slotEnd q q′ =
+  columns-next {n} w lt most e q q′ =
+      let h : n < 64 = omega arith in
       record {
         starts-are = written-next (w .starts-are) h _ (ap (λ (x : Burst). x .subchannel) e);
         ends-are = written-next (w .ends-are) h _ (q ∙ ap (λ (x : Burst). x .subchannel + x .subchannels) e);

@@ -3,7 +3,7 @@ use mathlib.Core.Path.{_≡_}
 use mathlib.Core.Bool.{true, false}
 use Prim.Native.Nat.{ℕ, _+_, _-_, _<_, _≤_}
 use native.Mathlib.Omega.{arith}
-use lib.Dec.{ltb, leb}
+use lib.Dec.{leb}
 use borrow.Author.Tests.{lt-ltb, ltb-true, le-leb, leb-true, leb-false}
 use Rattle.base.specs.Choice.{pick}
 use Rattle.base.proofs.Test.{cases, both-true}
@@ -18,19 +18,15 @@ module _ (first many : ℕ) where
 
   pub is-of : (x : ℕ) → isOf first many x ≡ true → (first ≤ x) × (x < first + many)
   unfolding isOf
-  is-of x e =
-      let h = both-true (leb first x) (ltb x (first + many)) e in
-      (leb-true first x (h .0), ltb-true x (first + many) (h .1))
+  is-of x e = let h = both-true _ _ e in (leb-true _ _ (h .0), ltb-true _ _ (h .1))
+
+  pub is-within : (limit : ℕ) → isWithin limit first many ≡ true → (0 < many) × (first + many ≤ limit)
+  unfolding isWithin
+  is-within limit e = let h = both-true _ _ e in (ltb-true _ _ (h .0), leb-true _ _ (h .1))
 
   pub within-is : (limit : ℕ) → 0 < many → first + many ≤ limit → isWithin limit first many ≡ true
   unfolding isWithin
   within-is limit h l = rw (lt-ltb 0 many h, le-leb (first + many) limit l)
-
-  pub is-within : (limit : ℕ) → isWithin limit first many ≡ true → (0 < many) × (first + many ≤ limit)
-  unfolding isWithin
-  is-within limit e =
-      let h = both-true (ltb 0 many) (leb (first + many) limit) e in
-      (ltb-true 0 many (h .0), leb-true (first + many) limit (h .1))
 
 -- two runs with a number in common are shared
 pub shared-is : (first many first′ many′ x : ℕ) → isOf first many x ≡ true → isOf first′ many′ x ≡ true → isShared first (first + many) first′ (first′ + many′) ≡ true
@@ -48,7 +44,7 @@ pub shared-common : (first many first′ many′ : ℕ) → 0 < many → 0 < man
     → (isOf first many (larger first first′) ≡ true) × (isOf first′ many′ (larger first first′) ≡ true)
 unfolding isShared
 shared-common first many first′ many′ h h′ e =
-    let t = both-true (ltb first (first′ + many′)) (ltb first′ (first + many)) e in
+    let t = both-true _ _ e in
     let l = ltb-true first (first′ + many′) (t .0) in
     let l′ = ltb-true first′ (first + many) (t .1) in
     cases (leb first first′)
@@ -59,7 +55,7 @@ shared-common first many first′ many′ h h′ e =
 module _ (b : Burst) where
   pub covering : (slot s : ℕ) → isCovering b slot s ≡ true → (isOf (b .subchannel) (b .subchannels) s ≡ true) × (isOf (b .slot) (b .slots) slot ≡ true)
   unfolding isCovering
-  covering slot s e = both-true (isOf (b .subchannel) (b .subchannels) s) (isOf (b .slot) (b .slots) slot) e
+  covering slot s e = both-true _ _ e
 
   pub covering-is : (slot s : ℕ) → isOf (b .subchannel) (b .subchannels) s ≡ true → isOf (b .slot) (b .slots) slot ≡ true → isCovering b slot s ≡ true
   unfolding isCovering
@@ -76,7 +72,7 @@ module _ (b : Burst) where
   module _ (subchannelEnd slotEnd : ℕ) where
     pub inside : isInside subchannelEnd slotEnd b ≡ true → (isWithin subchannelEnd (b .subchannel) (b .subchannels) ≡ true) × (isWithin slotEnd (b .slot) (b .slots) ≡ true)
     unfolding isInside
-    inside e = both-true (isWithin subchannelEnd (b .subchannel) (b .subchannels)) (isWithin slotEnd (b .slot) (b .slots)) e
+    inside e = both-true _ _ e
 
     pub not-empty : isInside subchannelEnd slotEnd b ≡ true → (0 < b .subchannels) × (0 < b .slots)
     not-empty e = (is-within (b .subchannel) (b .subchannels) subchannelEnd (inside e .0) .0, is-within (b .slot) (b .slots) slotEnd (inside e .1) .0)
@@ -130,7 +126,7 @@ module _ (a b : Burst) where
       → let slot = larger (a .slot) (b .slot) in let s = larger (a .subchannel) (b .subchannel) in (isCovering a slot s ≡ true) × (isCovering b slot s ≡ true)
   unfolding isOverlap
   overlap-common subchannelEnd slotEnd h h′ e =
-      let t = both-true (isShared (a .subchannel) (a .subchannel + a .subchannels) (b .subchannel) (b .subchannel + b .subchannels)) (isShared (a .slot) (a .slot + a .slots) (b .slot) (b .slot + b .slots)) e in
+      let t = both-true _ _ e in
       let in-subchannels = shared-common (a .subchannel) (a .subchannels) (b .subchannel) (b .subchannels) (not-empty a subchannelEnd slotEnd h .0) (not-empty b subchannelEnd slotEnd h′ .0) (t .0) in
       let in-slots = shared-common (a .slot) (a .slots) (b .slot) (b .slots) (not-empty a subchannelEnd slotEnd h .1) (not-empty b subchannelEnd slotEnd h′ .1) (t .1) in
       (covering-is a _ _ (in-subchannels .0) (in-slots .0), covering-is b _ _ (in-subchannels .1) (in-slots .1))

@@ -1,17 +1,16 @@
 -- The questions put to a list, one burst after the other, by their numbers.
-use mathlib.Core.Path.{_≡_, refl, sym, _∙_}
+use mathlib.Core.Path.{_≡_, sym, _∙_}
 use mathlib.Core.Bool.{true, false}
 use mathlib.Core.List.{List}
 use Prim.Native.Nat.{ℕ, zero, suc, _+_, _-_, _%_, _<_, _≤_}
-use native.Mathlib.Nat.{not-suc-le-zero, add-zero, zero-add}
 use native.Mathlib.Numerals.{add-one}
 use native.Mathlib.Omega.{arith}
-use lib.Dec.{eqb, leb}
 use lib.ListN.{length}
 use borrow.Author.Tests.{eq-eqb, ne-eqb, eqb-true, le-leb, lt-leb, leb-true}
+use borrow.Author.Count.{below-none, below-more}
 use Rattle.base.specs.Answer.{Answer, accepted, refusalOf}
-use Rattle.base.proofs.Test.{both-true}
-use Rattle.base.proofs.Chain.{numbered, Numbered, no-question, question, number-yes}
+use Rattle.base.proofs.Test.{cases, both-true}
+use Rattle.base.proofs.Chain.{numbered, Numbered, no-question, question}
 use Rattle.bursts.specs.Burst.{burstAt, burstCount, isList, isInside, isApart, askEach, askList}
 use Rattle.bursts.specs.Model.{listRefusal}
 
@@ -31,20 +30,9 @@ module _ (numbers : List ℕ) where
 
   pub list-of : isList numbers ≡ true → (length numbers % 4 ≡ 0) × (length numbers ≤ 256)
   unfolding isList
-  list-of e =
-      let h = both-true (eqb (length numbers % 4) 0) (leb (length numbers) 256) e in
-      (eqb-true (length numbers % 4) 0 (h .0), leb-true (length numbers) 256 (h .1))
+  list-of e = let h = both-true _ _ e in (eqb-true _ _ (h .0), leb-true _ _ (h .1))
 
 module _ (subchannelEnd slotEnd : ℕ) (numbers : List ℕ) where
-  each-chain : {A : Type 0} (many i : ℕ) (rest : Answer A) → Numbered (askEach subchannelEnd slotEnd numbers many i rest) rest (askEach subchannelEnd slotEnd numbers many i (accepted tt))
-  unfolding askEach
-  each-chain zero i rest = no-question
-  each-chain (suc many) i rest = question (isInside subchannelEnd slotEnd (burstAt numbers i)) 17 (question (isApart numbers i) 18 (each-chain many (suc i) rest))
-
-  pub list-numbered : {A : Type 0} (rest : Answer A) → askList subchannelEnd slotEnd numbers rest ≡ numbered (listRefusal subchannelEnd slotEnd numbers) rest
-  unfolding listRefusal
-  list-numbered rest = question (isList numbers) 17 (each-chain (burstCount numbers) 0 rest) .is
-
   -- the number of so many from position i on
   abbrev eachRefusal : (many i : ℕ) → ℕ
   eachRefusal many i = refusalOf (askEach {A = Unit {0}} subchannelEnd slotEnd numbers many i (accepted tt))
@@ -83,38 +71,62 @@ module _ (subchannelEnd slotEnd : ℕ) (numbers : List ℕ) where
     unfolding askEach
     from-end h = let none : burstCount numbers - i ≡ 0 = omega arith in rw none
 
+  -- the questions as one number, before whatever follows them
+  each-chain : {A : Type 0} (many i : ℕ) (rest : Answer A) → Numbered (askEach subchannelEnd slotEnd numbers many i rest) rest (askEach subchannelEnd slotEnd numbers many i (accepted tt))
+  unfolding askEach
+  each-chain zero i rest = no-question
+  each-chain (suc many) i rest = question (isInside subchannelEnd slotEnd (burstAt numbers i)) 17 (question (isApart numbers i) 18 (each-chain many (suc i) rest))
+
+  pub list-numbered : {A : Type 0} (rest : Answer A) → askList subchannelEnd slotEnd numbers rest ≡ numbered (listRefusal subchannelEnd slotEnd numbers) rest
+  unfolding listRefusal
+  list-numbered rest = question (isList numbers) 17 (each-chain (burstCount numbers) 0 rest) .is
+
   -- a burst that both questions let pass
   pub record Passed (i : ℕ) : Type 0 where
     pub inside : isInside subchannelEnd slotEnd (burstAt numbers i) ≡ true
     pub apart : isApart numbers i ≡ true
 
-  each-yes : (many i : ℕ) → eachRefusal many i ≡ 0 → (k : ℕ) → k < many → Passed (i + k)
-  unfolding askEach
-  each-yes zero i e k h = absurd (not-suc-le-zero h)
-  each-yes (suc many) i e zero h =
-      let e₁ = number-yes (isInside subchannelEnd slotEnd (burstAt numbers i)) 17 _ e in
-      rw add-zero (record { inside = e₁ .0; apart = number-yes (isApart numbers i) 18 _ (e₁ .1) .0 })
-  each-yes (suc many) i e (suc k) h =
-      let e₁ = number-yes (isInside subchannelEnd slotEnd (burstAt numbers i)) 17 _ e in
-      let next : i + suc k ≡ suc i + k = omega arith in
-      rw next (each-yes many (suc i) (number-yes (isApart numbers i) 18 _ (e₁ .1) .1) k (omega arith))
+  -- those before position i
+  abbrev pub Passes : (i : ℕ) → Type 0
+  Passes i = (k : ℕ) → k < i → Passed k
 
-  each-pass : (many i : ℕ) → ((k : ℕ) → k < many → Passed (i + k)) → eachRefusal many i ≡ 0
-  unfolding askEach
-  each-pass zero i p = refl
-  each-pass (suc many) i p =
-      let first : Passed i = rw add-zero at (p 0 (omega arith)) in
-      rw (first .inside, first .apart) (each-pass many (suc i) (λ k h. let next : i + suc k ≡ suc i + k = omega arith in rw next at (p (suc k) (omega arith))))
+  -- the first that is stopped by 19
+  pub record Stopped (i : ℕ) : Type 0 where
+    pub listed : isList numbers ≡ true
+    pub in-list : i < burstCount numbers
+    pub before : Passes i
+    pub inside : isInside subchannelEnd slotEnd (burstAt numbers i) ≡ true
+    pub overlaps : isApart numbers i ≡ false
 
-  pub list-yes : listRefusal subchannelEnd slotEnd numbers ≡ 0 → (isList numbers ≡ true) × ((i : ℕ) → i < burstCount numbers → Passed i)
-  unfolding listRefusal
-  list-yes e =
-      let e₁ = number-yes (isList numbers) 17 _ e in
-      (e₁ .0, λ i h. rw zero-add at (each-yes (burstCount numbers) 0 (e₁ .1) i h))
+  module _ (l : isList numbers ≡ true) where
+    from-passed : (i : ℕ) → i ≤ burstCount numbers → Passes i → refusalFrom i ≡ listRefusal subchannelEnd slotEnd numbers
+    from-passed zero h p = from-start l
+    from-passed (suc i) h p =
+        let last = p i (omega arith) in
+        rw add-one at (from-next i (omega arith) (last .inside) (last .apart)) ∙ from-passed i (omega arith) (λ k lt. p k (omega arith))
 
-  pub list-passes : isList numbers ≡ true → ((i : ℕ) → i < burstCount numbers → Passed i) → listRefusal subchannelEnd slotEnd numbers ≡ 0
-  unfolding listRefusal
-  list-passes e p = rw e (each-pass (burstCount numbers) 0 (λ k h. rw zero-add (p k h)))
+    pub list-passes : Passes (burstCount numbers) → listRefusal subchannelEnd slotEnd numbers ≡ 0
+    list-passes p = sym (from-end (burstCount numbers) (omega arith) ∙ from-passed (burstCount numbers) (omega arith) p)
+
+  pub list-stopped : {i : ℕ} → Stopped i → 19 ≡ listRefusal subchannelEnd slotEnd numbers
+  list-stopped {i} s = from-overlap i (s .in-list) (s .inside) (s .overlaps) ∙ from-passed (s .listed) i (omega arith) (s .before)
+
+  -- 18, 19 or neither
+  pub by-list : {A : Type 0} → (18 ≡ listRefusal subchannelEnd slotEnd numbers → A) → ((i : ℕ) → Stopped i → A) → (isList numbers ≡ true → Passes (burstCount numbers) → A) → A
+  by-list {A} f g h = cases (isList numbers) (λ l. walk l (burstCount numbers) 0 (omega arith) (below-none _)) (λ n. f (no-list n))
+    where
+      walk : isList numbers ≡ true → (many i : ℕ) → i + many ≡ burstCount numbers → Passes i → A
+      walk l zero i e p = h l (λ k lt. p k (omega arith))
+      walk l (suc many) i e p =
+          let lt : i < burstCount numbers = omega arith in
+          cases (isInside subchannelEnd slotEnd (burstAt numbers i))
+          (λ t. cases (isApart numbers i)
+          (λ a. walk l many (i + 1) (omega arith) (below-more Passed i p (record { inside = t; apart = a })))
+          (λ a. g i (record { listed = l; in-list = lt; before = p; inside = t; overlaps = a })))
+          (λ n. f (from-outside i lt n ∙ from-passed l i (omega arith) p))
+
+  pub list-yes : listRefusal subchannelEnd slotEnd numbers ≡ 0 → (isList numbers ≡ true) × Passes (burstCount numbers)
+  list-yes e = by-list (λ n. absurd (omega arith)) (λ i s. absurd (omega (arith, list-stopped s))) (λ l p. (l, p))
 
   -- so it is not long
   pub list-most : {n : ℕ} → n ≡ listRefusal subchannelEnd slotEnd numbers → n ≡ 0 → length numbers ≤ 256

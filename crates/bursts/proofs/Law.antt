@@ -1,6 +1,6 @@
 -- THE LAW OF THE BURSTS.
 use mathlib.Core.Path.{_≡_, refl, sym, ap, _∙_}
-use mathlib.Core.Bool.{true, false}
+use mathlib.Core.Bool.{Bool, true, false}
 use mathlib.Core.List.{List}
 use Prim.Native.Nat.{ℕ, _+_, _<_, _≤_}
 use native.Mathlib.Omega.{arith}
@@ -23,12 +23,13 @@ use Rattle.bursts.specs.declared.Owned.{Owned}
 use Rattle.bursts.specs.declared.OwnerRow.{OwnerRow}
 use Rattle.bursts.specs.Burst.{burstAt, burstCount, isCovering, isInside, isOverlap, isApart, askBursts, checkOf}
 use Rattle.bursts.specs.Owner.{noOwner, ownerAt, lookedAt, askOwner, owned, ownerOf, rowAt, askOwners, ownerRow, ownersOf}
-use Rattle.bursts.specs.Law.{Covers, Fit, BurstLaw}
+use Rattle.bursts.specs.Law.{Covers, FirstFit, Fit, Overlapping, BurstLaw}
 use Rattle.bursts.specs.Model.{listRefusal}
-use Rattle.base.proofs.First.{none-is}
-use Rattle.bursts.proofs.Cover.{inside-covers, inside-first, inside-is, overlap-common}
-use Rattle.bursts.proofs.Each.{list-numbered, list-is, list-of, list-yes, list-passes}
-use Rattle.bursts.proofs.Answer.{zone-limits, check-list, owner-accepted, row-accepted}
+use Rattle.base.specs.First.{firstOf}
+use Rattle.base.proofs.First.{first-most, first-passes, none-is, none-not}
+use Rattle.bursts.proofs.Cover.{inside-covers, inside-first, inside-is, overlap-is, overlap-common}
+use Rattle.bursts.proofs.Each.{list-numbered, list-is, list-of, Passes, Stopped, list-yes, list-passes, list-stopped, by-list}
+use Rattle.bursts.proofs.Answer.{zone-limits, past-slot, check-no, check-list, owner-by, row-by}
 use Rattle.bursts.proofs.Row.{alone, owner-here, by-owner}
 
 -- the outcomes by their answer
@@ -60,66 +61,120 @@ module _ (size : ℕ) (zone : Zone) (numbers : List ℕ) where
   unfolding checkOf listRefusal
   check-yes e = zone-yes _ e
 
-  check-is : fieldsRefusal size zone ≡ 0 → listRefusal end (zone .slots) numbers ≡ 0 → checkOf size zone numbers ≡ 0
-  check-is z l = sym (check-list size zone numbers refl z) ∙ l
+  -- The first n bursts pass exactly when they are fit.
+  module _ {n : ℕ} where
+    module _ (p : Passes end (zone .slots) numbers n) where
+      only : (i j slot s : ℕ) → j < n → Covers numbers i slot s → Covers numbers j slot s → i < j → ⊥
+      only i j slot s h ci cj lt = true-false (sym ci ∙ alone numbers slot s (p j h) cj i lt)
 
-  -- An accepted list is fit,
-  module _ (l : listRefusal end (zone .slots) numbers ≡ 0) where
-    only : (i j slot s : ℕ) → j < burstCount numbers → Covers numbers i slot s → Covers numbers j slot s → i < j → ⊥
-    only i j slot s h ci cj lt = true-false (sym ci ∙ alone numbers slot s (list-yes end (zone .slots) numbers l .1 j h) cj i lt)
+      passes-fit : FirstFit size zone numbers n
+      passes-fit =
+          record {
+            not-empty = λ i h. (burstAt numbers i .slot, burstAt numbers i .subchannel, inside-first (burstAt numbers i) end (zone .slots) (p i h .inside));
+            in-zone = λ i h. inside-covers (burstAt numbers i) end (zone .slots) (p i h .inside);
+            apart = λ i j slot s hi hj ci cj.
+                cases (ltb i j)
+                (λ t. absurd (only i j slot s hj ci cj (ltb-true i j t)))
+                (λ f. cases (ltb j i)
+                (λ t. absurd (only j i slot s hi cj ci (ltb-true j i t)))
+                (λ g. omega (arith, ltb-false i j f, ltb-false j i g)));
+          }
 
-    list-fit : Fit size zone numbers
-    list-fit =
-        let listed = list-of numbers (list-yes end (zone .slots) numbers l .0) in
-        let passed = list-yes end (zone .slots) numbers l .1 in
+    fit-passes : FirstFit size zone numbers n → Passes end (zone .slots) numbers n
+    unfolding isApart
+    fit-passes f i h =
         record {
-          four-each = listed .0;
-          at-most-64 = omega arith;
-          not-empty = λ i h. (burstAt numbers i .slot, burstAt numbers i .subchannel, inside-first (burstAt numbers i) end (zone .slots) (passed i h .inside));
-          in-zone = λ i slot s h c. inside-covers (burstAt numbers i) end (zone .slots) (passed i h .inside) slot s c;
-          apart = λ i j slot s hi hj ci cj.
-              cases (ltb i j)
-              (λ t. absurd (only i j slot s hj ci cj (ltb-true i j t)))
-              (λ f. cases (ltb j i)
-              (λ t. absurd (only j i slot s hi cj ci (ltb-true j i t)))
-              (λ g. omega (arith, ltb-false i j f, ltb-false j i g)));
+          inside = inside i h;
+          apart = none-is (λ j. isOverlap (burstAt numbers j) (burstAt numbers i)) i (λ j l.
+              cases (isOverlap (burstAt numbers j) (burstAt numbers i))
+              (λ t. let lt : j < n = omega arith in
+              let common = overlap-common (burstAt numbers j) (burstAt numbers i) end (zone .slots) (inside j lt) (inside i h) t in
+              let same = f .apart j i _ _ lt h (common .0) (common .1) in absurd (omega arith))
+              (λ n. n));
         }
+      where
+        inside : (i : ℕ) → i < n → isInside end (zone .slots) (burstAt numbers i) ≡ true
+        inside i h = let some = f .not-empty i h in inside-is (burstAt numbers i) end (zone .slots) (some .0) (some .1) (some .2) (f .in-zone i h)
 
-  -- and a list that is fit is accepted.
+  list-fit : listRefusal end (zone .slots) numbers ≡ 0 → Fit size zone numbers
+  list-fit l =
+      let passed = list-yes end (zone .slots) numbers l in
+      let listed = list-of numbers (passed .0) in
+      record { four-each = listed .0; at-most-64 = omega arith; all-fit = passes-fit (passed .1) }
+
   fit-list : Fit size zone numbers → listRefusal end (zone .slots) numbers ≡ 0
-  unfolding isApart
-  fit-list f =
-      list-passes end (zone .slots) numbers (list-is numbers (f .four-each) (omega (arith, f .four-each, f .at-most-64)))
-      (λ i h.
-      let some = f .not-empty i h in
-      record {
-        inside = inside i h;
-        apart = none-is (λ j. isOverlap (burstAt numbers j) (burstAt numbers i)) i (λ j l.
-            cases (isOverlap (burstAt numbers j) (burstAt numbers i))
-            (λ t. let lt : j < burstCount numbers = omega arith in
-            let common = overlap-common (burstAt numbers j) (burstAt numbers i) end (zone .slots) (inside j lt) (inside i h) t in
-            let same = f .apart j i _ _ lt h (common .0) (common .1) in absurd (omega arith))
-            (λ n. n));
-      })
-    where
-      inside : (i : ℕ) → i < burstCount numbers → isInside end (zone .slots) (burstAt numbers i) ≡ true
-      inside i h = let some = f .not-empty i h in inside-is (burstAt numbers i) end (zone .slots) (some .0) (some .1) (some .2) (λ slot s c. f .in-zone i slot s h c)
+  fit-list f = list-passes end (zone .slots) numbers (list-is numbers (f .four-each) (omega (arith, f .four-each, f .at-most-64))) (fit-passes (f .all-fit))
 
-  -- An answer of the owner: every question is answered yes, or the refusal has no owner.
-  pub record Answered (slot s : ℕ) : Type 0 where
+  -- One is stopped by 19 exactly when it is the first with a fault, and that an overlap.
+  stopped-overlaps : {i : ℕ} → Stopped end (zone .slots) numbers i → Overlapping size zone numbers
+  unfolding isApart
+  stopped-overlaps {i} s =
+      let listed = list-of numbers (s .listed) in
+      let test : ℕ → Bool = λ j. isOverlap (burstAt numbers j) (burstAt numbers i) in
+      let j = firstOf test i in
+      let lt : j < i = omega (arith, first-most test i, eqb-false j i (s .overlaps)) in
+      let common = overlap-common (burstAt numbers j) (burstAt numbers i) end (zone .slots) (s .before j lt .inside) (s .inside) (first-passes test i lt) in
+      record {
+        four-each = listed .0;
+        at-most-64 = omega arith;
+        i = i;
+        in-list = s .in-list;
+        before-fit = passes-fit (s .before);
+        in-zone = inside-covers (burstAt numbers i) end (zone .slots) (s .inside);
+        common = (j, _, _, lt, common .0, common .1);
+      }
+
+  overlaps-stopped : (o : Overlapping size zone numbers) → Stopped end (zone .slots) numbers (o .i)
+  unfolding isApart
+  overlaps-stopped o =
+      let i = o .i in
+      let c = o .common in
+      record {
+        listed = list-is numbers (o .four-each) (omega (arith, o .four-each, o .at-most-64));
+        in-list = o .in-list;
+        before = fit-passes (o .before-fit);
+        inside = inside-is (burstAt numbers i) end (zone .slots) (c .1) (c .2) (c .5) (o .in-zone);
+        overlaps = none-not (λ j. isOverlap (burstAt numbers j) (burstAt numbers i)) i (c .0) (c .3) (overlap-is (burstAt numbers (c .0)) (burstAt numbers i) (c .1) (c .2) (c .4) (c .5));
+      }
+
+  module _ (z : fieldsRefusal size zone ≡ 0) where
+    check-is : listRefusal end (zone .slots) numbers ≡ checkOf size zone numbers
+    check-is = check-list size zone numbers refl z
+
+    -- one of the three
+    by-check : {A : Type 0} → (checkOf size zone numbers ≡ 18 → A) → (checkOf size zone numbers ≡ 19 → Overlapping size zone numbers → A) → (checkOf size zone numbers ≡ 0 → A) → A
+    by-check f g h =
+        by-list end (zone .slots) numbers
+        (λ e. f (sym (e ∙ check-is)))
+        (λ i s. g (sym (list-stopped end (zone .slots) numbers s ∙ check-is)) (stopped-overlaps s))
+        (λ l p. h (sym check-is ∙ list-passes end (zone .slots) numbers l p))
+
+  -- What every call asks first, and what an outcome is where all is answered yes.
+  slot-passed : (slot : ℕ) (rest : Answer (Unit {0})) → refusalOf (askFields size zone (ask (isSlot slot) 4 rest)) ≡ 0 → (fieldsRefusal size zone ≡ 0) × (slot < 512) × (refusalOf rest ≡ 0)
+  unfolding isSlot
+  slot-passed slot rest e =
+      let e₁ = zone-yes (ask (isSlot slot) 4 rest) e in
+      let e₂ = number-yes (ltb slot 512) 3 rest (e₁ .1) in
+      (e₁ .0, ltb-true slot 512 (e₂ .0), e₂ .1)
+
+  pub record Answered {A : Type 0} (slot : ℕ) (outcome answer : A) : Type 0 where
     pub zone-passed : fieldsRefusal size zone ≡ 0
     pub slot-lt : slot < 512
     pub list-passed : listRefusal end (zone .slots) numbers ≡ 0
-    pub is : ownerOf size zone slot s numbers ≡ record { refusal = 0; owner = ownerAt numbers slot s; looked = lookedAt numbers slot s }
+    pub is : outcome ≡ answer
+
+  -- An answer of the owner: every question is answered yes, or the refusal has no owner.
+  abbrev OwnerAnswered : (slot s : ℕ) → Type 0
+  OwnerAnswered slot s = Answered {A = Owned} slot (ownerOf size zone slot s numbers) (record { refusal = 0; owner = ownerAt numbers slot s; looked = lookedAt numbers slot s })
 
   module _ (slot s : ℕ) where
-    answered-is : fieldsRefusal size zone ≡ 0 → slot < 512 → s < end → listRefusal end (zone .slots) numbers ≡ 0 → Answered slot s
+    answered-is : fieldsRefusal size zone ≡ 0 → slot < 512 → s < end → listRefusal end (zone .slots) numbers ≡ 0 → OwnerAnswered slot s
     answered-is z h k l =
         record {
           zone-passed = z;
           slot-lt = h;
           list-passed = l;
-          is = sym (owner-accepted size zone numbers slot s (chain-yes _ _ (fields-numbered size zone _) refl z ∙ slot-yes _ slot h ∙ subchannel-yes _ (setupOf size zone) s k ∙ chain-yes _ _ (list-numbered end (zone .slots) numbers _) refl l));
+          is = sym (owner-by size zone numbers slot s (past-slot size zone refl z h _ ∙ subchannel-yes _ (setupOf size zone) s k ∙ chain-yes _ _ (list-numbered end (zone .slots) numbers _) refl l));
         }
 
     owner-alike : slot < 512 → s < end → ownerOf size zone slot s numbers .refusal ≡ checkOf size zone numbers
@@ -128,24 +183,21 @@ module _ (size : ℕ) (zone : Zone) (numbers : List ℕ) where
         owned-number (ownerAt numbers slot s) (lookedAt numbers slot s) (askOwner size zone slot s numbers (accepted tt))
         ∙ ap (λ (rest : Answer (Unit {0})). refusalOf (askFields size zone rest)) (slot-yes _ slot h ∙ subchannel-yes _ (setupOf size zone) s k)
 
-    owner-yes : ownerOf size zone slot s numbers .refusal ≡ 0 → Answered slot s
-    unfolding ownerOf listRefusal isSlot isSubchannel
+    owner-yes : ownerOf size zone slot s numbers .refusal ≡ 0 → OwnerAnswered slot s
+    unfolding ownerOf listRefusal isSubchannel
     owner-yes e =
-        let list = askBursts {A = Unit {0}} size zone numbers (accepted tt) in
-        let in-range = ask (isSubchannel (setupOf size zone) s) 5 list in
-        let e₁ = zone-yes (ask (isSlot slot) 4 in-range) (sym (owned-number (ownerAt numbers slot s) (lookedAt numbers slot s) (askOwner size zone slot s numbers (accepted tt))) ∙ e) in
-        let e₂ = number-yes (ltb slot 512) 3 in-range (e₁ .1) in
-        let e₃ = number-yes (ltb s end) 4 list (e₂ .1) in
-        answered-is (e₁ .0) (ltb-true slot 512 (e₂ .0)) (ltb-true s end (e₃ .0)) (e₃ .1)
+        let e₁ = slot-passed slot _ (sym (owned-number (ownerAt numbers slot s) (lookedAt numbers slot s) (askOwner size zone slot s numbers (accepted tt))) ∙ e) in
+        let e₂ = number-yes (ltb s end) 4 (askBursts size zone numbers (accepted tt)) (e₁ .2) in
+        answered-is (e₁ .0) (e₁ .1) (ltb-true s end (e₂ .0)) (e₂ .1)
 
-    by-answer : {A : Type 0} → (Answered slot s → A) → ((ownerOf size zone slot s numbers .refusal ≡ 0 → ⊥) → ownerOf size zone slot s numbers .owner ≡ noOwner → ownerOf size zone slot s numbers .looked ≡ 0 → A) → A
+    by-answer : {A : Type 0} → (OwnerAnswered slot s → A) → ((ownerOf size zone slot s numbers .refusal ≡ 0 → ⊥) → ownerOf size zone slot s numbers .owner ≡ noOwner → ownerOf size zone slot s numbers .looked ≡ 0 → A) → A
     unfolding ownerOf
     by-answer f g =
         cases (eqb (ownerOf size zone slot s numbers .refusal) 0)
         (λ t. f (owner-yes (eqb-true _ 0 t)))
         (λ n. let h = owned-no (ownerAt numbers slot s) (lookedAt numbers slot s) (askOwner size zone slot s numbers (accepted tt)) (eqb-false _ 0 n) in g (eqb-false _ 0 n) (h .0) (h .1))
 
-    module _ (a : Answered slot s) where
+    module _ (a : OwnerAnswered slot s) where
       few : burstCount numbers ≤ 64
       few = list-fit (a .list-passed) .at-most-64
 
@@ -191,16 +243,13 @@ module _ (size : ℕ) (zone : Zone) (numbers : List ℕ) where
     past-zone h =
         by-answer
         (λ a. owner-is a ∙ by-owner numbers slot s
-        (λ i lt c e e′. absurd (let l = list-fit (a .list-passed) .in-zone i slot s lt c in omega arith))
+        (λ i lt c e e′. absurd (let l = list-fit (a .list-passed) .all-fit .in-zone i lt slot s c in omega arith))
         (λ none e e′. e))
         (λ n e e′. e)
 
   -- An answer of the row in the same way.
-  pub record RowAnswered (slot : ℕ) : Type 0 where
-    pub zone-passed : fieldsRefusal size zone ≡ 0
-    pub slot-lt : slot < 512
-    pub list-passed : listRefusal end (zone .slots) numbers ≡ 0
-    pub is : ownersOf size zone slot numbers ≡ record { refusal = 0; owners = tabulate 192 (rowAt size zone slot numbers) }
+  abbrev RowAnswered : (slot : ℕ) → Type 0
+  RowAnswered slot = Answered {A = OwnerRow} slot (ownersOf size zone slot numbers) (record { refusal = 0; owners = tabulate 192 (rowAt size zone slot numbers) })
 
   module _ (slot : ℕ) where
     row-is : fieldsRefusal size zone ≡ 0 → slot < 512 → listRefusal end (zone .slots) numbers ≡ 0 → RowAnswered slot
@@ -209,7 +258,7 @@ module _ (size : ℕ) (zone : Zone) (numbers : List ℕ) where
           zone-passed = z;
           slot-lt = h;
           list-passed = l;
-          is = sym (row-accepted size zone numbers slot (chain-yes _ _ (fields-numbered size zone _) refl z ∙ slot-yes _ slot h ∙ chain-yes _ _ (list-numbered end (zone .slots) numbers _) refl l));
+          is = sym (row-by size zone numbers slot (past-slot size zone refl z h _ ∙ chain-yes _ _ (list-numbered end (zone .slots) numbers _) refl l));
         }
 
     row-alike : slot < 512 → ownersOf size zone slot numbers .refusal ≡ checkOf size zone numbers
@@ -219,12 +268,10 @@ module _ (size : ℕ) (zone : Zone) (numbers : List ℕ) where
         ∙ ap (λ (rest : Answer (Unit {0})). refusalOf (askFields size zone rest)) (slot-yes _ slot h)
 
     row-yes : ownersOf size zone slot numbers .refusal ≡ 0 → RowAnswered slot
-    unfolding ownersOf listRefusal isSlot
+    unfolding ownersOf listRefusal
     row-yes e =
-        let list = askBursts {A = Unit {0}} size zone numbers (accepted tt) in
-        let e₁ = zone-yes (ask (isSlot slot) 4 list) (sym (row-number (rowAt size zone slot numbers) (askOwners size zone slot numbers (accepted tt))) ∙ e) in
-        let e₂ = number-yes (ltb slot 512) 3 list (e₁ .1) in
-        row-is (e₁ .0) (ltb-true slot 512 (e₂ .0)) (e₂ .1)
+        let p = slot-passed slot _ (sym (row-number (rowAt size zone slot numbers) (askOwners size zone slot numbers (accepted tt))) ∙ e) in
+        row-is (p .0) (p .1) (p .2)
 
     by-row : {A : Type 0} → (RowAnswered slot → A) → ((ownersOf size zone slot numbers .refusal ≡ 0 → ⊥) → ownersOf size zone slot numbers .owners ≡ tabulate 192 (λ s. noOwner) → A) → A
     unfolding ownersOf
@@ -266,13 +313,17 @@ module _ (size : ℕ) (zone : Zone) (numbers : List ℕ) where
   pub burst-law : BurstLaw size zone numbers
   burst-law =
       record {
+        zone-first = λ n. sym (check-no size zone numbers refl n);
         accepted-zone = λ e. check-yes e .0;
         accepted-fit = λ e. list-fit (check-yes e .1);
-        fit-accepted = λ z f. check-is z (fit-list f);
+        fit-accepted = λ z f. sym (check-is z) ∙ fit-list f;
+        refused-overlapping = λ z e. by-check z (λ q. absurd (omega arith)) (λ q o. o) (λ q. absurd (omega arith));
+        overlapping-refused = λ z o. sym (list-stopped end (zone .slots) numbers (overlaps-stopped o) ∙ check-is z);
+        else-18 = λ z n m. by-check z (λ q. q) (λ q o. absurd (m q)) (λ q. absurd (n q));
         owner-alike = owner-alike;
-        owner-accepted = λ slot s e. let a = owner-yes slot s e in check-is (a .zone-passed) (a .list-passed);
+        owner-accepted = λ slot s e. let a = owner-yes slot s e in sym (check-is (a .zone-passed)) ∙ a .list-passed;
         row-alike = row-alike;
-        row-accepted = λ slot e. let a = row-yes slot e in check-is (a .zone-passed) (a .list-passed);
+        row-accepted = λ slot e. let a = row-yes slot e in sym (check-is (a .zone-passed)) ∙ a .list-passed;
         only-owner = only-owner;
         owner-covers = owner-covers;
         no-owner = none-there;

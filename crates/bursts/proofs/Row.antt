@@ -1,5 +1,5 @@
 -- The row of a slot's owners, as its bursts mark it one after the other.
-use mathlib.Core.Path.{_≡_, refl, sym, _∙_}
+use mathlib.Core.Path.{_≡_, sym, _∙_}
 use mathlib.Core.Bool.{Bool, true, false}
 use mathlib.Core.List.{List}
 use Prim.Native.Nat.{ℕ, _+_, _<_}
@@ -8,6 +8,7 @@ use lib.Dec.{eqb, ltb, leb}
 use lib.ListN.{length, set, replicate, length-set, length-replicate, getD-replicate}
 use lib.Seq.{getD-set-same, getD-set-other}
 use borrow.Author.Tests.{lt-ltb, le-ltb, ltb-true, ltb-false, eqb-true, eqb-false, leb-true}
+use borrow.Author.Count.{below-none}
 use Rattle.base.specs.Choice.{pick}
 use Rattle.base.specs.Steps.{entry}
 use Rattle.base.specs.Tabulate.{tabulate}
@@ -72,30 +73,42 @@ module _ {first value : ℕ} {row₀ : List ℕ} where
 abbrev pub covering : (numbers : List ℕ) (slot s i : ℕ) → Bool
 covering numbers slot s i = isCovering (burstAt numbers i) slot s
 
--- its owner among the first n bursts
-abbrev pub ownerAmong : (numbers : List ℕ) (slot s n : ℕ) → ℕ
-ownerAmong numbers slot s n = let first = firstOf (covering numbers slot s) n in pick (ltb first n) first noOwner
-
 module _ (numbers : List ℕ) (slot s : ℕ) where
   abbrev test : ℕ → Bool
   test = covering numbers slot s
 
-  among-none : ownerAmong numbers slot s 0 ≡ noOwner
-  unfolding firstOf
-  among-none = refl
+  -- its owner among the first n bursts, and how many of these are looked at
+  abbrev pub ownerAmong : (n : ℕ) → ℕ
+  ownerAmong n = let first = firstOf test n in pick (ltb first n) first noOwner
 
-  -- one burst more: it does not cover, and the owner is as before,
-  among-next : (n : ℕ) → test n ≡ false → ownerAmong numbers slot s (n + 1) ≡ ownerAmong numbers slot s n
-  among-next n e =
+  abbrev lookedAmong : (n : ℕ) → ℕ
+  lookedAmong n = let first = firstOf test n in pick (ltb first n) (first + 1) n
+
+  -- One that covers it, with none before it, is its owner; where none covers it, it has none.
+  here : (n i : ℕ) → i < n → None test i → test i ≡ true → (ownerAmong n ≡ i) × (lookedAmong n ≡ i + 1)
+  here n i h before e =
+      let is = first-is test n i h before e in
+      let below = lt-ltb i n h in
+      (rw (is, below), rw (is, below))
+
+  nowhere : (n : ℕ) → None test n → (ownerAmong n ≡ noOwner) × (lookedAmong n ≡ n)
+  nowhere n none =
+      let all = first-none test n none in
+      let end = le-ltb n n (omega arith) in
+      (rw (all, end), rw (all, end))
+
+  by-first : {A : Type 0} (n : ℕ) → ((i : ℕ) → i < n → None test i → test i ≡ true → A) → (None test n → A) → A
+  by-first n f g =
       cases (ltb (firstOf test n) n)
-      (λ t. let l = ltb-true (firstOf test n) n t in
-      rw (first-is test (n + 1) (firstOf test n) (omega arith) (first-before test n) (first-passes test n l), t, lt-ltb (firstOf test n) (n + 1) (omega arith)))
-      (λ t. let l = ltb-false (firstOf test n) n t in
-      rw (first-none test (n + 1) (none-more test n (λ k h. first-before test n k (omega arith)) e), t, le-ltb (n + 1) (n + 1) (omega arith)))
+      (λ t. let h = ltb-true (firstOf test n) n t in f (firstOf test n) h (first-before test n) (first-passes test n h))
+      (λ t. g (λ k h. first-before test n k (omega (arith, ltb-false (firstOf test n) n t))))
 
-  -- or it does and none before it, and it is the owner
-  among-here : (n : ℕ) → None test n → test n ≡ true → ownerAmong numbers slot s (n + 1) ≡ n
-  among-here n before e = rw (first-is test (n + 1) n (omega arith) before e, lt-ltb n (n + 1) (omega arith))
+  -- one burst more that does not cover it: the owner is as before
+  among-next : (n : ℕ) → test n ≡ false → ownerAmong (n + 1) ≡ ownerAmong n
+  among-next n e =
+      by-first n
+      (λ i h before t. here (n + 1) i (omega arith) before t .0 ∙ sym (here n i h before t .0))
+      (λ none. nowhere (n + 1) (none-more test n none e) .0 ∙ sym (nowhere n none .0))
 
   -- In an accepted list none before it covers what it covers.
   pub alone : {subchannelEnd slotEnd n : ℕ} → Passed subchannelEnd slotEnd numbers n → test n ≡ true → None test n
@@ -105,35 +118,22 @@ module _ (numbers : List ℕ) (slot s : ℕ) where
       (λ t. absurd (true-false (sym (overlap-is (burstAt numbers j) (burstAt numbers n) slot s t e) ∙ none-of (λ k. isOverlap (burstAt numbers k) (burstAt numbers n)) n (p .apart) j h)))
       (λ f. f)
 
--- A burst that covers a slot and subchannel, with none before it, is its owner; where none covers it, it has none.
-module _ (numbers : List ℕ) (slot s : ℕ) where
-  pub owner-here : (i : ℕ) → i < burstCount numbers → None (covering numbers slot s) i → covering numbers slot s i ≡ true → (ownerAt numbers slot s ≡ i) × (lookedAt numbers slot s ≡ i + 1)
+  -- the same of the whole list
+  pub owner-here : (i : ℕ) → i < burstCount numbers → None test i → test i ≡ true → (ownerAt numbers slot s ≡ i) × (lookedAt numbers slot s ≡ i + 1)
   unfolding ownerAt lookedAt
-  owner-here i h before e =
-      let at = first-is (covering numbers slot s) (burstCount numbers) i h before e in
-      (rw (at, lt-ltb i (burstCount numbers) h), rw (at, lt-ltb i (burstCount numbers) h))
+  owner-here i h before e = here (burstCount numbers) i h before e
 
-  pub no-owner : None (covering numbers slot s) (burstCount numbers) → (ownerAt numbers slot s ≡ noOwner) × (lookedAt numbers slot s ≡ burstCount numbers)
+  pub no-owner : None test (burstCount numbers) → (ownerAt numbers slot s ≡ noOwner) × (lookedAt numbers slot s ≡ burstCount numbers)
   unfolding ownerAt lookedAt
-  no-owner none =
-      let all = first-none (covering numbers slot s) (burstCount numbers) none in
-      let end = le-ltb (burstCount numbers) (burstCount numbers) (omega arith) in
-      (rw (all, end), rw (all, end))
+  no-owner none = nowhere (burstCount numbers) none
 
   -- one of the two
-  pub by-owner : {A : Type 0} → ((i : ℕ) → i < burstCount numbers → covering numbers slot s i ≡ true → ownerAt numbers slot s ≡ i → lookedAt numbers slot s ≡ i + 1 → A)
-      → (None (covering numbers slot s) (burstCount numbers) → ownerAt numbers slot s ≡ noOwner → lookedAt numbers slot s ≡ burstCount numbers → A) → A
+  pub by-owner : {A : Type 0} → ((i : ℕ) → i < burstCount numbers → test i ≡ true → ownerAt numbers slot s ≡ i → lookedAt numbers slot s ≡ i + 1 → A)
+      → (None test (burstCount numbers) → ownerAt numbers slot s ≡ noOwner → lookedAt numbers slot s ≡ burstCount numbers → A) → A
   by-owner f g =
-      let test = covering numbers slot s in
-      let n = burstCount numbers in
-      cases (ltb (firstOf test n) n)
-      (λ t. let h = ltb-true (firstOf test n) n t in
-      let passes = first-passes test n h in
-      let here = owner-here (firstOf test n) h (first-before test n) passes in
-      f (firstOf test n) h passes (here .0) (here .1))
-      (λ t. let none : None test n = λ k h. first-before test n k (omega (arith, ltb-false (firstOf test n) n t)) in
-      let nobody = no-owner none in
-      g none (nobody .0) (nobody .1))
+      by-first (burstCount numbers)
+      (λ i h before t. let is = owner-here i h before t in f i h t (is .0) (is .1))
+      (λ none. let is = no-owner none in g none (is .0) (is .1))
 
 -- a row that the first i bursts have marked
 pub record RowMarked (numbers : List ℕ) (slot : ℕ) (row : List ℕ) (i : ℕ) : Type 0 where
@@ -145,7 +145,7 @@ module _ (numbers : List ℕ) (slot : ℕ) where
   row-none =
       record {
         long = length-replicate 192 noOwner;
-        entries = λ k h. getD-replicate 192 k noOwner 0 h ∙ sym (among-none numbers slot k);
+        entries = λ k h. getD-replicate 192 k noOwner 0 h ∙ sym (nowhere numbers slot k 0 (below-none _) .0);
       }
 
   module _ {row : List ℕ} {i : ℕ} (w : RowMarked numbers slot row i) where
@@ -159,7 +159,7 @@ module _ (numbers : List ℕ) (slot : ℕ) where
             long = length-tabulate 192 _;
             entries = λ k h. getD-tabulate 192 _ k 0 h
                 ∙ cases (isOf (burstAt numbers i .subchannel) (burstAt numbers i .subchannels) k)
-                (λ t. let covers = covering-is (burstAt numbers i) slot k t e in rw t (sym (among-here numbers slot k i (alone numbers slot k p covers) covers)))
+                (λ t. let covers = covering-is (burstAt numbers i) slot k t e in rw t (sym (here numbers slot k (i + 1) i (omega arith) (alone numbers slot k p covers) covers .0)))
                 (λ f. rw f (w .entries k h ∙ sym (among-next numbers slot k i (beside (burstAt numbers i) slot k f))));
           }
 

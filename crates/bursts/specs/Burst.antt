@@ -46,7 +46,7 @@ isWithin limit first many = pick (ltb 0 many) (leb (first + many) limit) false
 unfoldable pub isInside : (subchannelEnd slotEnd : ℕ) (burst : Burst) → Bool
 isInside subchannelEnd slotEnd burst = pick (isWithin subchannelEnd (burst .subchannel) (burst .subchannels)) (isWithin slotEnd (burst .slot) (burst .slots)) false
 
--- two runs of numbers, each from its first to before its end, have one in common: each starts before the other ends
+-- two runs of numbers, each from its first to before its end and neither empty (18 comes before), have one in common: each starts before the other ends
 unfoldable pub isShared : (first end first′ end′ : ℕ) → Bool
 isShared first end first′ end′ = pick (ltb first end′) (ltb first′ end) false
 

@@ -15,22 +15,47 @@ use Rattle.bursts.specs.Owner.{noOwner, ownerOf, ownersOf}
 abbrev pub Covers : (numbers : List ℕ) (i slot subchannel : ℕ) → Type 0
 Covers numbers i slot subchannel = isCovering (burstAt numbers i) slot subchannel ≡ true
 
--- A list that is fit for its zone, by its length and by what its bursts cover.
+-- it covers nothing beside its zone
+abbrev pub InZone : (size : ℕ) (zone : Zone) (numbers : List ℕ) (i : ℕ) → Type 0
+InZone size zone numbers i = (slot subchannel : ℕ) → Covers numbers i slot subchannel → (slot < zone .slots) × (subchannel < subchannels (setupOf size zone))
+
+-- The first n bursts are fit for their zone, by what they cover.
+pub record FirstFit (size : ℕ) (zone : Zone) (numbers : List ℕ) (n : ℕ) : Type 0 where
+  -- none is empty: each covers some subchannel in some slot
+  pub not-empty : (i : ℕ) → i < n → (slot : ℕ) × (subchannel : ℕ) × Covers numbers i slot subchannel
+  -- each lies wholly in the zone
+  pub in-zone : (i : ℕ) → i < n → InZone size zone numbers i
+  -- and they are pairwise apart: a subchannel in a slot is covered by one at most
+  pub apart : (i j slot subchannel : ℕ) → i < n → j < n → Covers numbers i slot subchannel → Covers numbers j slot subchannel → i ≡ j
+
+-- A list that is fit for its zone.
 pub record Fit (size : ℕ) (zone : Zone) (numbers : List ℕ) : Type 0 where
   pub four-each : length numbers % 4 ≡ 0
   pub at-most-64 : burstCount numbers ≤ 64
-  -- none is empty: each covers some subchannel in some slot
-  pub not-empty : (i : ℕ) → i < burstCount numbers → (slot : ℕ) × (subchannel : ℕ) × Covers numbers i slot subchannel
-  -- each lies wholly in the zone
-  pub in-zone : (i slot subchannel : ℕ) → i < burstCount numbers → Covers numbers i slot subchannel → (slot < zone .slots) × (subchannel < subchannels (setupOf size zone))
-  -- and they are pairwise apart: a subchannel in a slot is covered by one at most
-  pub apart : (i j slot subchannel : ℕ) → i < burstCount numbers → j < burstCount numbers → Covers numbers i slot subchannel → Covers numbers j slot subchannel → i ≡ j
+  pub all-fit : FirstFit size zone numbers (burstCount numbers)
+
+-- A list whose first fault is an overlap: the bursts before one are fit, it lies wholly in the zone too, and it covers what an earlier one covers.
+pub record Overlapping (size : ℕ) (zone : Zone) (numbers : List ℕ) : Type 0 where
+  pub four-each : length numbers % 4 ≡ 0
+  pub at-most-64 : burstCount numbers ≤ 64
+  pub i : ℕ
+  pub in-list : i < burstCount numbers
+  pub before-fit : FirstFit size zone numbers i
+  pub in-zone : InZone size zone numbers i
+  pub common : (j : ℕ) × (slot : ℕ) × (subchannel : ℕ) × (j < i) × Covers numbers j slot subchannel × Covers numbers i slot subchannel
 
 pub record BurstLaw (size : ℕ) (zone : Zone) (numbers : List ℕ) : Type 0 where
-  -- A list is accepted exactly when it is fit, in a zone that its own questions let pass.
+  -- A zone that its own questions refuse gives their number. In any other zone
+  pub zone-first : (fieldsRefusal size zone ≡ 0 → ⊥) → checkOf size zone numbers ≡ fieldsRefusal size zone
   pub accepted-zone : checkOf size zone numbers ≡ 0 → fieldsRefusal size zone ≡ 0
+  -- a list is accepted exactly when it is fit,
   pub accepted-fit : checkOf size zone numbers ≡ 0 → Fit size zone numbers
   pub fit-accepted : fieldsRefusal size zone ≡ 0 → Fit size zone numbers → checkOf size zone numbers ≡ 0
+  -- refused by 19 exactly when its first fault is an overlap,
+  pub refused-overlapping : fieldsRefusal size zone ≡ 0 → checkOf size zone numbers ≡ 19 → Overlapping size zone numbers
+  pub overlapping-refused : fieldsRefusal size zone ≡ 0 → Overlapping size zone numbers → checkOf size zone numbers ≡ 19
+  -- and by 18 for every other fault.
+  pub else-18 : fieldsRefusal size zone ≡ 0 → (checkOf size zone numbers ≡ 0 → ⊥) → (checkOf size zone numbers ≡ 19 → ⊥) → checkOf size zone numbers ≡ 18
   -- The calls refuse a list alike: one that is accepted once has an answer for every slot below 512 and every subchannel, and only such a list has one.
   pub owner-alike : (slot subchannel : ℕ) → slot < 512 → subchannel < subchannels (setupOf size zone) → ownerOf size zone slot subchannel numbers .refusal ≡ checkOf size zone numbers
   pub owner-accepted : (slot subchannel : ℕ) → ownerOf size zone slot subchannel numbers .refusal ≡ 0 → checkOf size zone numbers ≡ 0

@@ -80,7 +80,7 @@ fn burst_at(bursts: &[u32], i: usize) -> Burst
     }
 }
 
-// Have two runs of numbers, each from its first to before its end, one in common?
+// Have two runs of numbers, each from its first to before its end and neither empty (18 comes before), one in common?
 fn is_shared(first: u16, end: u16, other: u16, other_end: u16) -> bool
     ensures { λ r. ⌜ r ≡ isShared first end other «other_end» ⌝ }
 {

@@ -48,7 +48,7 @@ adjacent : setFrom 0 (amcOf 48 176 .hits) ≡ indices
 unfolding setFrom tabulate amcOf answerOf amcHit question.isCell mode.cells amc.traffic amc.elementOf amc.zeroRule amc.off element.add element.times element.sequence
 adjacent = refl
 
-zone-check : (check bursts ≡ 0) × (check (corner 1 2 3 2) ≡ 19) × (check (corner 3 2 3 1) ≡ 18) × (check (corner 3 1 3 0) ≡ 18) × (check (corner 4294967295 2 3 1) ≡ 18) × (check (corner 0 0 0 1) ≡ 18)
+zone-check : (check bursts ≡ 0) × (check (corner 1 2 3 2) ≡ 19) × (check (corner 3 2 3 1) ≡ 18) × (check (corner 3 1 3 0) ≡ 18) × (check (corner 4294967295 2 3 1) ≡ 18) × (check (corner 1 4 3 1) ≡ 18)
 unfolding isUpTo mode.width mode.cells mode.subchannels question.isFourSizes question.isSize question.isCell isMask isZoneMode firstOf burst.isList burst.isWithin burst.isInside burst.isShared burst.isOverlap burst.isApart burst.askEach burst.checkOf
 zone-check = (refl, refl, refl, refl, refl, refl)
 

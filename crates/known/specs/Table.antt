@@ -109,6 +109,6 @@ pub record Known : Type 0 where
   pub amc-3x2 : placeOf (setupWith 5 256 0) 1 7 2 ≡ at 3 (pos 93)
   pub amc-1x6 : (placeOf (setupWith 6 512 0) 1 47 2 ≡ at 10 (pos 209)) × (placeOf (setupWith 6 512 0) 511 0 41 ≡ at 3071 (minus 208))
   -- Not starred: bursts, worked out by hand from document 02, wish 7, in a zone of four subchannels by six slots. `bursts` fills it; another beside its first that has one slot and subchannel in common with the first, the corner of both, is refused 19;
-  -- one that ends a subchannel past the zone, has no slots, or has sums that 32 bits would wrap, 18; so is one that is empty and lies in another, since 18 comes before 19.
-  pub bursts-check : (check bursts ≡ 0) × (check (corner 1 2 3 2) ≡ 19) × (check (corner 3 2 3 1) ≡ 18) × (check (corner 3 1 3 0) ≡ 18) × (check (corner 4294967295 2 3 1) ≡ 18) × (check (corner 0 0 0 1) ≡ 18)
+  -- one that ends a subchannel past the zone, has no slots, or has sums that 32 bits would wrap, 18; so is one that overlaps the first and ends past the zone too, since 18 comes before 19.
+  pub bursts-check : (check bursts ≡ 0) × (check (corner 1 2 3 2) ≡ 19) × (check (corner 3 2 3 1) ≡ 18) × (check (corner 3 1 3 0) ≡ 18) × (check (corner 4294967295 2 3 1) ≡ 18) × (check (corner 1 4 3 1) ≡ 18)
   pub bursts-owner : (owner 3 1 ≡ owns 0 1) × (owner 4 1 ≡ owns 2 3) × (owner 5 3 ≡ owns 1 2) × (owner 6 1 ≡ owns 64 3) × (owner 512 1 ≡ refusal 4) × (owner 5 4 ≡ refusal 5)

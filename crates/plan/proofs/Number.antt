@@ -1,5 +1,5 @@
 -- The chains of questions of a plan by their numbers: the first that is answered no, or 0.
-use mathlib.Core.Path.{_≡_, sym, ap, _∙_}
+use mathlib.Core.Path.{_≡_, sym, ap}
 use mathlib.Core.Bool.{true, false}
 use mathlib.Core.List.{List, [], _∷_}
 use Prim.Native.Nat.{ℕ, _+_, _<_, _≤_}
@@ -7,7 +7,7 @@ use lib.Dec.{ltb}
 use lib.ListN.{length, take, drop, getD}
 use borrow.Author.Tests.{eq-eqb, ne-eqb}
 use Rattle.base.specs.Answer.{Answer, accepted, ask, refusalOf}
-use Rattle.base.proofs.Chain.{numbered, yes-all, no-first, Numbered, no-question, question}
+use Rattle.base.proofs.Chain.{numbered, Numbered, no-question, question, chain-no, chain-yes}
 use Rattle.map.specs.Question.{isMode, isFourSizes, isSize, isCell}
 use Rattle.map.specs.Model.{setupRefusal}
 use Rattle.map.proofs.Accept.{setup-numbered}
@@ -37,17 +37,17 @@ module _ (size : ℕ) (z : Zone) where
   own rest = ask (isSlots (z .slots)) 13 (ask (isMask (z .mode) (z .mask)) 17 rest)
 
   module _ (u : z .mode ≡ 1 → ⊥) {r : ℕ} (e : r ≡ setupRefusal (setupOf size z)) where
-    by-setup : {A : Type 0} (rest : Answer A) → askFields size z rest ≡ numbered r (own rest)
+    by-setup : {A : Type 0} (rest : Answer A) → askFields size z rest ≡ numbered (setupRefusal (setupOf size z)) (own rest)
     unfolding isMode
-    by-setup rest = rw (listed (z .mode) u, e) (setup-numbered (setupOf size z) (own rest))
+    by-setup rest = rw (listed (z .mode) u) (setup-numbered (setupOf size z) (own rest))
 
     pub fields-setup : (r ≡ 0 → ⊥) → r ≡ fieldsRefusal size z
     unfolding fieldsRefusal
-    fields-setup h = sym (ap refusalOf (by-setup (accepted tt) ∙ no-first r _ h))
+    fields-setup h = sym (ap refusalOf (chain-no _ _ (by-setup (accepted tt)) e h))
 
     pub fields-rest : r ≡ 0 → refusalOf (own {A = Unit {0}} (accepted tt)) ≡ fieldsRefusal size z
     unfolding fieldsRefusal
-    fields-rest h = sym (ap refusalOf (by-setup (accepted tt) ∙ yes-all r _ h))
+    fields-rest h = sym (ap refusalOf (chain-yes _ _ (by-setup (accepted tt)) e h))
 
   -- all of them as one chain
   pub fields-chain : {A : Type 0} {chain rest : Answer A} {alone : Answer (Unit {0})} → Numbered chain rest alone → Numbered (askFields size z chain) rest (askFields size z alone)
@@ -65,16 +65,13 @@ module _ (size : ℕ) (z : Zone) where
 -- and to the zone in its plan
 module _ (size : ℕ) (before : Before) (z : Zone) where
   module _ {r : ℕ} (e : r ≡ fieldsRefusal size z) where
-    by-fields : {A : Type 0} (rest : Answer A) → askZone size before z rest ≡ numbered r (ask (isOrder before size z) 14 rest)
-    by-fields rest = rw e (fields-numbered size z (ask (isOrder before size z) 14 rest))
-
     pub zone-fields : (r ≡ 0 → ⊥) → r ≡ zoneRefusal size before z
     unfolding zoneRefusal
-    zone-fields h = sym (ap refusalOf (by-fields (accepted tt) ∙ no-first r _ h))
+    zone-fields h = sym (ap refusalOf (chain-no _ _ (fields-numbered size z _) e h))
 
     pub zone-rest : r ≡ 0 → refusalOf (ask {A = Unit {0}} (isOrder before size z) 14 (accepted tt)) ≡ zoneRefusal size before z
     unfolding zoneRefusal
-    zone-rest h = sym (ap refusalOf (by-fields (accepted tt) ∙ yes-all r _ h))
+    zone-rest h = sym (ap refusalOf (chain-yes _ _ (fields-numbered size z _) e h))
 
   zone-chain : {A : Type 0} {chain rest : Answer A} {alone : Answer (Unit {0})} → Numbered chain rest alone → Numbered (askZone size before z chain) rest (askZone size before z alone)
   zone-chain tail = fields-chain size z (question (isOrder before size z) 13 tail)

@@ -31,7 +31,7 @@ asked c = cc (c .is-inside .ensures, c .before .burst-at .ensures)
 returns-3 : tie.Need-returns-3 Inv-loop μ-loop
 returns-3 c =
     let loop = c .before .before .before in
-    from-outside _ _ _ _ (omega (arith, loop .loop-test .taken)) (sym (asked (c .before)) ∙ not-true _ (c .if3 .taken)) ∙ loop .before .loop .inv .1
+    from-outside _ _ _ _ (loop .loop-test .taken) (sym (asked (c .before)) ∙ not-true _ (c .if3 .taken)) ∙ loop .before .loop .inv .1
 
 -- a burst that lies in its zone has small ends
 small : (c : tie.Else3 Inv-loop μ-loop) → let b = c .before .before .burst-at .result in (b .subchannel + b .subchannels < 65536) × (b .slot + b .slots < 65536)
@@ -46,7 +46,7 @@ apart c =
     let burst = c .before .before .before .before .before .before .before .before .before .before .before in
     let loop = burst .before in
     c .is-apart .ensures
-    ∙ columns-apart _ (columns-next (loop .before .loop .inv .2) (omega (arith, loop .loop-test .taken, loop .before .loop .inv .0)) _ (burst .burst-at .ensures) _ _ (c .before .before .before .before .before .before .before .end-of .ensures) (c .before .before .before .before .before .end-of2 .ensures))
+    ∙ columns-apart _ (columns-next (loop .before .loop .inv .2) (loop .loop-test .taken) (loop .before .loop .inv .0) (burst .burst-at .ensures) (c .before .before .before .before .before .before .before .end-of .ensures) (c .before .before .before .before .before .end-of2 .ensures))
 
 inside : (c : tie.Else3 Inv-loop μ-loop) → let a = c .before .before .before .before .before .before .before .before .args in
     isInside (a .subchannel-end) (a .slot-end) (burstAt (a .bursts .now) (c .before .before .before .before .loop .i)) ≡ true
@@ -55,15 +55,15 @@ inside c = sym (asked (c .before)) ∙ not-false _ (c .if3 .left)
 returns-4 : tie.Need-returns-4 Inv-loop μ-loop
 returns-4 c =
     let loop = c .before .before .before .before .before .before .before .before .before .before .before .before .before in
-    from-overlap _ _ _ _ (omega (arith, loop .loop-test .taken)) (inside (c .before .before .before .before .before .before .before .before .before .before)) (sym (apart (c .before)) ∙ not-true _ (c .if4 .taken)) ∙ loop .before .loop .inv .1
+    from-overlap _ _ _ _ (loop .loop-test .taken) (inside (c .before .before .before .before .before .before .before .before .before .before)) (sym (apart (c .before)) ∙ not-true _ (c .if4 .taken)) ∙ loop .before .loop .inv .1
 
 loop-again : tie.Need-loop-again Inv-loop μ-loop
 loop-again c =
     let burst = c .before .before .before .before .before .before .before .before .before .before .before .before in
     let loop = burst .before in (
       loop .before .loop .inv .0,
-      from-next _ _ _ _ (omega (arith, loop .loop-test .taken)) (inside (c .before .before .before .before .before .before .before .before .before .before)) (sym (apart (c .before)) ∙ not-false _ (c .if4 .left)) ∙ loop .before .loop .inv .1,
-      columns-next (loop .before .loop .inv .2) (omega (arith, loop .loop-test .taken, loop .before .loop .inv .0)) _ (burst .burst-at .ensures) _ _ (c .before .before .before .before .before .before .before .before .end-of .ensures) (c .before .before .before .before .before .before .end-of2 .ensures),
+      from-next _ _ _ _ (loop .loop-test .taken) (inside (c .before .before .before .before .before .before .before .before .before .before)) (sym (apart (c .before)) ∙ not-false _ (c .if4 .left)) ∙ loop .before .loop .inv .1,
+      columns-next (loop .before .loop .inv .2) (loop .loop-test .taken) (loop .before .loop .inv .0) (burst .burst-at .ensures) (c .before .before .before .before .before .before .before .before .end-of .ensures) (c .before .before .before .before .before .before .end-of2 .ensures),
     )
 
 returns-5 : tie.Need-returns-5 Inv-loop μ-loop
