@@ -23,7 +23,7 @@ module _ (setup : Setup) (slot s : ℕ) where
   -- a refusal, with the zeros that go with it
   no-row : {k : ℕ} → askPlaces {A = Unit {0}} setup slot s (accepted tt) ≡ refused k → _≡_ {A = PlaceRow} (record { refusal = k; places = tabulate 48 (λ m. 0) }) (placesOf setup slot s)
   unfolding placesOf
-  no-row e = sym (ap (placeRow (standsAt setup slot s)) e)
+  no-row e = sym (ap (placeRow _) e)
 
   pub row-setup : {k : ℕ} → k ≡ setupRefusal setup → (k ≡ 0 → ⊥) → _≡_ {A = PlaceRow} (record { refusal = k; places = tabulate 48 (λ m. 0) }) (placesOf setup slot s)
   row-setup e ne = no-row (refused-number setup _ (λ z. ne (e ∙ z)) ∙ ap refused (sym e))
