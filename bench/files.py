@@ -21,7 +21,7 @@ ENV = dict(os.environ, BELLPULSAR_LIBRARY=os.path.join(ROOT, "build", "link", "l
 ROUNDS = 9
 SLOTS = 1000  # that a time is for
 FRAME = 500  # slots: the 1,000 are two frames
-WRITTEN = 2**26  # bytes of grids: where 1,000 slots have less, more of them are filled, so that there is something to time
+WRITTEN = 2**26  # bytes of grids: where 1,000 slots have less, more of them are filled, so that there is enough to time
 REQUESTS = 200000
 
 MODES = ("pusc-dl", "pusc-ul", "ofusc", "amc-6x1", "amc-2x3", "amc-3x2", "amc-1x6")
@@ -55,7 +55,7 @@ SETUPS = [
     Setup("amc-1x6", 256, 0, 2304, 3072),
     Setup("amc-1x6", 2048, 0, 18432, 24576),
 ]
-CELL = 11
+CELL = "11"
 
 
 class Pair(NamedTuple):
@@ -66,9 +66,9 @@ class Pair(NamedTuple):
 
 
 def filling(setup, frame):
-    fields = [str(setup.size), str(CELL)]
-    in_c = [IN_C, "fill", str(MODES.index(setup.mode)), *fields, str(setup.mask), str(frame)]
-    return Pair(in_c, [COMMAND, "fill", setup.mode, *fields, "--mask", str(setup.mask), "--slots", str(frame), "-", "-"])
+    size, mask, frame = str(setup.size), str(setup.mask), str(frame)
+    in_c = [IN_C, "fill", str(MODES.index(setup.mode)), size, CELL, mask, frame]
+    return Pair(in_c, [COMMAND, "fill", setup.mode, size, CELL, "--mask", mask, "--slots", frame, "-", "-"])
 
 
 PLACING = Pair([IN_C, "place"], [COMMAND, "batch"])
@@ -130,8 +130,8 @@ def requests(count):
 
 def check(bench):
     for setup in SETUPS:
-        slots = b"".join(points_of(setup, 1) for _ in range(14))  # frames of 5: no multiple of 3, and the last is cut off
-        bench.compare(filling(setup, 5), slots, "fill, " + setup.name())
+        points = b"".join(points_of(setup, 1) for _ in range(14))
+        bench.compare(filling(setup, 5), points, setup.name())  # frames of 5 slots: no multiple of 3
     bench.compare(PLACING, requests(2000), "batch")
     print("bench: fill of %d setups and batch of 2000 requests: the command line writes what C does" % len(SETUPS))
 
@@ -142,20 +142,21 @@ def time_fill(bench, setup):
     bench.compare(pair, points_of(setup, slots), setup.name())
     in_c, command, start = bench.time(pair)
     ms = 1000 * SLOTS / slots
-    print("| %-22s | %8.2f | %8.2f | %5.2f | %8.1f |" % (setup.name(), ms * in_c, ms * command, command / in_c, 1000 * start))
+    told = (setup.name(), ms * in_c, ms * command, command / in_c, 1000 * start)
+    print("| %-22s | %8.2f | %8.2f | %5.2f | %8.1f |" % told, flush=True)
 
 
 def time_batch(bench):
     bench.compare(PLACING, requests(REQUESTS), "batch")
     in_c, command, start = bench.time(PLACING)
-    rates = (REQUESTS / in_c, REQUESTS / command, command / in_c, 1000 * start)
-    print("\nbatch, %d requests of place: C %.0f a second, the command %.0f (ratio %.1f), start-up %.1f ms" % (REQUESTS, *rates))
+    told = (REQUESTS, REQUESTS / in_c, REQUESTS / command, command / in_c, 1000 * start)
+    print("\nbatch of %d places: C %.0f a second, the command %.0f, ratio %.1f, start-up %.1f ms" % told)
 
 
 def measure(bench):
     print(
-        "\nThe command line's fill of %d slots from file to file, as two frames, against C over the library; ms of processor\n"
-        "time without the start-up, which is that of the same command on no slots. Best of %d rounds.\n\n"
+        "\nThe command line's fill of %d slots from file to file, as two frames, and C over the library that does the\n"
+        "same: ms of processor time without the start-up, which is what no slots take. Best of %d rounds.\n\n"
         "| fill                   |        C |  command | ratio | start-up |\n"
         "|------------------------|---------:|---------:|------:|---------:|" % (SLOTS, ROUNDS)
     )

@@ -11,6 +11,7 @@ $cc $flags ${LDFLAGS-} -D_POSIX_C_SOURCE=199309L $warn -I include \
     -DBENCH_FLAGS="\"$flags\"" -DBENCH_COMPILER="\"$($cc --version | head -n 1)\"" \
     bench/bench.c bench/requests.c bench/plain_map.c bench/plain_plan.c \
     bench/plain_bursts.c build/libbellpulsar.a -o build/bench
-$cc $flags ${LDFLAGS-} -D_POSIX_C_SOURCE=199309L $warn -I include bench/files.c build/libbellpulsar.a -o build/bench_files
+$cc $flags ${LDFLAGS-} -D_POSIX_C_SOURCE=199309L $warn -I include \
+    bench/files.c build/libbellpulsar.a -o build/bench_files
 build/bench "$@"
 exec python3 bench/files.py "$@"

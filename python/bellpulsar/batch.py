@@ -30,7 +30,7 @@ MODE_WORDS = {word: number for number, name in enumerate(MODES) for word in (nam
 
 
 class Form:
-    """How a request of fields alone is understood without the argument parser, which takes far longer than an answer."""
+    """How a request of fields alone is understood without the argument parser, which takes longer than an answer."""
 
     def __init__(self, name, is_json):
         self.fields = FIELDS[name]

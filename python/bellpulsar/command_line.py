@@ -80,12 +80,13 @@ STREAM_RULES = (
     """\
 Both files are raw complex 32-bit floats, in-phase first, in the byte order of this machine, as SDR tools write them;
 - is standard input or output. A slot's points are those of its lit subchannels, rising, 48 each by index. A slot's grid
-is its symbols one after the other, each by rising carrier, SIZE points. Slot after slot follows: from FIRST on, SLOTS
-of them, and then from FIRST again, as the next frame brings them. An input of no bytes has no slots.
-A file that ends within a slot is an error, which says how many bytes the last slot has, and nothing is written.
-OUTPUT is there whole or is left as it was, and may be INPUT itself; a pipe, a device and standard output have each slot
+is its symbols one after the other, each SIZE points by rising carrier.
+The slots of a frame follow one another, COUNT of them from FIRST on; then comes the next frame, from FIRST on again. No
+bytes are no slots. An input that ends within a slot is an error, which says how many bytes the last slot has and how
+many it should have; a file is told so before anything is written.
+OUTPUT is written whole or left as it was, and may be INPUT itself; a pipe, a device and standard output have each slot
 as soon as it is done. Where OUTPUT is -, a refusal is told on standard error.
-On a terminal, work that takes long shows how far it is, on standard error.
+Where standard error is a terminal, work that takes long shows there how far it is.
 
 """
     + RANGES
@@ -253,9 +254,9 @@ def add_map(commands):
 
 def add_table(commands):
     example = """\
-  bellpulsar table 2 256 0 0
+  bellpulsar table 2 1024 17 0
 
-prints a line for each point, by subchannel and index, as subchannel 0 index 0 symbol 0 carrier -107"""
+prints a line for each point, by subchannel and index: the first is "subchannel 0 index 0 symbol 0 carrier -425\""""
     summary = "the symbol and carrier of every point of a slot"
     asking = command(commands, "table", answers.table, summary, example, ["mode", "size", "cell", "slot"])
     forms = asking.add_mutually_exclusive_group()
@@ -335,8 +336,8 @@ def add_stream(parser, source, target):
     parser.add_argument("target", type=path, metavar="OUTPUT", help="the file for the %s" % target)
     first = "the number of the first slot (default 0)"
     parser.add_argument("--slot", type=number, default=0, metavar="FIRST", help=first)
-    told = "how many slots a frame brings, from FIRST on (default: all up to slot 511)"
-    parser.add_argument("--slots", type=some, help=told)
+    told = "how many slots a frame has, from FIRST on (default: all up to slot 511)"
+    parser.add_argument("--slots", type=some, metavar="COUNT", help=told)
     add_mask(parser)
 
 

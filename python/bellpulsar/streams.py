@@ -1,9 +1,9 @@
 """Slots from file to file: points filled into grids, and grids emptied into points.
 
-The files are raw complex 32-bit floats, slot after slot. A block has places for many slots, and the calls for each place
-are prepared once, since making a call's arguments takes longer than the call. Slots that agree mod 3 have their points
-and their pilots on the same carriers, in every mode; so slots 0, 1 and 2 stand for all, again and again, in the block's
-places, and a slot comes into any place of its like.
+The files are raw complex 32-bit floats, slot after slot. A block has places for many slots, and the calls for each of
+its places are prepared once, since making a call's arguments takes longer than the call. Slots that agree mod 3 have
+their points and their pilots on the same carriers, in every mode; so the places are of slots 0, 1 and 2, again and
+again, and a slot comes into any place of its like.
 """
 
 import contextlib

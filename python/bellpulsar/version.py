@@ -1,4 +1,4 @@
-"""The version, as text: of a clone what its header says, of an installation what the file VERSION beside this one has."""
+"""The version, as text: in a clone what the header says, in an installation what the file VERSION beside this has."""
 
 import os
 import re
