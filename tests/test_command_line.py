@@ -7,20 +7,29 @@
 import contextlib
 import io
 import itertools
+import json
 import os
+import pty
+import random
 import re
 import shlex
+import signal
+import struct
 import subprocess
 import sys
 import tempfile
+import threading
+import time
 import unittest
 import xml.etree.ElementTree as ElementTree
+from array import array
 
 import reference as ref
 
 ROOT = os.path.dirname(os.path.dirname(os.path.abspath(__file__)))
 sys.path.insert(0, os.path.join(ROOT, "python"))
 
+import bellpulsar  # noqa: E402
 from bellpulsar import command_line, refusals  # noqa: E402
 
 COMMAND = os.path.join(ROOT, "bellpulsar")
@@ -46,6 +55,23 @@ def asked(*arguments):
             status = ended.code or 0
         out.flush(), err.flush()
     return subprocess.CompletedProcess(arguments, status, out.buffer.getvalue(), err.buffer.getvalue())
+
+
+@contextlib.contextmanager
+def talking(*arguments, pipe=subprocess.PIPE):
+    """A command with pipes; where it does not answer, it is ended after a while."""
+    words = [COMMAND, *map(str, arguments)]
+    with subprocess.Popen(words, stdin=pipe, stdout=pipe, stderr=pipe, env=ENV) as command:
+        end = threading.Timer(60, command.kill)
+        end.start()
+        yield command
+        end.cancel()
+
+
+def send(command, *pieces):
+    for piece in pieces:
+        command.stdin.write(piece)
+        command.stdin.flush()
 
 
 def run_shell(line):
@@ -80,6 +106,12 @@ class Case(unittest.TestCase):
 # --- answers ----------------------------------------------------------------------------------
 
 NAMES = {ref.DC: "DC"}  # what is told by another name than the reference's
+
+
+def located(what):
+    """What `locate` prints of what the reference has."""
+    kind, *address = what
+    return "data slot %d subchannel %d index %d" % tuple(address) if address else NAMES.get(kind, kind)
 
 
 class Map(Case):
@@ -125,8 +157,7 @@ class Map(Case):
             for size in ref.sizes(mode):
                 half = size // 2
                 for carrier in (-half, -1, 0, 1, half - 1):
-                    kind, *address = ref.locate(mode, size, 1, 1, carrier)[1]
-                    text = "data slot %d subchannel %d index %d" % tuple(address) if address else NAMES.get(kind, kind)
+                    text = located(ref.locate(mode, size, 1, 1, carrier)[1])
                     self.prints("locate %d %d 1 1 %d" % (mode, size, carrier), text + "\n")
                 for carrier in (-half - 1, half, -(2**31), 2**31 - 1, -(2**31) - 1, 2**31, 2**32 - 1, -(2**32), 2**64):
                     words = "carrier %d is not one of size %d's: %d to %d" % (carrier, size, -half, half - 1)
@@ -1053,20 +1084,654 @@ def numbered(count):
     return [str(number) for number in range(count)]
 
 
+# --- modes by name ----------------------------------------------------------------------------
+
+MODE_NAMES = ("pusc-dl", "pusc-ul", "ofusc", "amc-6x1", "amc-2x3", "amc-3x2", "amc-1x6")
+
+
+class Names(Case):
+    def alike(self, line, mode):
+        """A line with {} for its mode."""
+        wanted, named = (asked(*shlex.split(line.format(word))) for word in (mode, MODE_NAMES[mode]))
+        self.assertEqual((named.stdout, named.stderr, named.returncode), (wanted.stdout, b"", wanted.returncode), line)
+        self.assertIn(wanted.returncode, (0, 1))
+
+    def test_as_numbers(self):
+        lines = ["place {} 2048 1 2 3 4", "locate {} 2048 1 2 -3", "first {} 2048 1 2 700", "table {} 2048 1 2"]
+        lines += ["show {} 2048 1 2", "place {} 2048 2352 0 0 0", "picture subchannel {} 2048 0,1 0 1"]
+        lines += ["bursts {} 2048 1 12 0,1,0,1", "owner {} 2048 1 12 0 0 0,1,0,1", "owners {} 2048 1 12 0 0,1,0,1"]
+        lines += ["plan write 2048 0,0,1,63 {},1,2,0", "plan write 2048 {},0,1,63", "plan write 1024 {},0,1,0"]
+        for mode in range(7):
+            for line in lines:
+                self.alike(line, mode)
+        for line in ("picture slot {} 256 0 0", "picture zone {} 256 0 2 0,1,0,1", "place {} 256 16 0 0 0"):
+            self.alike(line, 2)
+
+    def test_names_of_the_help(self):
+        for mode, name in enumerate(MODE_NAMES):
+            self.assertIn("\n  %d %-7s  %s  " % (mode, name, refusals.MODES[mode].name), command_line.RANGES)
+
+    def test_names_that_are_none(self):
+        for name in ("pusc", "PUSC-DL", "pusc_dl", "amc", "amc-6x2", "amc-6x1x", "ofusc2", "x", "dl", "2a", "0x2"):
+            for line in ("place {} 256 0 0 0 0", "locate {} 256 0 0 0", "table {} 256 0 0", "first {} 256 0 0 0"):
+                self.not_understood(*line.format(name).split())
+            self.not_understood("plan", "write", "256", "%s,0,1,0" % name)
+            self.not_understood("bursts", name, "256", "0", "1", "0,1,0,1")
+            self.not_understood("fill", name, "256", "0", "/dev/null", "/dev/null")
+        told = asked("place", "amc", 256, 0, 0, 0, 0).stderr.decode()
+        every = ", ".join(MODE_NAMES)
+        self.assertTrue(told.endswith(": error: argument MODE: 'amc' is not a mode: 0 to 6 or %s\n" % every), told)
+        for word in ("", "+2", "1.0", " 2", "2 ", "-"):
+            self.not_understood("place", word, 256, 0, 0, 0, 0)
+        self.not_understood("place", 2, "ofusc", 0, 0, 0, 0)
+        self.not_understood("plan", "write", 256, "2,ofusc,1,0")
+
+
+# --- tables -----------------------------------------------------------------------------------
+
+
+class Table(Case):
+    def test_to_the_byte(self):
+        text = asked("table", 2, 1024, 17, 0).stdout.decode().splitlines()
+        self.assertEqual((text[0], len(text)), ("subchannel 0 index 0 symbol 0 carrier -425", 768))
+        text = asked("table", "ofusc", 1024, 0, 1, "--csv").stdout.decode().splitlines()
+        self.assertEqual((text[0], text[1 + 3 * 48 + 5]), ("subchannel,index,symbol,carrier", "3,5,1,40"))
+
+    def test_every_mode_against_the_reference(self):
+        for mode in range(7):
+            for size, slot in zip(ref.sizes(mode), (511, 0, 1, 2)):
+                setup, last = (mode, size, ref.cells(mode, size) - 1, slot), ref.subchannels(mode, size)
+                every = itertools.product(range(last), range(48))
+                points = [(*point, *ref.place(*setup, *point)[1:]) for point in every]
+                names = "subchannel %d index %d symbol %d carrier %d\n"
+                line = "table %d %d %d %d" % setup
+                self.prints(line, "".join(names % point for point in points))
+                rows = "".join("%d,%d,%d,%d\n" % point for point in points)
+                self.prints(line + " --csv", "subchannel,index,symbol,carrier\n" + rows)
+                objects = [json.loads(row) for row in asked(*line.split(), "--json").stdout.splitlines()]
+                self.assertEqual([tuple(row.values()) for row in objects], points)
+                self.assertEqual({tuple(row) for row in objects}, {("subchannel", "index", "symbol", "carrier")})
+
+    def test_refusals(self):
+        self.refused(1, "table 7 2048 0 0")
+        self.refused(2, "table 0 1024 0 0")
+        self.refused(3, "table 2 256 16 512")
+        self.refused(4, "table ofusc 256 15 512", "slot 512 is not one of a zone's: 0 to 511")
+        self.refused(4, "table 2 256 15 -1 --csv")
+
+    def test_one_form(self):
+        self.not_understood("table", 2, 256, 0, 0, "--csv", "--json")
+        self.not_understood("table", 2, 256, 0)
+        self.not_understood("table", 2, 256, 0, 0, 0)
+        self.assertEqual(asked("table", "--csv", 2, 256, 0, 0).stdout, asked("table", 2, 256, 0, 0, "--csv").stdout)
+
+
+# --- answers as JSON --------------------------------------------------------------------------
+
+
+def numbers_in(text):
+    return [int(number) for number in re.findall(r"-?\d+", text)]
+
+
+class Json(Case):
+    def object(self, line, status=0):
+        done = asked(*shlex.split(line), "--json")
+        self.assertEqual((done.stderr, done.returncode), (b"", status), line)
+        self.assertEqual(done.stdout.count(b"\n"), 1)
+        answer = json.loads(done.stdout)
+        self.assertEqual(done.stdout.decode(), json.dumps(answer) + "\n")  # the one form, names in their order
+        self.assertEqual(asked("--json", *shlex.split(line)).returncode, 2)
+        return answer
+
+    def text(self, line):
+        return asked(*shlex.split(line)).stdout.decode()
+
+    def test_to_the_byte(self):
+        self.prints("place 2 1024 17 0 0 0 --json", '{"symbol": 0, "carrier": -425}\n')
+        self.prints("place 2 --json 1024 17 0 0 0", '{"symbol": 0, "carrier": -425}\n')
+        self.prints("locate 0 2048 31 1 0 --json", '{"kind": "DC"}\n')
+        data = '{"kind": "data", "slot": 0, "subchannel": 0, "index": 0}\n'
+        self.prints("locate 2 1024 17 0 -425 --json", data)
+        self.prints("collisions amc 48 176 --json", '{"count": 3, "indices": [8, 24, 32]}\n')
+        self.prints("collisions ofusc 512 9 3 9 4 --json", '{"count": 0, "groups": []}\n')
+        zones = '{"mode": 2, "cell": 17, "slots": 3, "mask": 0}, {"mode": 3, "cell": 176, "slots": 1, "mask": 0}'
+        self.prints("plan read --json " + EXAMPLE, '{"size": 1024, "zones": [%s]}\n' % zones)
+        self.prints("plan write 1024 2,17,3,0 3,176,1,0 --json", '{"bytes": "%s"}\n' % EXAMPLE)
+        self.prints("owner 0 2048 5 12 --json 0 59 " + as_words(MAP), '{"burst": 0, "looked": 1}\n')
+        self.prints("owner 2 256 0 1 0 0 --list /dev/null --json", '{"burst": null, "looked": 0}\n')
+        burst = '{"subchannel": 0, "subchannels": 192, "slot": 0, "slots": 512, "takes": 98304}'
+        whole = '{"bursts": [%s], "take": 98304, "of": 98304, "free": 0}\n' % burst
+        self.prints("bursts 6 2048 2351 512 --json 0,192,0,512", whole)
+        row = ", ".join(["1"] * 20 + ["null"] * 39 + ["3"])
+        self.prints("owners 0 2048 5 12 11 %s --json" % as_words(MAP), '{"owners": [%s]}\n' % row)
+        refusal = '{"refused": 3, "words": "cell 256 is not one of mode 2\'s at size 1024: 0 to 255"}\n'
+        done = asked("place", 2, 1024, 256, 0, 0, 0, "--json")
+        self.assertEqual((done.stdout.decode(), done.stderr, done.returncode), (refusal, b"", 1))
+
+    def test_as_the_text(self):
+        for line in ("place 4 256 176 1 5 1", "collisions ofusc 2048 0 2 1010 0", "collisions amc 7 7"):
+            values = self.object(line).values()
+            flat = [number for value in values for number in (value if isinstance(value, list) else [value])]
+            self.assertEqual(flat, numbers_in(self.text(line)))
+        for carrier in range(-128, 128, 5):
+            line = "locate 5 256 9 7 %d" % carrier
+            kind, *address = self.object(line).values()
+            names = ["slot", "subchannel", "index"] if address else []
+            told = " ".join([kind, *("%s %d" % pair for pair in zip(names, address))])
+            self.assertEqual(told + "\n", self.text(line))
+        line = "first 0 2048 5 3 2500 --mask 0b100001"
+        answer = self.object(line)
+        rows = ["subchannel %d points %d of %d\n" % tuple(each.values()) for each in answer["subchannels"]]
+        self.assertEqual("".join(rows) + "points %d of %d\n" % (answer["points"], answer["of"]), self.text(line))
+        line = "bursts 0 2048 5 12 " + as_words(MAP)
+        answer = self.object(line)
+        self.assertEqual([list(each.values())[:4] for each in answer["bursts"]], [list(burst) for burst in MAP])
+        takes = [each["takes"] for each in answer["bursts"]]
+        self.assertEqual(takes, [numbers_in(row)[-1] for row in self.text(line).splitlines()[:-1]])
+        last = [len(MAP), answer["take"], answer["of"], answer["free"]]
+        self.assertEqual(last, numbers_in(self.text(line).splitlines()[-1]))
+
+    def test_refusals(self):
+        lines = ["place 7 0 0 0 0 0", "locate 2 256 0 0 128", "table 2 256 0 512", "first 0 2048 0 0 0 --mask 64"]
+        lines += ["collisions amc 0 2352", "plan read 81 00", "plan write 1024", "bursts 2 256 0 1 0,0,0,0"]
+        lines += ["owner 2 256 0 1 0 4 0,1,0,1", "owners 2 256 0 1 512 0,1,0,1"]
+        for line in lines:
+            answer = self.object(line, 1)
+            self.assertEqual("refused %d: %s\n" % tuple(answer.values()), self.text(line))
+            self.assertEqual(list(answer), ["refused", "words"])
+
+    def test_where_there_is_none(self):
+        for line in ("show 2 256 0 0", "picture slot 2 256 0 0", "fill 2 256 0 /dev/null /dev/null"):
+            self.not_understood(*line.split(), "--json")
+
+
+# --- slots from file to file ------------------------------------------------------------------
+
+
+def some_points(mode, size, mask, slots):
+    """Any bits, those of NaNs too."""
+    return random.randbytes(4 * ref.lit_points_len(mode, size, mask) * slots)
+
+
+def patterns(data):
+    return list(array("I", data))
+
+
+def filled(mode, size, cell, mask, numbers, points, pilot=(1.0, 0.0)):
+    """The grids of slots with these numbers, from the reference."""
+    each = ref.lit_points_len(mode, size, mask)
+    points, pilot = patterns(points), patterns(struct.pack("2f", *pilot))
+    grid, data = [0] * ref.grid_len(mode, size), b""
+    for at, slot in enumerate(numbers):
+        own = points[at * each : (at + 1) * each]
+        data += array("I", ref.fill(mode, size, cell, mask, slot, pilot, own, grid)[1]).tobytes()
+    return data
+
+
+class Files(Case):
+    """Each test has a directory of its own."""
+
+    def setUp(self):
+        directory = tempfile.TemporaryDirectory()
+        self.addCleanup(directory.cleanup)
+        self.directory = directory.name
+        random.seed(80216)
+
+    def path(self, name):
+        return os.path.join(self.directory, name)
+
+    def put(self, name, data):
+        with open(self.path(name), "wb") as file:
+            file.write(data)
+        return self.path(name)
+
+    def data(self, name):
+        with open(self.path(name), "rb") as file:
+            return file.read()
+
+    def done(self, *words):
+        """A command that works without a word."""
+        done = asked(*words)
+        self.assertEqual((done.stdout, done.stderr, done.returncode), (b"", b"", 0), words)
+
+
+class Streams(Files):
+    def test_fill_against_the_reference(self):
+        for mode, size, cell, mask, first, count in (
+            (0, 2048, 5, 63, 3, 1),
+            (0, 2048, 31, 0b100110, 0, 2),
+            (1, 2048, 69, 0, 510, 2),
+            (2, 256, 15, 0, 1, 4),
+            (3, 512, 2351, 0, 2, 2),
+            (4, 256, 176, 0, 0, 1),
+            (5, 256, 9, 0, 508, 4),
+            (6, 256, 176, 0, 7, 1),
+        ):
+            points = some_points(mode, size, mask, 5)
+            numbers = list(itertools.islice(itertools.cycle(range(first, first + count)), 5))
+            wanted = filled(mode, size, cell, mask, numbers, points)
+            lit = ["--mask", mask] if mask != ref.full_mask(mode) else []
+            setup = (MODE_NAMES[mode], size, cell, "--slot", first, "--slots", count, *lit)
+            self.done("fill", *setup, self.put("points", points), self.path("grids"))
+            self.assertTrue(self.data("grids") == wanted, setup)
+            self.done("empty", *setup, self.path("grids"), self.path("again"))
+            self.assertTrue(self.data("again") == points, setup)
+
+    def test_there_and_back_in_every_mode(self):
+        """Of slots that fill the block, and more than it."""
+        for mode in range(7):
+            for size in ref.sizes(mode):
+                for mask in (1, 0b101010, 63) if mode == 0 else (0,):
+                    slots = 2**17 // (4 * ref.grid_len(mode, size)) + 2
+                    points = some_points(mode, size, mask, slots)
+                    setup = (mode, size, 1, "--mask", bin(mask), "--slot", 506)
+                    self.done("fill", *setup, self.put("points", points), self.path("grids"))
+                    self.assertEqual(os.path.getsize(self.path("grids")), 4 * ref.grid_len(mode, size) * slots)
+                    self.done("empty", *setup, self.path("grids"), self.path("again"))
+                    self.assertTrue(self.data("again") == points, setup)
+
+    def test_frames(self):
+        """A thousand slots and more: from the first to 511, or as many as a frame has, then from the first again."""
+        points = some_points(2, 256, 0, 1100)
+        for words, numbers in (
+            ([], range(512)),
+            (["--slot", 200], range(200, 512)),
+            (["--slots", 512], range(512)),
+            (["--slots", 1], range(1)),
+            (["--slots", 7, "--slot", 505], range(505, 512)),
+            (["--slot=2", "--slots=64"], range(2, 66)),
+        ):
+            self.done("fill", "ofusc", 256, 3, *words, self.put("points", points), self.path("grids"))
+            wanted, source, grid = bytearray(), array("f", points), array("f", [0.0]) * 512
+            for at, slot in zip(range(1100), itertools.cycle(numbers)):
+                bellpulsar.fill(2, 256, 3, slot, (1.0, 0.0), source[384 * at : 384 * (at + 1)], grid)
+                wanted += grid.tobytes()
+            self.assertTrue(self.data("grids") == wanted, words)
+
+    def test_pilots(self):
+        points = some_points(2, 256, 0, 1)
+        self.put("points", points)
+        words = {"1,0": (1, 0), "-1.5,2e-3": (-1.5, 2e-3), "+.5,5.": (0.5, 5), "1E38,-0": (1e38, -0.0)}
+        for word, pilot in {**words, "0.1,1e-60": (0.1, 0)}.items():
+            for option in (["--pilot", word], ["--pilot=" + word]):
+                self.done("fill", 2, 256, 0, *option, self.path("points"), self.path("grids"))
+                self.assertEqual(self.data("grids"), filled(2, 256, 0, 0, [0], points, pilot))
+        words = ["", "1", "1,", "1,2,3", "x,0", "1_0,0", " 1,0", "1,0 ", "nan,0", "inf,0", "1e39,0", "1e999,0", "0x1,0"]
+        for word in words:
+            self.not_understood("fill", 2, 256, 0, "--pilot", word, self.path("points"), self.path("none"))
+        self.not_understood("empty", 2, 256, 0, "--pilot", "1,0", self.path("points"), self.path("none"))
+
+    def test_standard_streams(self):
+        points = some_points(5, 256, 0, 70)
+        grids = run("fill", 5, 256, 7, "-", "-", input=points)
+        self.assertEqual((grids.stderr, grids.returncode), (b"", 0))
+        self.done("fill", 5, 256, 7, self.put("points", points), self.path("grids"))
+        self.assertTrue(self.data("grids") == grids.stdout)
+        back = run("empty", 5, 256, 7, "-", self.path("again"), input=grids.stdout)
+        self.assertEqual((back.stdout, back.stderr, back.returncode), (b"", b"", 0))
+        self.assertTrue(self.data("again") == points)
+        place = (COMMAND, self.path("points"), COMMAND)
+        through = run_shell("'%s' fill 5 256 7 '%s' - | '%s' empty 5 256 7 - /dev/stdout | cat" % place)
+        self.assertTrue((through.stdout, through.stderr) == (points, b""))
+        place = (COMMAND, self.path("points"))
+        rest = run_shell("(head -c 6144 >/dev/null; '%s' fill 5 256 7 --slot 2 - -) <'%s'" % place)
+        self.assertTrue((rest.stdout, rest.stderr) == (grids.stdout[2 * 4096 :], b""))
+
+    def test_each_slot_as_soon_as_it_has_arrived(self):
+        points = some_points(3, 256, 0, 9)
+        wanted = filled(3, 256, 5, 0, [0, 1, 2, 3] * 3, points)
+        with talking("fill", 3, 256, 5, "--slots", 4, "-", "-") as filling:
+            for at in range(9):
+                own = points[1536 * at : 1536 * (at + 1)]
+                send(filling, own[:100], own[100:1535], own[1535:])
+                self.assertTrue(filling.stdout.read(2048) == wanted[2048 * at : 2048 * (at + 1)])
+            filling.stdin.close()
+            self.assertEqual((filling.stdout.read(), filling.wait(60)), (b"", 0))
+
+    def test_no_slots(self):
+        for what in ("fill", "empty"):
+            self.done(what, 0, 2048, 5, self.put("none", b""), self.path("out"))
+            self.assertEqual(self.data("out"), b"")
+            self.done(what, 0, 2048, 5, "/dev/null", "/dev/null")
+            os.remove(self.path("out"))
+
+    def test_one_file_for_both(self):
+        points = some_points(4, 256, 0, 8)
+        path = self.put("slots", points)
+        os.chmod(path, 0o640)
+        os.symlink("slots", self.path("link"))
+        self.done("fill", 4, 256, 7, path, self.path("link"))
+        grids = self.data("slots")
+        self.assertEqual((len(grids), os.stat(path).st_mode & 0o777), (4 * 1536 * 8, 0o640))
+        self.done("empty", 4, 256, 7, self.path("link"), path)
+        self.assertTrue(self.data("slots") == points)
+        self.assertEqual(sorted(os.listdir(self.directory)), ["link", "slots"])
+        for redirected in (">>'%s'", "1<>'%s'"):
+            line = "ulimit -f 1000; '%s' fill 4 256 7 '%s' - " + redirected  # it would go on for ever
+            done = run_shell(line % (COMMAND, path, path))
+            told = (b"", b"bellpulsar: input and output are the same file\n", 2)
+            self.assertEqual((done.stdout, done.stderr, done.returncode), told)
+            self.assertTrue(self.data("slots") == points)
+
+    def test_a_slot_that_is_short(self):
+        whole, kept = some_points(0, 2048, 3, 2), b"kept"
+        for short in (1, 7679, 7680 + 8):
+            path, told = self.put("points", whole[:short]), "the last slot has %d bytes, not 7680" % (short % 7680)
+            for target in (self.put("kept", kept), self.path("new")):
+                done = asked("fill", 0, 2048, 5, "--mask", 3, path, target)
+                message = "bellpulsar: %s: %s\n" % (path, told)
+                self.assertEqual((done.stdout, done.stderr.decode(), done.returncode), (b"", message, 2))
+            self.assertEqual((self.data("kept"), sorted(os.listdir(self.directory))), (kept, ["kept", "points"]))
+            message = "bellpulsar: standard input: %s\n" % told
+            done = run_shell("'%s' fill 0 2048 5 --mask 3 - - <'%s'" % (COMMAND, path))
+            self.assertEqual((done.stdout, done.stderr.decode(), done.returncode), (b"", message, 2))
+            done = run("fill", 0, 2048, 5, "--mask", 3, "-", self.path("kept"), input=whole[:short])
+            self.assertEqual((self.data("kept"), done.stderr.decode(), done.returncode), (kept, message, 2))
+            done = run("fill", 0, 2048, 5, "--mask", 3, "-", "-", input=whole[:short])
+            self.assertEqual((done.stderr.decode(), done.returncode), (message, 2))
+            self.assertEqual(len(done.stdout), short // 7680 * 32768)
+        self.assertEqual(sorted(os.listdir(self.directory)), ["kept", "points"])
+        done = asked("empty", 0, 2048, 5, "--mask", 3, self.put("grid", bytes(32767)), self.path("new"))
+        self.assertIn(b"/grid: the last slot has 32767 bytes, not 32768\n", done.stderr)
+
+    def test_refusals(self):
+        for what in ("fill", "empty"):
+            for number, setup in (
+                (1, "7 2048 0"),
+                (2, "0 1024 0"),
+                (3, "0 2048 32 --mask 64 --slot 512"),
+                (17, "0 2048 31 --mask 64 --slot 512"),
+                (17, "ofusc 256 0 --mask 1"),
+                (4, "0 2048 31 --mask 63 --slot 512"),
+                (4, "2 256 0 --slot -1"),
+                (4, "2 256 0 --slots 513"),
+                (4, "2 256 0 --slot 511 --slots 2"),
+                (4, "2 256 0 --slots %d" % 2**64),
+            ):
+                self.refused(number, "%s %s /none/a /none/b" % (what, setup))
+            words = "slot 512 is not one of a zone's: 0 to 511"
+            self.refused(4, what + " 2 256 0 --slot 512 x y", words)
+            done = run(what, 2, 256, 0, "--slot", 512, "x", "-")  # standard output is for the slots
+            self.assertEqual((done.stdout, done.stderr.decode(), done.returncode), (b"", "refused 4: %s\n" % words, 1))
+            for words in ("--slots 0", "--slots -1", "--slots x", "--slot x", "--slots", "--mask x"):
+                self.not_understood(what, 2, 256, 0, "a", "b", *words.split())
+            for words in ("2 256 0 a", "2 256 0 a b c", "2 256 a b", "2 256 0 0 a b", "", "2 256 0 a b --csv"):
+                self.not_understood(what, *words.split())
+
+    def test_names_of_any_kind(self):
+        points = some_points(2, 256, 0, 1)
+        for name in ("-1", "-x", "--mask", "--help", " a b", "="):
+            self.put(name, points)
+            done = run("fill", 2, 256, 0, "--", name, "-2", cwd=self.directory)
+            self.assertEqual((done.stdout, done.stderr, done.returncode), (b"", b"", 0))
+            self.assertEqual(self.data("-2"), filled(2, 256, 0, 0, [0], points))
+
+    def test_what_cannot_be_read(self):
+        for what in ("fill", "empty"):
+            for target in (self.path("new"), "-"):
+                self.fails("bellpulsar: /none/in: No such file or directory\n", what, 2, 256, 0, "/none/in", target)
+                self.fails("bellpulsar: /: Is a directory\n", what, 2, 256, 0, "/", target)
+        done = run_shell("'%s' fill 2 256 0 - '%s' <&-" % (COMMAND, self.path("new")))
+        self.assertEqual((done.stderr, done.returncode), (b"bellpulsar: standard input is closed\n", 2))
+        self.assertEqual(os.listdir(self.directory), [])
+
+    def test_what_cannot_be_written(self):
+        path = self.put("points", some_points(2, 256, 0, 300))
+        setup = ("fill", 2, 256, 0, path)
+        self.fails("bellpulsar: /none/out: No such file or directory\n", *setup, "/none/out")
+        self.fails("bellpulsar: /dev/full: No space left on device\n", *setup, "/dev/full")
+        self.fails("bellpulsar: %s: Is a directory\n" % self.directory, *setup, self.directory)
+        for target, message in (("/dev/full", "No space left on device"), ("&-", "standard output is closed")):
+            done = run_shell("'%s' fill 2 256 0 '%s' - >%s" % (COMMAND, path, target))
+            self.assertEqual((done.stderr.decode(), done.returncode), ("bellpulsar: %s\n" % message, 2))
+        for kept in (None, b"kept"):
+            if kept:
+                self.put("out", kept)
+            done = run_shell("ulimit -f 8; exec '%s' fill 2 256 0 '%s' '%s'" % (COMMAND, path, self.path("out")))
+            message = "bellpulsar: %s: File too large\n" % self.path("out")
+            self.assertEqual((done.stdout, done.stderr.decode(), done.returncode), (b"", message, 2))
+            self.assertEqual(sorted(os.listdir(self.directory)), ["out", "points"] if kept else ["points"])
+        self.assertEqual(self.data("out"), kept)
+
+    def test_closed_pipe(self):
+        path = self.put("points", some_points(2, 256, 0, 300))
+        for reader in ("head -c 5", "true"):
+            done = run_shell("'%s' fill 2 256 0 '%s' - | %s" % (COMMAND, path, reader))
+            self.assertEqual((done.stderr, done.returncode), (b"", 0))
+
+    def test_a_command_that_is_ended(self):
+        """Nothing of its output stays."""
+        for number in (signal.SIGINT, signal.SIGTERM, signal.SIGHUP):
+            with talking("fill", 2, 256, 0, "-", self.path("grids")) as filling:
+                send(filling, some_points(2, 256, 0, 2))
+                while not os.listdir(self.directory) and filling.poll() is None:
+                    time.sleep(0.01)
+                self.assertRegex("".join(os.listdir(self.directory)), r"^\.bellpulsar-\d+$")
+                filling.send_signal(number)
+                self.assertEqual((filling.wait(60), filling.stderr.read()), (-number, b""))
+            self.assertEqual(os.listdir(self.directory), [])
+
+
+class Bar(Files):
+    def on_a_terminal(self, slots, pause):
+        """What a terminal is told that is standard error; the slots come in two halves."""
+        terminal, errors = pty.openpty()
+        points = some_points(2, 256, 0, slots)
+        words = [COMMAND, "fill", "2", "256", "0", "-", self.path("grids")]
+        with subprocess.Popen(words, stdin=subprocess.PIPE, stderr=errors, env=ENV) as filling:
+            os.close(errors)
+            for half in (points[: len(points) // 2], points[len(points) // 2 :]):
+                send(filling, half)
+                time.sleep(pause)
+            filling.stdin.close()
+            self.assertEqual(filling.wait(60), 0)
+        told = b""
+        with contextlib.suppress(OSError):  # the terminal's other end is closed
+            while more := os.read(terminal, 1000):
+                told += more
+        os.close(terminal)
+        self.assertEqual(os.path.getsize(self.path("grids")), 2048 * slots)
+        return told.decode()
+
+    def test_work_that_takes_long(self):
+        self.assertRegex(self.on_a_terminal(8, 0.7), r"^\r8 slots\r\x1b\[K$")
+
+    def test_work_that_is_soon_done(self):
+        self.assertEqual(self.on_a_terminal(8, 0), "")
+
+    def test_its_form(self):
+        bar = command_line.streams.Progress(1000)
+        self.assertEqual(bar.line(0), "[%s] 0 of 1000 slots" % (" " * 40))
+        self.assertEqual(bar.line(312), "[%s] 312 of 1000 slots" % ("#" * 12 + " " * 28))
+        self.assertEqual(bar.line(1000), "[%s] 1000 of 1000 slots" % ("#" * 40))
+        self.assertEqual(bar.line(1001), "1001 slots")
+
+
+# --- many requests ----------------------------------------------------------------------------
+
+
+def batch(text, *words):
+    data = text if isinstance(text, bytes) else text.encode()
+    return run("batch", *words, input=data)
+
+
+class Batch(Case):
+    LINES = (
+        "place 2 1024 17 0 0 0",
+        "place ofusc 1024 17 0 0 0",
+        "place 002 1024 17 -0 0 0",
+        "locate 2 1024 17 0 -425",
+        "locate 0 2048 31 0 -841",
+        "locate pusc-dl 2048 31 1 0",
+        "locate 0 2048 5 1 -840",
+        "collisions ofusc 2048 0 2 1010 0",
+        "collisions ofusc 512 9 3 9 4",
+        "collisions amc 48 176",
+        "plan write 1024 2,17,3,0 amc-6x1,176,1,0",
+        "owner 0 2048 5 12 3 25 0,20,0,12 20,30,0,6",
+        "owner 2 256 0 1 0 0 --list /dev/null",
+        "owner 0 2048 5 12 0 59 --mask 0b000001 0,60,0,1",
+        "place 2 1024 256 0 0 0",
+        "place 7 0 0 0 0 0",
+        "place 2 1024 17 0 0 4294967296",
+        "locate 6 2048 2351 3072 863",
+        "collisions amc 0 2352",
+        "collisions ofusc 256 15 4 -1 4",
+        "plan write 1024",
+        "owner 0 2048 5 12 0 0 0,0,0,0",
+    )
+    OBJECTS = (
+        "first 2 256 0 0 128",
+        "first 0 2048 5 3 700 --mask 1",
+        "plan read " + EXAMPLE,
+        "plan read 81 00",
+        "bursts 0 2048 5 12 0,20,0,12 20,30,0,6",
+        "owners 0 2048 5 12 3 0,20,0,12",
+    )
+
+    def test_as_the_commands(self):
+        wanted = "".join(asked(*shlex.split(line)).stdout.decode() for line in self.LINES)
+        done = batch("\n".join(self.LINES) + "\n")
+        self.assertEqual((done.stdout.decode(), done.stderr, done.returncode), (wanted, b"", 0))
+        every = self.LINES + self.OBJECTS
+        wanted = "".join(asked(*shlex.split(line), "--json").stdout.decode() for line in every)
+        done = batch("\n".join(every), "--json")
+        self.assertEqual((done.stdout.decode(), done.stderr, done.returncode), (wanted, b"", 0))
+        done = batch("\n".join(line + " --json" for line in every))
+        self.assertEqual((done.stdout.decode(), done.stderr, done.returncode), (wanted, b"", 0))
+
+    def test_many_against_the_reference(self):
+        """Fields in range and just past it. A zero in front of a number is understood by the argument parser alone."""
+        random.seed(80216)
+        lines, wanted = [], []
+        for _ in range(2000):
+            mode = random.randrange(7)
+            size, slots = ref.sizes(mode)[0], 512 * ref.SLOT_LENGTH[mode]
+            cell = random.choice([0, 1, ref.cells(mode, size) - 1, ref.cells(mode, size)])
+            setup, named = (mode, size, cell), "%s %d %d" % (random.choice([mode, MODE_NAMES[mode]]), size, cell)
+            point = random.randrange(ref.subchannels(mode, size) + 1), random.randrange(49)
+            slot = random.choice([0, 1, 511, 512])
+            refused, *answer = ref.place(*setup, slot, *point)
+            lines.append("place %s %d %d %d" % (named, slot, *point))
+            wanted.append("refused %d" % refused if refused else "symbol %d carrier %d" % tuple(answer))
+            at = random.choice([0, 1, slots - 1, slots]), random.randrange(-size // 2 - 1, size // 2 + 1)
+            refused, *answer = ref.locate(*setup, *at)
+            lines.append("locate %s %d %d" % (named, *at))
+            wanted.append("refused %d" % refused if refused else located(answer[0]))
+        done = batch("\n".join(lines))
+        self.assertEqual([answer.partition(":")[0] for answer in done.stdout.decode().splitlines()], wanted)
+        odd = [" ".join([*line.split()[:2], "0" + line.split(" ", 2)[2]]) for line in lines[:300]]
+        self.assertEqual(batch("\n".join(odd)).stdout.splitlines(), done.stdout.splitlines()[:300])
+
+    def test_answers_before_the_end(self):
+        """One who writes a line and waits for its answer has it, and needs no newline at the end."""
+        with talking("batch") as asking:
+            for index in (0, 1, 48, 2):
+                line = "place 2 1024 17 0 0 %d" % index
+                send(asking, line[:9].encode(), line[9:].encode(), b"\n")
+                self.assertEqual(asking.stdout.readline(), asked(*line.split()).stdout)
+            asking.stdin.write(b"collisions amc 48 176")
+            asking.stdin.close()
+            self.assertEqual((asking.stdout.read(), asking.wait(60)), (b"count 3 indices 8 24 32\n", 0))
+
+    def test_lines_without_a_request(self):
+        text = "\n# of a bench\n  \t\r\nplace 2 1024 17 0 0 0 # the first\r\n\n\tplace  2 1024\t17 0 0 0#x\n#"
+        done = batch(text)
+        self.assertEqual((done.stdout, done.stderr, done.returncode), (b"symbol 0 carrier -425\n" * 2, b"", 0))
+        for text in ("", "\n", "#", "\n\n\n"):
+            done = batch(text)
+            self.assertEqual((done.stdout, done.stderr, done.returncode), (b"", b"", 0))
+
+    def test_lines_that_are_not_understood(self):
+        several = "the answer has more than one line, where it is not a JSON object"
+        form = "MODE,CELL,SLOTS,MASK"
+        told = {
+            "place 2 1024 17 0 0": "the following arguments are required: INDEX",
+            "place 2 1024 17 0 0 0 0": "unrecognized arguments: 0",
+            "place 2 1024 17 0 0 x": "argument INDEX: 'x' is not a number",
+            "place 2 ofusc 17 0 0 0": "argument SIZE: 'ofusc' is not a number",
+            "place 2 1024 17 0 0 1_0": "argument INDEX: '1_0' is not a number",
+            "place 2 1024 17 0 0 +1": "argument INDEX: '+1' is not a number",
+            "plan write 1024 2,17,3": "argument %s: '2,17,3' is not a zone: %s is needed" % (form, form),
+            "owner 2 256 0 1 0 0 --list -": "- is standard input, which has the requests",
+            "owner 2 256 0 1 0 0 --list=-": "- is standard input, which has the requests",
+            "owner 2 256 0 1 0 0 --list /none": "/none: No such file or directory",
+            "show 2 256 0 0": "'show' is no request of a batch",
+            "picture slot 2 256 0 0": "'picture' is no request of a batch",
+            "table 2 256 0 0 --json": "'table' is no request of a batch",
+            "fill 2 256 0 a b": "'fill' is no request of a batch",
+            "batch": "'batch' is no request of a batch",
+            "place --help": "'place --help' is no request of a batch",
+            "-h": "'-h' is no request of a batch",
+            "--version": "'--version' is no request of a batch",
+            **dict.fromkeys(("plan read 02", "bursts 2 256 0 1 0,1,0,1", "first 2 256 0 0 0"), several),
+            **dict.fromkeys(("nothing", "collisions", "collisions 48 176", "bellpulsar place 2 1024 17 0 0 0")),
+        }
+        good = "place 2 1024 17 0 0 0"
+        done = batch("".join("%s\n\n%s\n" % (good, line) for line in told))
+        rows = done.stdout.decode().splitlines()
+        self.assertEqual(rows[::2], ["symbol 0 carrier -425"] * len(told))
+        for row, (line, why) in zip(rows[1::2], told.items()):
+            self.assertEqual(row if why else row[:7], "error: " + (why or ""), line)
+        end = "bellpulsar: %d of %d requests not understood, the first on line 3\n" % (len(told), 2 * len(told))
+        self.assertEqual((done.stderr.decode(), done.returncode), (end, 2))
+        done = batch("x\n" + good, "--json")
+        first, second = map(json.loads, done.stdout.splitlines())
+        self.assertEqual((list(first), second, done.returncode), (["error"], {"symbol": 0, "carrier": -425}, 2))
+
+    def test_odd_bytes(self):
+        place = b"place 2 1024 17 0 0 "
+        for data in (b"\0" + place + b"0", place + b"\0000", place + b"\xff", b"\xe9", b"\0"):
+            done = batch(data + b"\nplace 2 1024 17 0 0 0\n")
+            self.assertRegex(done.stdout, rb"^error: [^\0]+\nsymbol 0 carrier -425\n$")
+            self.assertEqual(done.returncode, 2)
+        done = run_shell("'%s' batch </dev/zero" % COMMAND)
+        told = b"bellpulsar: standard input: a line has more than 1048576 bytes\n"
+        self.assertEqual((done.stdout, done.stderr, done.returncode), (b"", told, 2))
+
+    def test_what_cannot_be_read_or_written(self):
+        for stream, message in (
+            ("<&-", "standard input is closed"),
+            (">/dev/full", "No space left on device"),
+            (">&-", "standard output is closed"),
+        ):
+            done = run_shell("echo place 2 1024 17 0 0 0 | '%s' batch %s" % (COMMAND, stream))
+            self.assertEqual((done.stdout, done.returncode), (b"", 2))
+            self.assertEqual(done.stderr.decode(), "bellpulsar: %s\n" % message)
+        done = run_shell("yes place 2 1024 17 0 0 0 | '%s' batch | head -1" % COMMAND)
+        self.assertEqual((done.stdout, done.stderr, done.returncode), (b"symbol 0 carrier -425\n", b"", 0))
+        self.not_understood("batch", "x")
+        self.not_understood("batch", "--csv")
+
+
 # --- usage ------------------------------------------------------------------------------------
 
-COMMANDS = "place|locate|first|collisions ofusc|collisions amc|plan read|plan write|bursts|owner|owners|show"
+COMMANDS = "place|locate|table|first|fill|empty|batch|collisions ofusc|collisions amc|plan read|plan write|bursts"
+COMMANDS += "|owner|owners|show"
 COMMANDS += "|picture slot|picture zone|picture subchannel"
 OF_BURSTS = ("bursts", "owner", "owners", "picture zone")
+MASKED = ("first", "fill", "empty", "show", "picture slot", *OF_BURSTS)
 
 
 class Usage(Case):
     def test_help(self):
         text = run("--help").stdout.decode()
-        for word in "place locate first collisions plan bursts owner owners show picture refused".split():
-            self.assertIn(word, text)
+        for name in COMMANDS.split("|"):
+            self.assertRegex(text, r"\n    %s\s" % name.split()[0])
         for words in ("PUSC downlink", "PUSC uplink", "optional FUSC", "AMC 6x1", "256 512 1024 2048", "0..2351"):
             self.assertIn(words, text)
+
+    def test_version(self):
+        with open(os.path.join(ROOT, "include", "bellpulsar.h")) as file:
+            parts = re.findall(r"^#define BP_VERSION(?:_MINOR|_PATCH)? (\d+)$", file.read(), re.MULTILINE)
+        self.assertEqual(len(parts), 3)
+        told = "bellpulsar %s\n" % ".".join(parts)
+        self.prints("--version", told, env=dict(ENV, BELLPULSAR_LIBRARY="/none"))
+        for target in ("/dev/full", "&-"):
+            done = run_shell("'%s' --version >%s" % (COMMAND, target))
+            self.assertEqual(done.returncode, 2)
+            self.assertRegex(done.stderr, b"^bellpulsar: .*\n$")
+        self.not_understood("place", "--version")
 
     def test_masks_of_the_help(self):
         first, last = ref.masks(0)[0], ref.masks(0)[-1]
@@ -1076,14 +1741,14 @@ class Usage(Case):
         self.assertIn("%s and %s." % (", ".join(told[:-1]), told[-1]), command_line.RANGES.replace("\n", " "))
         for name in COMMANDS.split("|"):
             text = asked(*name.split(), "--help").stdout.decode()
-            self.assertEqual("--mask MASK" in text, name in ("first", "show", "picture slot", *OF_BURSTS), name)
+            self.assertEqual("--mask MASK" in text, name in MASKED, name)
             self.assertEqual("--list FILE" in text, name in OF_BURSTS, name)
             self.assertEqual("[BURST ...]" in text, name in OF_BURSTS, name)
             self.assertEqual("MODE,CELL,SLOTS,MASK" in text, name == "plan write", name)
             self.assertEqual("--carriers CARRIERS" in text, name == "picture slot", name)
 
     def test_ranges_of_the_help(self):
-        row = r"^  (\d)  ([\w ]+?)  +([\d ]+?)  +0\.\.(\S+) +0\.\.(\S+) +(\d)$"
+        row = r"^  (\d) [\w-]+ +([\w ]+?)  +([\d ]+?)  +0\.\.(\S+) +0\.\.(\S+) +(\d)$"
         rows = re.findall(row, command_line.RANGES, re.MULTILINE)
         self.assertEqual([int(row[0]) for row in rows], list(range(7)))
         for row in rows:
@@ -1099,11 +1764,11 @@ class Usage(Case):
             done = asked(*name.split(), "--help")
             self.assertEqual((done.stderr, done.returncode), (b"", 0))
             self.assertTrue(done.stdout.startswith(b"usage: bellpulsar %s" % name.encode()), name)
-            self.assertIn(b"example:\n  ./bellpulsar %s" % name.encode(), done.stdout)
+            self.assertRegex(done.stdout, b"example:\n  (printf .*)?bellpulsar %s" % name.encode())
         for name in ("collisions", "plan", "picture"):
             done = asked(name, "--help")
             self.assertEqual((done.stderr, done.returncode), (b"", 0))
-            self.assertIn(b"./bellpulsar %s WHAT --help" % name.encode(), done.stdout)
+            self.assertIn(b"\nbellpulsar %s WHAT --help" % name.encode(), done.stdout)
 
     def test_examples_of_the_help(self):
         """Each example that has its output below it prints that."""
@@ -1112,7 +1777,9 @@ class Usage(Case):
             text = asked(*name.split(), "--help").stdout.decode().split("example:\n")[1].split("\n\n")[0]
             line, *output = [part.strip() for part in text.splitlines()]
             if output:
-                self.prints(line.removeprefix("./bellpulsar "), "".join(part + "\n" for part in output))
+                done = run_shell(line.replace("bellpulsar", "'%s'" % COMMAND))
+                told = "".join(part + "\n" for part in output)
+                self.assertEqual((done.stdout.decode(), done.stderr, done.returncode), (told, b"", 0), line)
                 tried += 1
         self.assertGreaterEqual(tried, 10)
 

@@ -1,9 +1,11 @@
 """What the command line prints: a function for each command, from its arguments to text."""
 
-import sys
+import itertools
+import json
 
 import bellpulsar
 from bellpulsar import Kind, picture
+from bellpulsar.files import start_of
 from bellpulsar.refusals import POINTS, carriers_of
 from bellpulsar.rows import NOT_YET, arrived, check_picked, is_unlit, lit_subchannels, runs, subchannels_of, symbol_row
 
@@ -14,73 +16,104 @@ def lines(*texts):
     return "".join(text + "\n" for text in texts)
 
 
+def as_json(**fields):
+    """An object on one line."""
+    return json.dumps(fields) + "\n"
+
+
+def refused(refusal, is_json):
+    return as_json(refused=refusal.number, words=refusal.words) if is_json else lines(str(refusal))
+
+
+def not_understood(told, is_json):
+    """Of a batch, where it takes the answer's place."""
+    return as_json(error=told) if is_json else lines("error: %s" % told)
+
+
+# The forms of those that are asked for most: json.dumps would take as long as all the rest.
+PLACE = "symbol %d carrier %d\n", '{"symbol": %d, "carrier": %d}\n'
+DATA = "data slot %d subchannel %d index %d\n", '{"kind": "data", "slot": %d, "subchannel": %d, "index": %d}\n'
+OTHER = "%s\n", '{"kind": "%s"}\n'
+
+
 def place(options):
     answer = bellpulsar.place(
         options.mode, options.size, options.cell, options.slot, options.subchannel, options.index
     )
-    return lines("symbol %d carrier %d" % answer)
+    return PLACE[options.json] % answer
 
 
 def locate(options):
     answer = bellpulsar.locate(options.mode, options.size, options.cell, options.symbol, options.carrier)
     if answer.kind is Kind.DATA:
-        return lines("data slot %d subchannel %d index %d" % answer[1:])
-    return lines(answer.kind.value)
+        return DATA[options.json] % answer[1:]
+    return OTHER[options.json] % answer.kind.value
 
 
-# --- a capture --------------------------------------------------------------------------------
+# --- a slot -----------------------------------------------------------------------------------
+
+POINT = ("subchannel", "index", "symbol", "carrier")  # of which a table has a line
+TEXT_POINT = " ".join(name + " %d" for name in POINT)
+JSON_POINT = "{%s}" % ", ".join('"%s": %%d' % name for name in POINT)
+CSV_POINT = ",".join("%d" for _ in POINT)
+
+
+def table(options):
+    slot = (options.mode, options.size, options.cell, options.slot)
+    bellpulsar.place(*slot, 0, 0)  # refusals 1, 2, 3, 4
+    form = CSV_POINT if options.csv else JSON_POINT if options.json else TEXT_POINT
+    every = itertools.product(range(subchannels_of(options.mode, options.size)), range(POINTS))
+    points = (form % (*point, *bellpulsar.place(*slot, *point)) for point in every)
+    return lines(*([",".join(POINT)] if options.csv else []), *points)
 
 
 def first(options):
     slot, mask = (options.mode, options.size, options.cell, options.slot), options.mask
     there = [place != NOT_YET for place in arrived(*slot, options.carriers, mask)]
-    text = ""
-    for rank, subchannel in enumerate(lit_subchannels(*slot, mask)):
-        own = there[POINTS * rank : POINTS * (rank + 1)]
-        text += lines("subchannel %d points %d of %d" % (subchannel, sum(own), POINTS))
-    return text + lines("points %d of %d" % (sum(there), len(there)))
+    lit = lit_subchannels(*slot, mask)
+    counts = [sum(there[POINTS * rank : POINTS * (rank + 1)]) for rank in range(len(lit))]
+    if options.json:
+        each = [{"subchannel": own, "points": count, "of": POINTS} for own, count in zip(lit, counts)]
+        return as_json(subchannels=each, points=sum(there), of=len(there))
+    each = ["subchannel %d points %d of %d" % (own, count, POINTS) for own, count in zip(lit, counts)]
+    return lines(*each, "points %d of %d" % (sum(there), len(there)))
 
 
 # --- collisions -------------------------------------------------------------------------------
 
 
-def hits_text(answer, what):
-    hits = [str(number) for number, hit in enumerate(answer.hits) if hit]
-    return lines(" ".join(["count", str(answer.count), what] + (hits or ["none"])))
+def hits_text(options, answer, what):
+    hits = list(itertools.compress(itertools.count(), answer.hits))
+    if options.json:
+        return as_json(count=answer.count, **{what: hits})
+    return "count %d %s %s\n" % (answer.count, what, " ".join(map(str, hits)) or "none")
 
 
 def ofusc_collisions(options):
     answer = bellpulsar.ofusc_collisions(
         options.size, options.cell_a, options.subchannel_a, options.cell_b, options.subchannel_b
     )
-    return hits_text(answer, "groups")
+    return hits_text(options, answer, "groups")
 
 
 def amc_collisions(options):
-    return hits_text(bellpulsar.amc_collisions(options.cell_a, options.cell_b), "indices")
+    return hits_text(options, bellpulsar.amc_collisions(options.cell_a, options.cell_b), "indices")
 
 
 # --- plans ------------------------------------------------------------------------------------
 
 
-def start_of(path, limit):
-    """Of a file, or of standard input where its name is -, at most so many bytes."""
-    if path == "-":
-        if sys.stdin is None:
-            raise OSError("standard input is closed")
-        return sys.stdin.buffer.read(limit)
-    with open(path, "rb") as file:
-        return file.read(limit)
-
-
 def plan_read(options):
     data = b"".join(options.words) if options.file is None else start_of(options.file, PLAN_LIMIT)
     plan = bellpulsar.plan_read(data)
+    if options.json:
+        return as_json(size=plan.size, zones=[zone._asdict() for zone in plan.zones])
     return lines("size %d" % plan.size, *("mode %d cell %d slots %d mask %d" % zone for zone in plan.zones))
 
 
 def plan_write(options):
-    return lines(bellpulsar.plan_bytes(options.size, options.zones).hex(" ").upper())
+    data = bellpulsar.plan_bytes(options.size, options.zones).hex(" ").upper()
+    return as_json(bytes=data) if options.json else lines(data)
 
 
 # --- bursts -----------------------------------------------------------------------------------
@@ -100,15 +133,25 @@ def from_to(first, count):
     return "%d to %d" % (first, first + count - 1)
 
 
+def taken(burst):
+    return burst.subchannels * burst.slots
+
+
+def burst_line(position, burst):
+    sides = (from_to(burst.subchannel, burst.subchannels), from_to(burst.slot, burst.slots))
+    return "burst %d subchannels %s slots %s takes %d" % (position, *sides, taken(burst))
+
+
 def bursts(options):
     zone, every = zone_of(options), listed(options)
     bellpulsar.bursts_check(*zone, every, mask=options.mask)
-    text, taken, whole = "", 0, subchannels_of(options.mode, options.size) * options.slots
-    for position, (subchannel, subchannels, slot, slots) in enumerate(every):
-        sides = (from_to(subchannel, subchannels), from_to(slot, slots))
-        text += lines("burst %d subchannels %s slots %s takes %d" % (position, *sides, subchannels * slots))
-        taken += subchannels * slots
-    return text + lines("bursts %d take %d of %d free %d" % (len(every), taken, whole, whole - taken))
+    whole = subchannels_of(options.mode, options.size) * options.slots
+    total = sum(map(taken, every))
+    if options.json:
+        each = [{**burst._asdict(), "takes": taken(burst)} for burst in every]
+        return as_json(bursts=each, take=total, of=whole, free=whole - total)
+    last = "bursts %d take %d of %d free %d" % (len(every), total, whole, whole - total)
+    return lines(*itertools.starmap(burst_line, enumerate(every)), last)
 
 
 def owned_by(burst):
@@ -118,12 +161,16 @@ def owned_by(burst):
 def owner(options):
     at = (options.slot, options.subchannel)
     answer = bellpulsar.burst_owner(*zone_of(options), *at, listed(options), mask=options.mask)
+    if options.json:
+        return as_json(**answer._asdict())
     return lines("%s looked %d" % (owned_by(answer.burst), answer.looked))
 
 
 def owners(options):
     row = bellpulsar.burst_owners(*zone_of(options), options.slot, listed(options), mask=options.mask)
     own = row[: subchannels_of(options.mode, options.size)]
+    if options.json:
+        return as_json(owners=own)
     return lines(*("subchannels %s %s" % (from_to(first, count), owned_by(burst)) for burst, first, count in runs(own)))
 
 

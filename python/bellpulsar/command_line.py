@@ -4,33 +4,49 @@
 """
 
 import argparse
-import contextlib
-import errno
+import functools
 import itertools
 import os
 import re
-import shutil
 import signal
 import subprocess
 import sys
 import traceback
 
-from bellpulsar import Burst, Refusal, answers, library
+from bellpulsar import Refusal, answers, batch, library, streams
+from bellpulsar.files import STANDARD, put, reason_of, tell
+from bellpulsar.version import __version__
+from bellpulsar.words import (
+    SHIELD,
+    NotUnderstood,
+    burst,
+    burst_list,
+    cells,
+    count,
+    hex_word,
+    mask,
+    mode,
+    number,
+    path,
+    pilot,
+    some,
+    zone,
+)
 
 ANSWERED, REFUSED, FAILED = 0, 1, 2
 
 RANGES = """\
 modes and their ranges (N is SIZE / 64):
-  MODE                SIZE                  CELL      SUBCHANNEL  symbols a slot
-  0  PUSC downlink    2048                  0..31     0..59       2
-  1  PUSC uplink      2048                  0..69     0..69       3
-  2  optional FUSC    256 512 1024 2048     0..N*N-1  0..N-1      1
-  3  AMC 6x1          256 512 1024 2048     0..2351   0..N-1      1
-  4  AMC 2x3          256 512 1024 2048     0..2351   0..3*N-1    3
-  5  AMC 3x2          256 512 1024 2048     0..2351   0..2*N-1    2
-  6  AMC 1x6          256 512 1024 2048     0..2351   0..6*N-1    6
+  MODE                        SIZE                  CELL      SUBCHANNEL  symbols a slot
+  0 pusc-dl  PUSC downlink    2048                  0..31     0..59       2
+  1 pusc-ul  PUSC uplink      2048                  0..69     0..69       3
+  2 ofusc    optional FUSC    256 512 1024 2048     0..N*N-1  0..N-1      1
+  3 amc-6x1  AMC 6x1          256 512 1024 2048     0..2351   0..N-1      1
+  4 amc-2x3  AMC 2x3          256 512 1024 2048     0..2351   0..3*N-1    3
+  5 amc-3x2  AMC 3x2          256 512 1024 2048     0..2351   0..2*N-1    2
+  6 amc-1x6  AMC 1x6          256 512 1024 2048     0..2351   0..6*N-1    6
 
-SIZE is the FFT size, CELL the permutation base. SLOT is 0..511, INDEX 0..47.
+MODE is given by its number or its name. SIZE is the FFT size, CELL the permutation base. SLOT is 0..511, INDEX 0..47.
 CARRIER is -SIZE/2..SIZE/2-1, by rising frequency, with DC at 0.
 CARRIERS, of first and picture slot, is how many of a slot's carriers have arrived, symbol after symbol, each by rising
 carrier, with guards, DC and pilots: 0 or more, and more than the slot has means all of them.
@@ -38,16 +54,16 @@ SLOTS, of bursts, owner, owners and picture zone, is how many slots the zone has
 zone, so never 1.
 SYMBOL counts in the zone: slot times symbols a slot, plus the offset in the slot.
 AMC has four slot shapes, bins x symbols; a bin is nine carriers in a row, of which one is a pilot.
-MASK, of first, show, picture slot, all commands with bursts and a plan's zones, says which major groups of mode 0 are
-lit: 1..63, bit g for group g. Groups 0 to 5 have the subchannels 0..11, 12..19, 20..31, 32..39, 40..51 and 52..59.
-In the other modes all is lit and MASK is 0.
+MASK, of first, fill, empty, show, picture slot, all commands with bursts and a plan's zones, says which major groups of
+mode 0 are lit: 1..63, bit g for group g. Groups 0 to 5 have the subchannels 0..11, 12..19, 20..31, 32..39, 40..51 and
+52..59. In the other modes all is lit and MASK is 0.
 Any number may be given (of CARRIERS, any that is not negative): the engine refuses what is out of range."""
 
 PLAN_RULES = """\
 A plan has a SIZE (256, 512, 1024 or 2048) and one to eight zones, each of MODE 0 or 2 to 6, a CELL of that mode, 1 to
 512 SLOTS and a MASK of that mode. At 2048 the first zone is mode 0, with any of its cells. After a zone of AMC (modes 3
 to 6) come zones of AMC only, of any shape.
-./bellpulsar --help has the modes, their cells and their masks."""
+bellpulsar --help has the modes, their cells and their masks."""
 
 BURST_RULES = (
     """\
@@ -60,9 +76,33 @@ In a file for --list a burst is a line, its numbers apart by commas or blanks; #
     + RANGES
 )
 
+STREAM_RULES = (
+    """\
+Both files are raw complex 32-bit floats, in-phase first, in the byte order of this machine, as SDR tools write them;
+- is standard input or output. A slot's points are those of its lit subchannels, rising, 48 each by index. A slot's grid
+is its symbols one after the other, each SIZE points by rising carrier.
+The slots of a frame follow one another, COUNT of them from FIRST on; then comes the next frame, from FIRST on again. No
+bytes are no slots. An input that ends within a slot is an error, which says how many bytes the last slot has and how
+many it should have; a file is told so before anything is written.
+OUTPUT is written whole or left as it was, and may be INPUT itself; a pipe, a device and standard output have each slot
+as soon as it is done. Where OUTPUT is -, a refusal is told on standard error.
+Where standard error is a terminal, work that takes long shows there how far it is.
+
+"""
+    + RANGES
+)
+
+BATCH_RULES = """\
+A line is a request, as the words of a command without bellpulsar: place, locate, collisions, plan write or owner; with
+--json also first, plan read, bursts and owners. Words are apart by blanks; # starts a comment, and a line without words
+has no answer. What has arrived is answered before more is read.
+The answer is what the command prints. A refusal is an answer too: "refused", its number and its words. A line that is
+not understood is answered by "error:" and why; then the others follow, and at the end the exit status is 2, else 0.
+bellpulsar --help has the modes and their ranges."""
+
 OVERVIEW = """\
 Where IEEE 802.16e OFDMA puts each point of a slot, and what belongs on a carrier, from an engine that is proved.
-The first use proves and builds the engine, in about two minutes."""
+In a clone, the first use proves and builds the engine, in about two minutes."""
 
 OVERVIEW_END = (
     RANGES
@@ -71,24 +111,29 @@ OVERVIEW_END = (
 A request that cannot be met prints "refused", the number of the first question that is answered no, the value given
 and what would be accepted; exit status 1.
 What is not understood, read, written or built is told on standard error; exit status 2.
+With --json, an answer is a JSON object on one line, whose fields the command's own help names, and a refusal is
+{"refused": NUMBER, "words": TEXT}.
 
 examples:
-  ./bellpulsar place 2 1024 17 0 0 0
-  ./bellpulsar locate 0 2048 5 1 -840
-  ./bellpulsar first 3 256 176 0 100
-  ./bellpulsar collisions ofusc 2048 0 2 1010 0
-  ./bellpulsar plan read 02 80 08 02 11 03 00 03 B0 01 01 00
-  ./bellpulsar owner 0 2048 5 12 3 25 0,20,0,12 20,30,0,6
-  ./bellpulsar show 2 1024 17 0 --subchannel 3
-  ./bellpulsar picture slot 0 2048 5 3 --mask 0b000011 --output slot.svg
-  ./bellpulsar place --help"""
+  bellpulsar place ofusc 1024 17 0 0 0
+  bellpulsar locate 0 2048 5 1 -840 --json
+  bellpulsar table amc-2x3 256 176 1 --csv
+  bellpulsar first 3 256 176 0 100
+  bellpulsar collisions ofusc 2048 0 2 1010 0
+  bellpulsar fill pusc-dl 2048 5 points.cf32 grids.cf32
+  bellpulsar batch <requests.txt >answers.txt
+  bellpulsar plan read 02 80 08 02 11 03 00 03 B0 01 01 00
+  bellpulsar owner 0 2048 5 12 3 25 0,20,0,12 20,30,0,6
+  bellpulsar show 2 1024 17 0 --subchannel 3
+  bellpulsar picture slot 0 2048 5 3 --mask 0b000011 --output slot.svg
+  bellpulsar place --help"""
 )
 
 
 # --- arguments --------------------------------------------------------------------------------
 
 FIELDS = {
-    "mode": "0 PUSC downlink, 1 PUSC uplink, 2 optional FUSC, 3 to 6 AMC 6x1, 2x3, 3x2, 1x6",
+    "mode": "0 PUSC downlink, 1 PUSC uplink, 2 optional FUSC, 3 to 6 AMC 6x1, 2x3, 3x2, 1x6, or its name",
     "size": "the FFT size",
     "cell": "the permutation base",
     "cells": "one or more cells",
@@ -106,86 +151,12 @@ FIELDS = {
 }
 
 
-# No argument can have it: before a word, it keeps the argument parser from taking -1 or -1,0,1 for an option.
-SHIELD = "\0"
-
-
-def number(text):
-    """A decimal number of any size; what lies far out becomes some number out of every range."""
-    text = text.removeprefix(SHIELD)
-    if not re.fullmatch("-?[0-9]+", text):
-        raise argparse.ArgumentTypeError("%r is not a number" % text)
-    digits = text.lstrip("-").lstrip("0") or "0"
-    value = int(digits) if len(digits) <= 20 else 10**20
-    return -value if "-" in text else value
-
-
-def count(text):
-    """A number that is not negative, of any size."""
-    value = number(text)
-    if value < 0:
-        raise argparse.ArgumentTypeError("%r is not a count" % text.removeprefix(SHIELD))
-    return value
-
-
-def mask(text):
-    """A number, which may also be in base sixteen or two, after 0x or 0b."""
-    digits = text.removeprefix(SHIELD)
-    return int(digits, 0) if re.fullmatch("0[xX][0-9A-Fa-f]+|0[bB][01]+", digits) else number(text)
-
-
-def parted(text, name, form, between=","):
-    """The four parts of a word or a line."""
-    parts = re.split(between, text)
-    if len(parts) != 4:
-        raise argparse.ArgumentTypeError("%r is not a %s: %s is needed" % (text, name, form))
-    return parts
-
-
-def zone(text):
-    *fields, lit = parted(text.removeprefix(SHIELD), "zone", "MODE,CELL,SLOTS,MASK")
-    return (*map(number, fields), mask(lit))
-
-
-def burst(text, between=","):
-    parts = parted(text.removeprefix(SHIELD), "burst", "SUBCHANNEL,SUBCHANNELS,SLOT,SLOTS", between)
-    return Burst(*map(number, parts))
-
-
-LIST_LIMIT = 2**20  # bytes: far more than 64 bursts need
-
-
-def burst_list(path):
-    """The bursts of a file, one on each line that has more than blanks and a comment."""
-    data = answers.start_of(path, LIST_LIMIT + 1)
-    if len(data) > LIST_LIMIT:
-        raise argparse.ArgumentTypeError("%s has more than %d bytes" % (path, LIST_LIMIT))
-    text, bursts = data.decode("utf-8-sig", "replace").replace(SHIELD, "\ufffd"), []
-    for at, line in enumerate(text.split("\n"), 1):
-        line = line.partition("#")[0].strip(" \t\r")
-        try:
-            bursts += [burst(line, "[ \t]*,[ \t]*|[ \t]+")] if line else []
-        except argparse.ArgumentTypeError as error:
-            raise argparse.ArgumentTypeError("%s, line %d: %s" % (path, at, error)) from None
-    return bursts
-
-
-def cells(text):
-    return [number(part) for part in text.removeprefix(SHIELD).split(",")]
-
-
-def hex_word(text):
-    text = text.removeprefix(SHIELD)
-    if not re.fullmatch("([0-9A-Fa-f]{2})*", text):
-        raise argparse.ArgumentTypeError("%r is not bytes in hex, two digits each" % text)
-    return bytes.fromhex(text)
-
-
 # Of fields that are not any one number.
-KINDS = {"cells": (cells, "CELL[,CELL..]"), "carriers": (count, "CARRIERS")}
+KINDS = {"mode": (mode, "MODE"), "cells": (cells, "CELL[,CELL..]"), "carriers": (count, "CARRIERS")}
 
-# Options that take the next word, whatever it looks like.
-VALUED = ("--carriers", "--file", "--list", "--mask", "--output", "--subchannel")
+# Options that take the next word, whatever it looks like, and those that take none.
+VALUED = ("--carriers", "--file", "--list", "--mask", "--output", "--pilot", "--slot", "--slots", "--subchannel")
+PLAIN = ("--csv", "--json")
 
 
 def shielded(arguments):
@@ -204,12 +175,12 @@ def shielded(arguments):
     return words
 
 
-def has_value(word):
-    return word.partition("=")[0] in VALUED
+def is_option(word):
+    return word.partition("=")[0] in VALUED or word in PLAIN
 
 
 class Parser(argparse.ArgumentParser):
-    """Tells what it has to tell by `put` and `tell`, so that no failure is taken for an answer."""
+    """Tells what it has to tell by `put`, or raises NotUnderstood, so that no failure is taken for an answer."""
 
     def __init__(self, **settings):
         formatter = argparse.RawDescriptionHelpFormatter
@@ -217,16 +188,21 @@ class Parser(argparse.ArgumentParser):
 
     def parse_known_args(self, args=None, namespace=None):
         """Of a command's own arguments, options go last: words of which there may be any number must stand together."""
-        own = sorted(args, key=has_value) if self.get_default("answer") else args
+        own = sorted(args, key=is_option) if self.get_default("answer") else args
         return super().parse_known_args(own, namespace)
 
     def print_help(self, file=None):
-        put(self.format_help(), None)
+        put(self.format_help())
 
     def error(self, message):
         message = message.replace(SHIELD, "").replace(repr(SHIELD)[1:-1], "")
-        tell("%s%s: error: %s\n" % (self.format_usage(), self.prog, message))
-        sys.exit(FAILED)
+        raise NotUnderstood(message, "%s%s" % (self.format_usage(), self.prog))
+
+
+class Version(argparse.Action):
+    def __call__(self, parser, *_):
+        put("bellpulsar %s\n" % __version__)
+        parser.exit()
 
 
 def sentence(summary):
@@ -234,14 +210,14 @@ def sentence(summary):
 
 
 def command(commands, name, answer, summary, example, fields, notes=RANGES):
-    """A command whose fields are numbers, or of KINDS; `answer` names its function in answers.py."""
+    """A command whose fields are numbers, or of KINDS; `answer` is the function that has its text."""
     parser = commands.add_parser(
         name,
         help=summary,
         description=sentence(summary),
         epilog="example:\n" + example + "\n\n" + notes,
     )
-    parser.set_defaults(answer=answer, output=None, either=None)
+    parser.set_defaults(answer=answer, output=None, target=None, either=None, json=False, batch=None)
     for field in fields:
         kind, name = KINDS.get(field, (number, field.upper()))
         parser.add_argument(field, type=kind, metavar=name, help=FIELDS[field])
@@ -250,31 +226,57 @@ def command(commands, name, answer, summary, example, fields, notes=RANGES):
 
 def branch(commands, name, summary):
     """A command that has commands of its own."""
-    more = "./bellpulsar %s WHAT --help says how." % name
+    more = "bellpulsar %s WHAT --help says how." % name
     parser = commands.add_parser(name, help=summary, description=sentence(summary), epilog=more)
     return parser.add_subparsers(required=True, metavar="WHAT", dest=name)
 
 
+# Which answers a batch may have, since they are one line each.
+AS_TEXT, AS_JSON = "text", "json"
+
+
+def add_json(parser, fields, batch=AS_TEXT):
+    parser.add_argument("--json", action="store_true", help="print a JSON object on one line: " + fields)
+    parser.set_defaults(batch=batch)
+
+
 def add_map(commands):
-    fields = ["mode", "size", "cell", "slot", "subchannel", "index"]
-    example = "  ./bellpulsar place 2 1024 17 0 0 0\n  symbol 0 carrier -425"
-    command(commands, "place", "place", "the symbol and carrier of a point", example, fields)
-    fields = ["mode", "size", "cell", "symbol", "carrier"]
-    example = "  ./bellpulsar locate 2 1024 17 0 -425\n  data slot 0 subchannel 0 index 0"
+    example = "  bellpulsar place 2 1024 17 0 0 0\n  symbol 0 carrier -425"
+    summary = "the symbol and carrier of a point"
+    asking = command(commands, "place", answers.place, summary, example, batch.FIELDS["place"])
+    add_json(asking, "symbol, carrier")
+    example = "  bellpulsar locate 2 1024 17 0 -425\n  data slot 0 subchannel 0 index 0"
     example += "\n\nprints guard, DC, pilot, or data with its slot, subchannel and index"
-    command(commands, "locate", "locate", "what belongs on a carrier in a symbol of the zone", example, fields)
+    summary = "what belongs on a carrier in a symbol of the zone"
+    asking = command(commands, "locate", answers.locate, summary, example, batch.FIELDS["locate"])
+    add_json(asking, "kind (guard, DC, pilot, data), and of data slot, subchannel, index")
+
+
+def add_table(commands):
+    example = """\
+  bellpulsar table 2 1024 17 0
+
+prints a line for each point, by subchannel and index: the first is "subchannel 0 index 0 symbol 0 carrier -425\""""
+    summary = "the symbol and carrier of every point of a slot"
+    asking = command(commands, "table", answers.table, summary, example, ["mode", "size", "cell", "slot"])
+    forms = asking.add_mutually_exclusive_group()
+    told = "print comma-separated values: a line of names, then the numbers of a point a line"
+    forms.add_argument("--csv", action="store_true", help=told)
+    told = "print a JSON object a line, for each point: subchannel, index, symbol, carrier"
+    forms.add_argument("--json", action="store_true", help=told)
 
 
 def add_collisions(commands):
     kinds = branch(commands, "collisions", "where two cells put points on one carrier")
-    example = "  ./bellpulsar collisions ofusc 2048 0 2 1010 0\n  count 4 groups 0 1 31 32"
+    example = "  bellpulsar collisions ofusc 2048 0 2 1010 0\n  count 4 groups 0 1 31 32"
     example += "\n\nA group is one of the 48 runs of N data numbers in a symbol."
-    fields = ["size", "cell_a", "subchannel_a", "cell_b", "subchannel_b"]
+    fields = batch.FIELDS["collisions ofusc"]
     summary = "optional FUSC: the groups in which two subchannels are on one carrier"
-    command(kinds, "ofusc", "ofusc_collisions", summary, example, fields)
-    example = "  ./bellpulsar collisions amc 48 176\n  count 3 indices 8 24 32"
+    add_json(command(kinds, "ofusc", answers.ofusc_collisions, summary, example, fields), "count, groups")
+    example = "  bellpulsar collisions amc 48 176\n  count 3 indices 8 24 32"
     summary = "AMC: the indices that two cells put on one carrier, in every slot shape and subchannel"
-    command(kinds, "amc", "amc_collisions", summary, example, ["cell_a", "cell_b"])
+    fields = batch.FIELDS["collisions amc"]
+    add_json(command(kinds, "amc", answers.amc_collisions, summary, example, fields), "count, indices")
 
 
 def add_source(parser, words, option, told, **settings):
@@ -286,21 +288,24 @@ def add_source(parser, words, option, told, **settings):
 def add_plans(commands):
     kinds = branch(commands, "plan", "zone plans and their bytes")
     example = """\
-  ./bellpulsar plan read 02 80 08 02 11 03 00 03 B0 01 01 00
+  bellpulsar plan read 02 80 08 02 11 03 00 03 B0 01 01 00
   size 1024
   mode 2 cell 17 slots 3 mask 0
   mode 3 cell 176 slots 1 mask 0"""
     summary = "the size and the zones of a plan, a line each"
-    reading = command(kinds, "read", "plan_read", summary, example, [], PLAN_RULES)
+    reading = command(kinds, "read", answers.plan_read, summary, example, [], PLAN_RULES)
     reading.add_argument("words", nargs="*", type=hex_word, metavar="HEX", help="the plan's bytes, two hex digits each")
     told = "give the bytes either as HEX words or by --file"
     taken = "take the bytes from this file, as they are; - is standard input"
     add_source(reading, "words", "file", told, help=taken)
-    example = "  ./bellpulsar plan write 2048 0,5,12,0x3F 3,176,1,0\n  02 80 10 00 05 0C 3F 03 B0 01 01 00"
+    add_json(reading, "size, zones; of each zone mode, cell, slots, mask", AS_JSON)
+    example = "  bellpulsar plan write 2048 0,5,12,0x3F 3,176,1,0\n  02 80 10 00 05 0C 3F 03 B0 01 01 00"
     example += "\n\nMASK may also be in base sixteen or two, as 0x3F or 0b111111."
-    writing = command(kinds, "write", "plan_write", "the bytes of a plan, in hex", example, ["size"], PLAN_RULES)
+    summary = "the bytes of a plan, in hex"
+    writing = command(kinds, "write", answers.plan_write, summary, example, ["size"], PLAN_RULES)
     name = "MODE,CELL,SLOTS,MASK"
     writing.add_argument("zones", nargs="*", type=zone, metavar=name, help="a zone, one to eight of them")
+    add_json(writing, "bytes (in hex)")
 
 
 def add_mask(parser):
@@ -310,7 +315,7 @@ def add_mask(parser):
 
 def add_first(commands):
     example = """\
-  ./bellpulsar first 3 256 176 0 100
+  bellpulsar first 3 256 176 0 100
   subchannel 0 points 48 of 48
   subchannel 1 points 23 of 48
   subchannel 2 points 0 of 48
@@ -319,7 +324,45 @@ def add_first(commands):
 
 Each lit subchannel has a line, and the last line is their sum."""
     summary = "which points have arrived when the first carriers of a slot have"
-    add_mask(command(commands, "first", "first", summary, example, ["mode", "size", "cell", "slot", "carriers"]))
+    fields = ["mode", "size", "cell", "slot", "carriers"]
+    asking = command(commands, "first", answers.first, summary, example, fields)
+    add_mask(asking)
+    add_json(asking, "subchannels (of each subchannel, points, of), points, of", AS_JSON)
+
+
+def add_stream(parser, source, target):
+    """What fill and empty may be told, and their files."""
+    parser.add_argument("source", type=path, metavar="INPUT", help="the file with the %s" % source)
+    parser.add_argument("target", type=path, metavar="OUTPUT", help="the file for the %s" % target)
+    first = "the number of the first slot (default 0)"
+    parser.add_argument("--slot", type=number, default=0, metavar="FIRST", help=first)
+    told = "how many slots a frame has, from FIRST on (default: all up to slot 511)"
+    parser.add_argument("--slots", type=some, metavar="COUNT", help=told)
+    add_mask(parser)
+
+
+def add_streams(commands):
+    setup = ["mode", "size", "cell"]
+    example = "  bellpulsar fill pusc-dl 2048 5 points.cf32 grids.cf32 --mask 0b000011 --pilot 1.333,0"
+    summary = "fill points into grids, slot after slot, from file to file"
+    filling = command(commands, "fill", streams.fill, summary, example, setup, STREAM_RULES)
+    add_stream(filling, "points", "grids")
+    point = "the point for every lit pilot (default 1,0)"
+    filling.add_argument("--pilot", type=pilot, default="1,0", metavar="I,Q", help=point)
+    example = "  bellpulsar empty amc-2x3 256 176 - - --slots 12 <grids.cf32 >points.cf32"
+    summary = "take the points off grids, slot after slot, from file to file"
+    add_stream(command(commands, "empty", streams.empty, summary, example, setup, STREAM_RULES), "grids", "points")
+
+
+def add_batch(commands):
+    example = """\
+  printf 'place 2 1024 17 0 0 0\\nlocate ofusc 1024 17 0 -425\\n' | bellpulsar batch
+  symbol 0 carrier -425
+  data slot 0 subchannel 0 index 0"""
+    summary = "answer requests, a line each, from standard input"
+    asking = command(commands, "batch", batch_answers, summary, example, [], BATCH_RULES)
+    told = "print every answer as a JSON object; of a line that is not understood: error"
+    asking.add_argument("--json", action="store_true", help=told)
 
 
 def add_bursts(parser):
@@ -334,28 +377,36 @@ def add_bursts(parser):
 def add_owners(commands):
     zone = ["mode", "size", "cell", "slots"]
     example = """\
-  ./bellpulsar bursts 0 2048 5 12 0,20,0,12 20,30,0,6
+  bellpulsar bursts 0 2048 5 12 0,20,0,12 20,30,0,6
   burst 0 subchannels 0 to 19 slots 0 to 11 takes 240
   burst 1 subchannels 20 to 49 slots 0 to 5 takes 180
   bursts 2 take 420 of 720 free 300
 
 A burst takes its subchannels times its slots, and the zone has all of its own."""
     summary = "whether a list of bursts is fit for its zone, and how much of it they take"
-    add_bursts(command(commands, "bursts", "bursts", summary, example, zone, BURST_RULES))
+    asking = command(commands, "bursts", answers.bursts, summary, example, zone, BURST_RULES)
+    add_bursts(asking)
+    each = "bursts (of each subchannel, subchannels, slot, slots, takes), take, of, free"
+    add_json(asking, each, AS_JSON)
     example = """\
-  ./bellpulsar owner 0 2048 5 12 3 25 0,20,0,12 20,30,0,6
+  bellpulsar owner 0 2048 5 12 3 25 0,20,0,12 20,30,0,6
   burst 1 looked 2
 
 prints the burst's position, or none, and how many bursts were looked at to find it"""
     summary = "the burst that a subchannel in a slot belongs to"
-    add_bursts(command(commands, "owner", "owner", summary, example, [*zone, "slot", "subchannel"], BURST_RULES))
+    fields = [*zone, "slot", "subchannel"]
+    asking = command(commands, "owner", answers.owner, summary, example, fields, BURST_RULES)
+    add_bursts(asking)
+    add_json(asking, "burst (null where there is none), looked")
     example = """\
-  ./bellpulsar owners 0 2048 5 12 3 0,20,0,12 20,30,0,6
+  bellpulsar owners 0 2048 5 12 3 0,20,0,12 20,30,0,6
   subchannels 0 to 19 burst 0
   subchannels 20 to 49 burst 1
   subchannels 50 to 59 burst none"""
     summary = "the bursts that all subchannels of one slot belong to"
-    add_bursts(command(commands, "owners", "owners", summary, example, [*zone, "slot"], BURST_RULES))
+    asking = command(commands, "owners", answers.owners, summary, example, [*zone, "slot"], BURST_RULES)
+    add_bursts(asking)
+    add_json(asking, "owners (of every subchannel its burst, or null)", AS_JSON)
 
 
 def add_picks(drawing):
@@ -366,11 +417,11 @@ def add_picks(drawing):
 
 def add_show(commands):
     example = """\
-  ./bellpulsar show 2 256 0 0 --subchannel 1
+  bellpulsar show 2 256 0 0 --subchannel 1
 
 A row has 64 carriers, each a character; the number at the left is that of the row's first carrier."""
     summary = "a symbol of a zone as text, a character a carrier"
-    add_picks(command(commands, "show", "show", summary, example, ["mode", "size", "cell", "symbol"]))
+    add_picks(command(commands, "show", answers.show, summary, example, ["mode", "size", "cell", "symbol"]))
 
 
 def add_output(drawing):
@@ -379,29 +430,46 @@ def add_output(drawing):
 
 def add_pictures(commands):
     kinds = branch(commands, "picture", "SVG pictures")
-    example = "  ./bellpulsar picture slot 0 2048 5 3 --mask 0b000011 --output slot.svg"
+    example = "  bellpulsar picture slot 0 2048 5 3 --mask 0b000011 --output slot.svg"
     summary = "a slot: carriers along x, symbols along y, a colour for each subchannel, hatched where unlit"
-    drawing = command(kinds, "slot", "slot_picture", summary, example, ["mode", "size", "cell", "slot"])
+    drawing = command(kinds, "slot", answers.slot_picture, summary, example, ["mode", "size", "cell", "slot"])
     add_picks(drawing)
     pale = "draw the points pale that have not arrived when so many of the slot's carriers have"
     drawing.add_argument("--carriers", type=count, help=pale)
     add_output(drawing)
-    example = "  ./bellpulsar picture zone 0 2048 5 12 0,20,0,12 20,30,0,6 --output zone.svg"
+    example = "  bellpulsar picture zone 0 2048 5 12 0,20,0,12 20,30,0,6 --output zone.svg"
     example += "\n\nA burst has its number in it where there is room; all are in the legend."
     summary = "a zone: slots along x, subchannels along y, a colour for each burst, white where it is free"
-    drawing = command(kinds, "zone", "zone_picture", summary, example, ["mode", "size", "cell", "slots"], BURST_RULES)
+    fields = ["mode", "size", "cell", "slots"]
+    drawing = command(kinds, "zone", answers.zone_picture, summary, example, fields, BURST_RULES)
     add_bursts(drawing)
     add_output(drawing)
-    example = "  ./bellpulsar picture subchannel 0 2048 0,1,31 0 1 --output subchannel.svg"
+    example = "  bellpulsar picture subchannel 0 2048 0,1,31 0 1 --output subchannel.svg"
     summary = "a subchannel's points: carriers along x, indices along y, a panel for each cell"
     fields = ["mode", "size", "cells", "slot", "subchannel"]
-    add_output(command(kinds, "subchannel", "subchannel_picture", summary, example, fields))
+    add_output(command(kinds, "subchannel", answers.subchannel_picture, summary, example, fields))
 
 
+ADDING = (
+    add_map,
+    add_table,
+    add_first,
+    add_streams,
+    add_batch,
+    add_collisions,
+    add_plans,
+    add_owners,
+    add_show,
+    add_pictures,
+)
+
+
+@functools.cache
 def argument_parser():
     parser = Parser(prog="bellpulsar", description=OVERVIEW, epilog=OVERVIEW_END)
+    parser.add_argument("--version", action=Version, nargs=0, help="print the version and end")
     commands = parser.add_subparsers(required=True, metavar="COMMAND", dest="command")
-    for add in (add_map, add_first, add_collisions, add_plans, add_owners, add_show, add_pictures):
+    for add in ADDING:
         add(commands)
     return parser
 
@@ -421,54 +489,31 @@ def read_arguments(arguments):
 def answer_to(options):
     """(exit status, text)."""
     try:
-        return ANSWERED, getattr(answers, options.answer)(options)
-    except Refusal as refused:
-        return REFUSED, "%s\n" % refused
+        return ANSWERED, options.answer(options)
+    except Refusal as refusal:
+        return REFUSED, answers.refused(refusal, options.json)
 
 
-def write_file(text, path):
-    """The whole file, or what stood there before."""
-    real = os.path.realpath(path)
-    there = os.path.exists(real)
-    if there and not os.path.isfile(real):
-        with open(real, "w", encoding="ascii") as file:  # a device or a pipe
-            file.write(text)
-        return
-    if there and not os.access(real, os.W_OK):
-        raise OSError(errno.EACCES, os.strerror(errno.EACCES))
-    part = os.path.join(os.path.dirname(real), ".bellpulsar-%d" % os.getpid())
-    try:
-        with open(part, "w", encoding="ascii") as file:
-            file.write(text)
-        if there:
-            shutil.copymode(real, part)
-        os.replace(part, real)
-    except OSError:
-        with contextlib.suppress(OSError):
-            os.remove(part)
-        raise
+NO_REQUEST = ("-h", "--help", "--version")
 
 
-def put(text, path):
-    """To a file, or to standard output where there is none or its name is -."""
-    if path not in (None, "-"):
-        try:
-            return write_file(text, path)
-        except OSError as error:
-            raise OSError(error.errno, error.strerror, path) from None
-    if sys.stdout is None:
-        raise OSError("standard output is closed")
-    sys.stdout.write(text)
-    sys.stdout.flush()
+def read_request(words, is_json):
+    """The options of a line of a batch, whose answer must be a line as well."""
+    if any(word == STANDARD or word.endswith("=" + STANDARD) for word in words):
+        raise NotUnderstood("- is standard input, which has the requests")
+    if any(word.startswith(NO_REQUEST) for word in words):
+        raise NotUnderstood("%r is no request of a batch" % " ".join(words))
+    options = read_arguments(words)
+    options.json = options.json or is_json
+    if options.batch == AS_JSON and not options.json:
+        raise NotUnderstood("the answer has more than one line, where it is not a JSON object")
+    if options.batch is None:
+        raise NotUnderstood("%r is no request of a batch" % words[0])
+    return options
 
 
-def tell(text):
-    """On standard error, if it can be written at all."""
-    signal.signal(signal.SIGPIPE, signal.SIG_IGN)
-    with contextlib.suppress(OSError):
-        if sys.stderr is not None:
-            sys.stderr.write(text)
-            sys.stderr.flush()
+def batch_answers(options):
+    return batch.answer_all(options.json, lambda words: read_request(words, options.json), answer_to)
 
 
 def main(arguments):
@@ -477,13 +522,18 @@ def main(arguments):
         options = read_arguments(arguments)
         library.build()
         status, text = answer_to(options)
-        put(text, options.output if status == ANSWERED else None)
+        if status == REFUSED and options.target == STANDARD:
+            tell(text)
+        elif text:
+            put(text, options.output if status == ANSWERED and options.output else STANDARD)
         return status
+    except NotUnderstood as error:
+        tell("%s: error: %s\n" % (error.usage, error))
+        return FAILED
     except subprocess.CalledProcessError:
         message = "the engine could not be built"
     except OSError as error:
-        reason = error.strerror or str(error)
-        message = "%s: %s" % (error.filename, reason) if error.filename else reason
+        message = reason_of(error)
     except ImportError as error:
         message = str(error)
     tell("bellpulsar: %s\n" % message)
