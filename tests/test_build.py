@@ -395,7 +395,7 @@ class Building(Case):
         with open(self.path("crates", "plan_vectors", "stdout"), "w"):
             pass
         words = {"CC": "env mine", "CFLAGS": "-g -DA=1", "LDFLAGS": "-Wl,-z,now"}
-        for script, compiled in (("tests/capi/run.sh", 6), ("bench/run.sh", 1)):
+        for script, compiled in (("tests/capi/run.sh", 6), ("bench/run.sh", 2)):
             done = self.run_in_tree("sh", script, **words)
             self.assertEqual(done.returncode, 0, done.stderr)
             with open(self.path("words")) as file:

@@ -579,7 +579,7 @@ def _collisions(call: Any, fields: Dict[str, Int], **mode: Int) -> Collisions:
     refused = call(*numbers(*fields.values()), hits, count)
     if refused:
         raise _refusal(refused, **fields, **mode)
-    return Collisions(tuple(hit != 0 for hit in hits), count.value)
+    return Collisions(tuple(map(bool, bytes(hits))), count.value)
 
 
 def ofusc_collisions(size: Int, cell_a: Int, subchannel_a: Int, cell_b: Int, subchannel_b: Int) -> Collisions:

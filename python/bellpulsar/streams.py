@@ -62,8 +62,8 @@ class Block:
     """Some places, as many as there are of slots 0, 1 and 2, with their points and their grids."""
 
     def __init__(self, options):
-        mode, size, cell, mask = options.mode, options.size, options.cell, options.mask
-        mask = mask if mask is not None else bellpulsar.ALL_GROUPS if mode == bellpulsar.PUSC_DL else 0
+        mode, size, cell = options.mode, options.size, options.cell
+        mask = bellpulsar._mask(mode, options.mask)
         grid_len = bellpulsar.grid_len(mode, size)
         self.places = LIKES * max(1, BLOCK // (LIKES * FLOAT.bytes * grid_len))
         self.slots = [[uint.from_param(field) for field in (mode, size, cell, mask, slot)] for slot in range(LIKES)]

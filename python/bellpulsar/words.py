@@ -4,15 +4,14 @@ import argparse
 import math
 import re
 
-from bellpulsar import Burst
+from bellpulsar import Burst, Mode
 from bellpulsar.buffers import pilot_point
 from bellpulsar.files import start_of
 
 # No argument can have it: before a word, it keeps the argument parser from taking -1 or -1,0,1 for an option.
 SHIELD = "\0"
 
-# By number.
-MODES = ("pusc-dl", "pusc-ul", "ofusc", "amc-6x1", "amc-2x3", "amc-3x2", "amc-1x6")
+MODES = [mode.word for mode in Mode]  # by number
 
 
 class NotUnderstood(Exception):
