@@ -20,7 +20,7 @@ ENV = dict(os.environ, BELLPULSAR_LIBRARY=os.path.join(ROOT, "build", "link", "l
 
 ROUNDS = 9
 SLOTS = 1000  # that a time is for
-FRAME = 500  # slots: the 1,000 are two frames
+FRAME = 500  # slots
 WRITTEN = 2**26  # bytes of grids: where 1,000 slots have less, more of them are filled, so that there is enough to time
 REQUESTS = 200000
 
@@ -155,10 +155,11 @@ def time_batch(bench):
 
 def measure(bench):
     print(
-        "\nThe command line's fill of %d slots from file to file, as two frames, and C over the library that does the\n"
-        "same: ms of processor time without the start-up, which is what no slots take. Best of %d rounds.\n\n"
+        "\nThe command line's fill from a file to a file, by standard input and output, and C over the library that does\n"
+        "the same: ms of processor time for %d slots, of as many thousands as write %d MB, in frames of %d. The start-up,\n"
+        "which is what no slots take, is not in it. Best of %d rounds.\n\n"
         "| fill                   |        C |  command | ratio | start-up |\n"
-        "|------------------------|---------:|---------:|------:|---------:|" % (SLOTS, ROUNDS)
+        "|------------------------|---------:|---------:|------:|---------:|" % (SLOTS, WRITTEN >> 20, FRAME, ROUNDS)
     )
     for setup in SETUPS:
         time_fill(bench, setup)

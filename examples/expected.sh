@@ -5,8 +5,8 @@
 #
 #     sh examples/expected.sh PREFIX
 #
-# PREFIX and the example's name make the command: "build/" runs build/point, "build/rust_example " runs
-# build/rust_example with point as its first argument.
+# PREFIX and the example's name make the command: "build/" runs build/point, "build/cargo/release/example " runs that
+# program with point as its first argument.
 set -eu
 prefix=$1
 

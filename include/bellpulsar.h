@@ -167,8 +167,8 @@ uint32_t bp_locate(uint32_t mode, uint32_t size, uint32_t cell, uint32_t symbol,
  *
  * Written where it is accepted: all of places, places[index] being offset * size + size / 2 + carrier for the symbol's offset in
  * the slot and the carrier where bp_place puts the point; so its floats are at 2 * places[index] of the grid and the one after.
- * A table serves every slot whose pilots are on the same carriers: all slots in modes 0, 1, 4 and 6, those that agree mod 3
- * in modes 2, 3 and 5.
+ * A table serves every slot of its cell whose pilots are on the same carriers: all slots in modes 0, 1, 4 and 6, those that
+ * agree mod 3 in modes 2, 3 and 5. Another cell has another table.
  * Refusals, in this order: 1 mode, 2 size, 3 cell, 4 slot, 5 subchannel. */
 uint32_t bp_places(uint32_t mode, uint32_t size, uint32_t cell, uint32_t slot, uint32_t subchannel, uint32_t places[48]);
 

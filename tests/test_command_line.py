@@ -102,6 +102,12 @@ class Case(unittest.TestCase):
         done = run(*arguments, **options)
         self.assertEqual((done.stdout, done.stderr.decode(), done.returncode), (b"", message, 2))
 
+    def ends_silently(self, line):
+        """Of a command whose reader has gone before it writes: the signal of a closed pipe ends it."""
+        with tempfile.NamedTemporaryFile() as file:
+            done = run_shell("{ sleep 0.1; '%s' %s; echo $? >'%s'; } | true" % (COMMAND, line, file.name))
+            self.assertEqual((done.stderr, file.read()), (b"", b"%d\n" % (128 + signal.SIGPIPE)), line)
+
 
 # --- answers ----------------------------------------------------------------------------------
 
@@ -1431,8 +1437,9 @@ class Streams(Files):
             self.assertEqual((done.stderr.decode(), done.returncode), (message, 2))
             self.assertEqual(len(done.stdout), short // 7680 * 32768)
         self.assertEqual(sorted(os.listdir(self.directory)), ["kept", "points"])
-        done = asked("empty", 0, 2048, 5, "--mask", 3, self.put("grid", bytes(32767)), self.path("new"))
-        self.assertIn(b"/grid: the last slot has 32767 bytes, not 32768\n", done.stderr)
+        path = self.put("grid", bytes(32767))
+        told = "bellpulsar: %s: the last slot has 32767 bytes, not 32768\n" % path
+        self.fails(told, "empty", 0, 2048, 5, "--mask", 3, path, self.path("new"))
 
     def test_refusals(self):
         for what in ("fill", "empty"):
@@ -1457,6 +1464,7 @@ class Streams(Files):
                 self.not_understood(what, 2, 256, 0, "a", "b", *words.split())
             for words in ("2 256 0 a", "2 256 0 a b c", "2 256 a b", "2 256 0 0 a b", "", "2 256 0 a b --csv"):
                 self.not_understood(what, *words.split())
+            self.not_understood(what, "amc", 256, 0, "a", "b")
 
     def test_names_of_any_kind(self):
         points = some_points(2, 256, 0, 1)
@@ -1476,14 +1484,15 @@ class Streams(Files):
         self.assertEqual(os.listdir(self.directory), [])
 
     def test_what_cannot_be_written(self):
-        path = self.put("points", some_points(2, 256, 0, 300))
-        setup = ("fill", 2, 256, 0, path)
-        self.fails("bellpulsar: /none/out: No such file or directory\n", *setup, "/none/out")
-        self.fails("bellpulsar: /dev/full: No space left on device\n", *setup, "/dev/full")
-        self.fails("bellpulsar: %s: Is a directory\n" % self.directory, *setup, self.directory)
-        for target, message in (("/dev/full", "No space left on device"), ("&-", "standard output is closed")):
-            done = run_shell("'%s' fill 2 256 0 '%s' - >%s" % (COMMAND, path, target))
-            self.assertEqual((done.stderr.decode(), done.returncode), ("bellpulsar: %s\n" % message, 2))
+        path = self.put("points", some_points(2, 256, 0, 1024))  # as many bytes as 768 grids: either is read from it
+        for what in ("fill", "empty"):
+            setup = (what, 2, 256, 0, path)
+            self.fails("bellpulsar: /none/out: No such file or directory\n", *setup, "/none/out")
+            self.fails("bellpulsar: /dev/full: No space left on device\n", *setup, "/dev/full")
+            self.fails("bellpulsar: %s: Is a directory\n" % self.directory, *setup, self.directory)
+            for target, message in (("/dev/full", "No space left on device"), ("&-", "standard output is closed")):
+                done = run_shell("'%s' %s 2 256 0 '%s' - >%s" % (COMMAND, what, path, target))
+                self.assertEqual((done.stderr.decode(), done.returncode), ("bellpulsar: %s\n" % message, 2))
         for kept in (None, b"kept"):
             if kept:
                 self.put("out", kept)
@@ -1494,10 +1503,11 @@ class Streams(Files):
         self.assertEqual(self.data("out"), kept)
 
     def test_closed_pipe(self):
-        path = self.put("points", some_points(2, 256, 0, 300))
-        for reader in ("head -c 5", "true"):
-            done = run_shell("'%s' fill 2 256 0 '%s' - | %s" % (COMMAND, path, reader))
-            self.assertEqual((done.stderr, done.returncode), (b"", 0))
+        path = self.put("points", some_points(2, 256, 0, 1024))
+        for what in ("fill", "empty"):
+            self.ends_silently("%s 2 256 0 '%s' -" % (what, path))
+            done = run_shell("'%s' %s 2 256 0 '%s' - | head -c 5" % (COMMAND, what, path))
+            self.assertEqual((len(done.stdout), done.stderr), (5, b""))
 
     def test_a_command_that_is_ended(self):
         """Nothing of its output stays."""
@@ -1699,7 +1709,11 @@ class Batch(Case):
             self.assertEqual((done.stdout, done.returncode), (b"", 2))
             self.assertEqual(done.stderr.decode(), "bellpulsar: %s\n" % message)
         done = run_shell("yes place 2 1024 17 0 0 0 | '%s' batch | head -1" % COMMAND)
-        self.assertEqual((done.stdout, done.stderr, done.returncode), (b"symbol 0 carrier -425\n", b"", 0))
+        self.assertEqual((done.stdout, done.stderr), (b"symbol 0 carrier -425\n", b""))
+        with tempfile.NamedTemporaryFile() as file:
+            file.write(b"place 2 1024 17 0 0 0\n")
+            file.flush()
+            self.ends_silently("batch <'%s'" % file.name)
         self.not_understood("batch", "x")
         self.not_understood("batch", "--csv")
 
@@ -1895,17 +1909,16 @@ class Failures(Case):
 
     def test_standard_output_that_is_full_or_closed(self):
         for target, message in (("/dev/full", "No space left on device"), ("&-", "standard output is closed")):
-            for words in ("place 2 1024 17 0 0 0", "picture slot 2 256 0 0"):
+            for words in ("place 2 1024 17 0 0 0", "table 2 256 0 0", "picture slot 2 256 0 0"):
                 line = "'%s' %s >%s" % (COMMAND, words, target)
                 done = run_shell(line)
                 self.assertEqual((done.stderr.decode(), done.returncode), ("bellpulsar: %s\n" % message, 2))
 
     def test_closed_pipe(self):
-        for words in ("show 0 2048 0 0", "picture slot 0 2048 5 3", "place 2 1024 17 0 0 0"):
-            for reader in ("head -1", "true", "sleep 0"):
-                line = "'%s' %s | %s" % (COMMAND, words, reader)
-                done = run_shell(line)
-                self.assertEqual((done.stderr, done.returncode), (b"", 0), line)
+        for words in ("show 0 2048 0 0", "picture slot 0 2048 5 3", "table 0 2048 5 3", "place 2 1024 17 0 0 0"):
+            self.ends_silently(words)
+            done = run_shell("'%s' %s | head -c 5" % (COMMAND, words))
+            self.assertEqual((len(done.stdout), done.stderr), (5, b""), words)
 
     def test_no_library(self):
         done = run("place", 2, 1024, 17, 0, 0, 0, env=dict(ENV, BELLPULSAR_LIBRARY="/none"))

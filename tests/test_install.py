@@ -354,7 +354,6 @@ class Programs(Case):
         self.prints(ANSWER, [program])
 
     @needs_pkg_config
-    @unittest.skipUnless(os.path.isdir(os.path.join(ROOT, "rust")), "the tree has no Rust crate")
     @unittest.skipUnless(shutil.which("cargo"), "cargo is missing")
     def test_rust(self):
         shutil.copytree(os.path.join(AWAY, "rust"), os.path.join(self.folder, "rust"))

@@ -396,8 +396,8 @@ def places(mode: Int, size: Int, cell: Int, slot: Int, subchannel: Int) -> Row:
 
     A place counts points: it is offset * size + size // 2 + carrier, for the symbol's offset in the slot. So the floats
     of its point are at 2 * place and the one after; in an array of complex numbers the point is at place.
-    The row serves every slot whose pilots are on the same carriers: all slots in modes 0, 1, 4 and 6, those that agree
-    mod 3 in modes 2, 3 and 5.
+    The row serves every slot of its cell whose pilots are on the same carriers: all slots in modes 0, 1, 4 and 6, those
+    that agree mod 3 in modes 2, 3 and 5.
     """
     row = array("I", bytes(ctypes.sizeof(Places)))
     refused = engine.bp_places(*numbers(mode, size, cell, slot, subchannel), Places.from_buffer(row))

@@ -22,8 +22,8 @@ points that `empty` gives, and what is assigned there is laid, at the speed of m
     >>> numpy.array_equal(arrays.empty(Mode.OFUSC, 1024, 17, 0, grid), 2 * points)
     True
 
-It serves every slot whose pilots are on the same carriers: all slots in modes 0, 1, 4 and 6, those that agree mod 3 in
-modes 2, 3 and 5. Here it takes the lit points of all twelve slots of a zone at once:
+It serves every slot of its cell whose pilots are on the same carriers: all slots in modes 0, 1, 4 and 6, those that
+agree mod 3 in modes 2, 3 and 5. Here it takes the lit points of all twelve slots of a zone at once:
 
     >>> zone = numpy.zeros((12, 2, 2048), numpy.complex64)
     >>> places = arrays.slot_places(Mode.PUSC_DL, 2048, 5, 0, mask=0b000011)

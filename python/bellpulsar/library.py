@@ -89,9 +89,8 @@ def _path(is_current: bool) -> str:
     named = _named()
     path = named or _own()
     if not os.path.exists(path):
-        raise ImportError(
-            "no Bellpulsar library at %s: run ./build.sh, or name the library in BELLPULSAR_LIBRARY" % path
-        )
+        mend = "run ./build.sh" if os.path.exists(BUILDER) else "install it again"
+        raise ImportError("no Bellpulsar library at %s: %s, or name the library in BELLPULSAR_LIBRARY" % (path, mend))
     if not named and path == BUILT and not is_current and _is_old():
         raise ImportError("%s is old: the engine's source has changed since it was built; run ./build.sh" % path)
     return path

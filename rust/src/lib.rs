@@ -18,7 +18,7 @@
 //! # Ok::<(), Refusal>(())
 //! ```
 //!
-//! A program names the crate in its `Cargo.toml`. Its edition may be 2021 or 2024, with rustc 1.82 or later:
+//! A program names the crate in its `Cargo.toml`. Its edition may be 2021, with rustc 1.82 or later, or 2024, with 1.85:
 //!
 //! ```toml
 //! [dependencies]

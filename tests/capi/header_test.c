@@ -311,7 +311,8 @@ static int bursts_are_right(void)
 int main(void)
 {
     if (version_is_right() && map_is_right() && places_are_right() && shapes_are_right() && ground_is_right() &&
-        grid_is_right() && arrival_is_right() && sector_is_right() && refusals_are_right() && collisions_are_right() && plan_is_right() && bursts_are_right())
+        grid_is_right() && arrival_is_right() && sector_is_right() && refusals_are_right() && collisions_are_right() &&
+        plan_is_right() && bursts_are_right())
         return 0;
     puts("a call through the header gave a wrong answer");
     return 1;
