@@ -1,7 +1,10 @@
 -- THE LAW OF THE PLACES, from the questions of a row and from where a point stands in the grid.
 use mathlib.Core.Path.{_≡_, refl, sym, ap, _∙_}
 use mathlib.Core.List.{List}
-use Prim.Native.Nat.{ℕ, _+_, _*_, _%_, _<_}
+use mathlib.Core.Logic.{_⊎_, ⊎-elim}
+use Prim.Native.Nat.{ℕ, _+_, _*_, _/_, _%_, _<_}
+use native.Mathlib.Nat.{add-assoc, add-mul, mul-assoc, mul-right-comm, div-add-mod', mul-add-mod-self-right}
+use native.Mathlib.Omega.{arith}
 use lib.Arith.{digits-mod}
 use lib.ListN.{length}
 use lib.Ieee.{Float}
@@ -9,8 +12,10 @@ use borrow.Author.Tests.{lt-ltb, ltb-true, eq-eqb}
 use Rattle.base.specs.Answer.{Answer, accepted, refused, refusalOf}
 use Rattle.base.specs.Steps.{entry}
 use Rattle.base.proofs.Chain.{numbered, no-question, question, number-yes, number-is}
-use Rattle.base.proofs.Tabulate.{length-tabulate, entry-of}
+use Rattle.base.specs.Tabulate.{tabulate}
+use Rattle.base.proofs.Tabulate.{length-tabulate, getD-tabulate, tabulated, entry-of}
 use Rattle.carriers.specs.Band.{carrierOf}
+use Rattle.carriers.specs.Bin.{binPilotPlace, usedOfData}
 use Rattle.map.specs.declared.Setup.{Setup}
 use Rattle.map.specs.Mode.{subchannels, symbols, band, spotOf}
 use Rattle.map.specs.Question.{isMode, isSize, isCell, isSlot, isSubchannel, isIndex}
@@ -40,6 +45,22 @@ long-of : (place : ℕ → ℕ) (answer : Answer (Unit {0})) → length (placeRo
 long-of place (accepted tt) = length-tabulate 48 place
 long-of place (refused k) = length-tabulate 48 _
 
+same-row : (f g : ℕ → ℕ) → ((m : ℕ) → f m ≡ g m) → (answer : Answer (Unit {0})) → placeRow f answer ≡ placeRow g answer
+same-row f g e (accepted tt) = ap (λ (x : List ℕ). record { refusal = 0; places = x }) (tabulated 0 (tabulate 48 f) 48 g (length-tabulate 48 f) (λ m h. getD-tabulate 48 f m 0 h ∙ e m))
+same-row f g e (refused k) = refl
+
+-- the number of a symbol mod 3, by its slot mod 3, and where a slot has three or six
+mod-3 : (a k o : ℕ) → (a * k + o) % 3 ≡ (a % 3 * k + o) % 3
+mod-3 a k o = ap (λ (x : ℕ). (x * k + o) % 3) (sym (div-add-mod' a 3)) ∙ ap (λ (x : ℕ). x % 3) parts ∙ mul-add-mod-self-right (a / 3 * k) 3 (a % 3 * k + o)
+  where
+    parts : (a / 3 * 3 + a % 3) * k + o ≡ a / 3 * k * 3 + (a % 3 * k + o)
+    parts = rw (add-mul (a / 3 * 3) (a % 3) k, mul-right-comm (a / 3) 3 k) (add-assoc _ _ _)
+
+by-threes : (a k o : ℕ) → k % 3 ≡ 0 → (a * k + o) % 3 ≡ o % 3
+by-threes a k o z =
+    let threes : k ≡ k / 3 * 3 = omega arith in
+    ap (λ (x : ℕ). (a * x + o) % 3) threes ∙ ap (λ (x : ℕ). (x + o) % 3) (sym (mul-assoc a (k / 3) 3)) ∙ mul-add-mod-self-right (a * (k / 3)) 3 o
+
 module _ (setup : Setup) (slot s : ℕ) where
   abbrev asked : Answer (Unit {0})
   asked = askPlaces setup slot s (accepted tt)
@@ -63,6 +84,32 @@ module _ (setup : Setup) (slot s : ℕ) where
   unfolding placeOf isIndex
   refused-alike index h =
       rw (lt-ltb index 48 h) (row-number ∙ sym (ap refusalOf (asked-before (accepted (placeAt setup slot (spotOf setup slot s index)))) ∙ number-is _ _))
+
+  -- in another slot of whose symbols the pilots are at the same places
+  module _ (other : ℕ) (hs : slot < 512) (ho : other < 512) where
+    same-asked : asked ≡ askPlaces setup other s (accepted tt)
+    unfolding isSlot
+    same-asked = rw (lt-ltb slot 512 hs, lt-ltb other 512 ho)
+
+    same-places : ((m : ℕ) → standsAt setup slot s m ≡ standsAt setup other s m) → placesOf setup slot s ≡ placesOf setup other s
+    unfolding placesOf
+    same-places e = ap (placeRow (standsAt setup slot s)) same-asked ∙ same-row (standsAt setup slot s) (standsAt setup other s) e (askPlaces setup other s (accepted tt))
+
+    by-pilots : ((o : ℕ) → (slot * symbols setup + o) % 3 ≡ (other * symbols setup + o) % 3) → placesOf setup slot s ≡ placesOf setup other s
+    unfolding standsAt spotOf usedOfData binPilotPlace
+    by-pilots e = same-places (λ m. simp e)
+
+    same-mod-3 : slot % 3 ≡ other % 3 → placesOf setup slot s ≡ placesOf setup other s
+    same-mod-3 e = by-pilots (λ o. mod-3 slot (symbols setup) o ∙ ap (λ (r : ℕ). (r * symbols setup + o) % 3) e ∙ sym (mod-3 other (symbols setup) o))
+
+    in-every-slot : setup .mode ≡ 0 → (m : ℕ) → standsAt setup slot s m ≡ standsAt setup other s m
+    unfolding standsAt spotOf
+    in-every-slot z m = rw z
+
+    same-always : (setup .mode ≡ 0) ⊎ (symbols setup % 3 ≡ 0) → placesOf setup slot s ≡ placesOf setup other s
+    same-always h =
+        ⊎-elim (λ z. same-places (in-every-slot z))
+        (λ z. by-pilots (λ o. by-threes slot (symbols setup) o z ∙ sym (by-threes other (symbols setup) o z))) h
 
   module _ (v : Valid setup) (hs : slot < 512) (l : s < subchannels setup) where
     at : (index : ℕ) → index < 48 → entry row index ≡ standsAt setup slot s index
@@ -105,5 +152,7 @@ place-law setup slot s =
       is-placed = is-placed setup slot s;
       in-grid = in-grid setup slot s;
       refused-alike = refused-alike setup slot s;
+      same-mod-3 = same-mod-3 setup slot s;
+      same-always = same-always setup slot s;
       laid-there = laid-there setup slot s;
     }
