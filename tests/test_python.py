@@ -1973,7 +1973,7 @@ class Installed(unittest.TestCase):
     def test_without_its_library(self):
         self.install()
         os.remove(self.beside(library.NAME))
-        told = "no Bellpulsar library at %s: run ./build.sh, or name the library in BELLPULSAR_LIBRARY"
+        told = "no Bellpulsar library at %s: install it again, or name the library in BELLPULSAR_LIBRARY"
         told %= self.beside(library.NAME)
         self.assertEqual(last_line(imported_with("", path=self.path)), "ImportError: " + told)
         done = run_python("-m", "bellpulsar", *ASKED, path=self.path)
