@@ -128,6 +128,20 @@ def requests(count):
     return "".join(lines).encode()
 
 
+# What else a batch may ask, each with the numbers below which its fields are drawn.
+OTHERS = {
+    "locate": ("locate ofusc 1024 17 %d %d", (512, 512)),
+    "collisions ofusc": ("collisions ofusc 1024 %d %d %d %d", (256, 16, 256, 16)),
+    "collisions amc": ("collisions amc %d %d", (2352, 2352)),
+    "owner": ("owner pusc-dl 2048 5 12 %d %d 0,20,0,12 20,30,0,6", (12, 60)),
+}
+
+
+def others(name, count):
+    line, below = OTHERS[name]
+    return "".join(line % tuple(map(random.randrange, below)) + "\n" for _ in range(count)).encode()
+
+
 def check(bench):
     for setup in SETUPS:
         points = b"".join(points_of(setup, 1) for _ in range(14))
@@ -151,6 +165,11 @@ def time_batch(bench):
     in_c, command, start = bench.time(PLACING)
     told = (REQUESTS, REQUESTS / in_c, REQUESTS / command, command / in_c, 1000 * start)
     print("\nbatch of %d places: C %.0f a second, the command %.0f, ratio %.1f, start-up %.1f ms" % told)
+    for name in OTHERS:
+        count = REQUESTS // 10
+        bench.put(bench.source, others(name, count))
+        least = min(bench.run(PLACING.command, bench.source, bench.target.command) for _ in range(ROUNDS))
+        print("%s: %.0f a second" % (name, count / (least - start)))
 
 
 def measure(bench):

@@ -588,8 +588,14 @@ def ofusc_collisions(size: Int, cell_a: Int, subchannel_a: Int, cell_b: Int, sub
     hits[k] is group k, the data numbers N*k to N*k+N-1 of a symbol; every symbol has the same answer.
     Refusals 2, 3 (cell_a), 3 (cell_b), 5 (subchannel_a), 5 (subchannel_b), in this order.
     """
-    fields = {"cell_a": cell_a, "subchannel_a": subchannel_a, "cell_b": cell_b, "subchannel_b": subchannel_b}
-    return _collisions(engine.bp_ofusc_collisions, {"size": size, **fields}, mode=OFUSC)
+    fields = {
+        "size": size,
+        "cell_a": cell_a,
+        "subchannel_a": subchannel_a,
+        "cell_b": cell_b,
+        "subchannel_b": subchannel_b,
+    }
+    return _collisions(engine.bp_ofusc_collisions, fields, mode=OFUSC)
 
 
 def amc_collisions(cell_a: Int, cell_b: Int) -> Collisions:

@@ -82,11 +82,15 @@ def first(options):
 # --- collisions -------------------------------------------------------------------------------
 
 
+MARKS = range(POINTS)
+MARK_WORDS = [str(mark) for mark in MARKS]
+
+
 def hits_text(options, answer, what):
-    hits = list(itertools.compress(itertools.count(), answer.hits))
     if options.json:
-        return as_json(count=answer.count, **{what: hits})
-    return "count %d %s %s\n" % (answer.count, what, " ".join(map(str, hits)) or "none")
+        return as_json(count=answer.count, **{what: list(itertools.compress(MARKS, answer.hits))})
+    hits = " ".join(itertools.compress(MARK_WORDS, answer.hits))
+    return "count %d %s %s\n" % (answer.count, what, hits or "none")
 
 
 def ofusc_collisions(options):
