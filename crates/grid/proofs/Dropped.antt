@@ -29,7 +29,7 @@ use Rattle.rows.specs.Model.{runStep, runCount, runsOf, runPlace, runPoints, po
 use Rattle.rows.proofs.Walk.{run-law, within-place, within-few}
 use Rattle.rows.proofs.Filled.{in-table, from-below}
 use Rattle.lengths.specs.Length.{gridPoints}
-use Rattle.grid.specs.Row.{position, usedPosition}
+use Rattle.grid.specs.Row.{columnPosition, usedPosition}
 use Rattle.grid.specs.Grid.{emptiedFirst}
 use Rattle.grid.specs.Model.{walked, RowWalked, runStart, dropped}
 use Rattle.grid.proofs.Walked.{point-lt, stands-below, walk-long, walk-none, walk-all, walk-on, walk-over}
@@ -43,7 +43,7 @@ module _ (setup : Setup) (v : Valid setup) (row i : ℕ) (hr : row < symbols set
       omega arith
 
   pub start-small : runStart setup row i < 65536
-  unfolding usedPosition position
+  unfolding usedPosition columnPosition
   start-small =
       let f = few v in
       omega (arith, row-few v row hr, carrier-lt (band setup) (setup .size) (band-law v) (i * runStep setup) run-used, f .size-few)
@@ -54,12 +54,12 @@ from-small v i h run e = rw e (omega (arith, from-below v i h))
 
 -- a row starts before the first of its runs
 pub row-first : (setup : Setup) (row : ℕ) → row * setup .size ≤ runStart setup row 0
-unfolding usedPosition position
+unfolding usedPosition columnPosition
 row-first setup row = omega arith
 
 -- what is worked out is where it starts
 pub start-is : (setup : Setup) (row i first step k : ℕ) → first ≡ row * setup .size → step ≡ runStep setup → k ≡ carrierOf (band setup) (i * step) → first + k ≡ runStart setup row i
-unfolding usedPosition position
+unfolding usedPosition columnPosition
 start-is setup row i first step k e q f = rw (e, f, q)
 
 module _ (setup : Setup) (v : Valid setup) (mask slot row i : ℕ) (hr : row < symbols setup) (hi : i < runCount setup) (grid points : List Float) where

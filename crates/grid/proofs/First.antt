@@ -99,9 +99,6 @@ module _ (setup : Setup) (mask slot : ℕ) (grid points : List Float) where
     unfolding emptyFirstOf
     left-first = left _ _ _ (empty-numbered setup mask slot (length points) (length grid) (accepted (first carriers))) _ next e
 
-    pub first-fits : EmptyAccepted setup mask slot (length points) (length grid)
-    first-fits = fits (left-first .0)
-
     pub left-at : (n : ℕ) → n < 48 * lit → pointAt next n ≡ by-count carriers points n
     left-at n h = ap (λ (l : List Float). pointAt l n) (left-first .1) ∙ first-at carriers n h
 

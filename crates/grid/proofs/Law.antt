@@ -1,10 +1,11 @@
 -- THE LAW OF THE GRID: it rests on the laws of the map and of the mask, and on no mode's text.
-use mathlib.Core.Path.{_≡_, refl, sym, ap, _∙_}
+use mathlib.Core.Path.{_≡_, refl, sym, ap, _∙_, subst}
 use mathlib.Core.Bool.{true, false, not}
 use mathlib.Core.List.{List, [], _∷_}
 use Prim.Native.Nat.{ℕ, _+_, _*_, _/_, _%_, _<_}
 use native.Mathlib.Nat.{mod-lt, div-add-mod', div-lt-iff-lt-mul}
 use native.Mathlib.Omega.{arith}
+use lib.Arith.{digits-div, digits-mod}
 use lib.Dec.{ltb}
 use lib.ListN.{length}
 use lib.IntN.{ℤ}
@@ -13,18 +14,18 @@ use borrow.Author.Tests.{eq-eqb, ne-eqb}
 use Rattle.base.specs.Choice.{pick}
 use Rattle.base.specs.Answer.{accepted}
 use Rattle.base.proofs.Test.{cases}
-use Rattle.carriers.specs.Band.{carrierOf}
-use Rattle.carriers.proofs.Guards.{carrier-lt}
-use Rattle.centre.specs.Centre.{onRow}
+use Rattle.carriers.specs.Band.{carrierOf, usedOf}
+use Rattle.carriers.proofs.Guards.{carrier-lt, used-carrier}
+use Rattle.centre.specs.Centre.{fromDc}
 use Rattle.map.specs.declared.Setup.{Setup}
-use Rattle.map.specs.Mode.{subchannels, symbols, band}
+use Rattle.map.specs.Mode.{subchannels, symbols, band, isPilot, spotOf}
 use Rattle.map.specs.Law.{Passes}
-use Rattle.map.specs.Place.{Place, Content, guard, dc, pilot, point, usedCarrier, placeOf, contentOf, locateOf}
+use Rattle.map.specs.Place.{Place, Content, guard, dc, pilot, point, usedCarrier, placeAt, placeOf, contentOf}
 use Rattle.map.proofs.ByMode.{few}
-use Rattle.map.proofs.Slot.{band-law}
-use Rattle.map.proofs.Law.{setup-asked, placing, locating, locate-column, located-where-placed, in-own-slot}
+use Rattle.map.proofs.Slot.{slot-law, band-law, centred}
+use Rattle.map.proofs.Law.{setup-asked, placing, content-placed, dc-content, pilot-content}
 use Rattle.mask.specs.Mask.{isMask, isLit, isUsedLit, litContent, litSubchannels, litRank, ofLitRank}
-use Rattle.mask.proofs.Law.{mask-law, used-on-row, placed-lit}
+use Rattle.mask.proofs.Law.{mask-law, point-lit}
 use Rattle.points.specs.declared.Point.{Point}
 use Rattle.points.specs.Points.{zeroPoint, pointAt}
 use Rattle.points.proofs.Points.{point-floats, by-points}
@@ -32,71 +33,81 @@ use Rattle.lengths.specs.Length.{gridPoints, litPointsLength, gridLength}
 use Rattle.lengths.specs.Model.{gridRefusal, groundRefusal, layRefusal}
 use Rattle.lengths.proofs.Length.{lengths-listed, all-lit-length}
 use Rattle.lengths.proofs.Refusal.{MaskAccepted, GroundAccepted, LayAccepted, LookAccepted, ground-numbered, ground-accepted, ground-last, lay-numbered, lay-accepted, lay-unlit, lay-last, empty-numbered, empty-last, look-0, grid-0}
-use Rattle.grid.specs.Row.{carrierPosition}
+use Rattle.grid.specs.Row.{columnPosition, usedPosition}
 use Rattle.grid.specs.Grid.{contentAt, pointNumber, bare, grounded, groundOf, relaid, laid, layOf, held, filled, standsAt, emptied, emptyOf, emptyFirstOf, data-with, sight, lookOf}
-use Rattle.grid.specs.Law.{Leaves, Lay, Lays, no-lay, lay-then, Never, none, another, LastLay, here, later, ownPoints, carrierLit, FilledGrid, GridLaw}
+use Rattle.grid.specs.Law.{Leaves, Lay, Lays, no-lay, lay-then, Never, none, another, LastLay, here, later, ownPoints, PlacedIn, LaidGrid, FilledGrid, GridLaw}
 use Rattle.grid.proofs.Outcome.{left, refused-leaves, accepted-anew, accepted-number}
-use Rattle.grid.proofs.Slot.{floats-long, row-position, column-position, position-lt, stands-lt, lit-holds, point-stands}
-use Rattle.grid.proofs.First.{refused-alike, of-all, of-none, then-more, first-fits, left-at}
+use Rattle.grid.proofs.Slot.{floats-long, row-position, column-position, position-lt, stands-lt, stands-alone, lit-holds, point-stands, placed-there}
+use Rattle.grid.proofs.Alike.{ground-mod-3, ground-always, every-cell, all-filled}
+use Rattle.grid.proofs.First.{refused-alike, of-all, of-none, then-more, left-at}
 use Rattle.grid.proofs.Looked.{look-done}
 
--- where a carrier of a zone's symbol stands in its slot's grid
-abbrev there : (setup : Setup) (symbol : ℕ) (carrier : ℤ) → ℕ
-there setup symbol carrier = carrierPosition setup (symbol % symbols setup) carrier
+-- where a column of a zone's symbol stands in its slot's grid
+abbrev there : (setup : Setup) (symbol column : ℕ) → ℕ
+there setup symbol column = columnPosition setup (symbol % symbols setup) column
 
--- what is there of what it holds, where it is lit or not
-abbrev shown : (setup : Setup) (mask : ℕ) (carrier : ℤ) (w : Content) → Content
-shown setup mask carrier w = pick (carrierLit setup mask carrier) w guard
-
--- a carrier of a slot, where w is shown
-record OnGrid (setup : Setup) (mask slot : ℕ) (w : Content) (symbol : ℕ) (carrier : ℤ) : Type 0 where
-  there-lt : there setup symbol carrier < gridPoints setup
-  there-holds : contentAt setup mask slot (there setup symbol carrier) ≡ w
+-- a carrier of a slot, which stands at place n of its grid and where w is shown
+record OnGrid (setup : Setup) (mask slot : ℕ) (w : Content) (symbol : ℕ) (carrier : ℤ) (n : ℕ) : Type 0 where
+  n-lt : n < gridPoints setup
+  n-holds : contentAt setup mask slot n ≡ w
   -- what is seen where a grid has a point there
-  looked : (grid : List Float) → length grid ≡ 2 * gridPoints setup → (p : Point) → pointAt grid (there setup symbol carrier) ≡ p
-      → lookOf setup mask symbol grid carrier ≡ accepted (sight p w)
+  looked : (grid : List Float) → length grid ≡ 2 * gridPoints setup → (p : Point) → pointAt grid n ≡ p → lookOf setup mask symbol grid carrier ≡ accepted (sight p w)
 
-module _ {setup : Setup} {mask : ℕ} (m : MaskAccepted setup mask) where
-  on-grid : (slot : ℕ) (w : Content) (symbol : ℕ) (carrier : ℤ) → symbol / symbols setup ≡ slot → locateOf setup symbol carrier ≡ accepted w
-      → OnGrid setup mask slot (shown setup mask carrier w) symbol carrier
-  unfolding litContent
-  on-grid slot w symbol carrier own a =
-      let q = locating setup symbol carrier a in
+module _ {setup : Setup} {mask : ℕ} (m : MaskAccepted setup mask) (slot : ℕ) (hs : slot < 512) where
+  column-on-grid : (symbol column : ℕ) → symbol / symbols setup ≡ slot → column < setup .size
+      → OnGrid setup mask slot (litContent setup mask symbol column) symbol (fromDc (setup .size) column) (there setup symbol column)
+  column-on-grid symbol column own h =
+      let pos = few (m .valid) .symbols-pos in
       let row = symbol % symbols setup in
-      let column = onRow (setup .size) carrier in
-      let r : slot * symbols setup + row ≡ symbol = ap (λ (t : ℕ). t * symbols setup + row) (sym own) ∙ div-add-mod' symbol (symbols setup) in
+      let carrier = fromDc (setup .size) column in
+      let l = centred (m .valid) .0 in
+      let y : slot * symbols setup + row ≡ symbol = ap (λ (t : ℕ). t * symbols setup + row) (sym own) ∙ div-add-mod' symbol (symbols setup) in
       record {
-        there-lt = position-lt setup row column (q .column-lt) (mod-lt symbol (few (m .valid) .symbols-pos));
-        there-holds = rw (row-position setup row column (q .column-lt), column-position setup row column (q .column-lt), r, q .content-is);
+        n-lt = position-lt setup row column h (mod-lt symbol pos);
+        n-holds = rw (row-position setup row column h, column-position setup row column h, y);
         looked = λ grid long p e.
-            let asked : LookAccepted setup mask symbol carrier (length grid) = record { lit = m; symbol-lt = q .symbol-lt; in-range = q .in-range; grid-long = long } in
-            sym (look-done setup mask symbol carrier carrier refl grid 0 (look-0 setup mask symbol carrier (length grid) asked) refl _ refl _ refl p (sym e) _ (rw (q .content-is)));
+            let asked : LookAccepted setup mask symbol carrier (length grid) =
+            record { lit = m; symbol-lt = div-lt-iff-lt-mul pos .0 (rw own hs); in-range = l .in-range column h; grid-long = long } in
+            sym (look-done setup mask symbol carrier carrier refl grid 0 (look-0 setup mask symbol carrier (length grid) asked) refl column (sym (l .back column)) _ refl p (sym e) _ refl);
       }
 
-  -- at the place of a point its subchannel tells whether it is lit
-  point-there : (slot s index : ℕ) (place : Place) → placeOf setup slot s index ≡ accepted place → carrierLit setup mask (place .carrier) ≡ isLit setup mask s
-  point-there slot s index place q = placed-lit setup mask slot s index (place .symbol) (place .carrier) q
+  -- a used number's carrier
+  used-on-grid : (symbol used : ℕ) → symbol / symbols setup ≡ slot → used < band setup .used
+      → OnGrid setup mask slot (pick (isUsedLit setup mask used) (contentOf setup symbol (carrierOf (band setup) used)) guard) symbol (usedCarrier setup used)
+      (there setup symbol (carrierOf (band setup) used))
+  unfolding usedCarrier litContent
+  used-on-grid symbol used own h =
+      let b = band-law (m .valid) in
+      rw (used-carrier (band setup) (setup .size) b used h) at
+      (column-on-grid symbol (carrierOf (band setup) used) own (carrier-lt (band setup) (setup .size) b used h))
 
-  point-on-grid : (slot s index : ℕ) (place : Place) → placeOf setup slot s index ≡ accepted place
-      → OnGrid setup mask slot (pick (isLit setup mask s) (point slot s index) guard) (place .symbol) (place .carrier)
-  point-on-grid slot s index place q =
-      rw (point-there slot s index place q) at
-      (on-grid slot (point slot s index) (place .symbol) (place .carrier) (in-own-slot setup slot s index q) (located-where-placed setup slot s index q))
-
-  -- a used number's carrier by its number
-  used-there : (used : ℕ) → used < band setup .used → carrierLit setup mask (usedCarrier setup used) ≡ isUsedLit setup mask used
-  used-there used h = ap (isUsedLit setup mask) (used-on-row (m .valid) used h)
-
-  used-located : (symbol used : ℕ) → symbol < 512 * symbols setup → used < band setup .used
-      → locateOf setup symbol (usedCarrier setup used) ≡ accepted (contentOf setup symbol (carrierOf (band setup) used))
-  unfolding usedCarrier
-  used-located symbol used hy h = locate-column setup symbol (carrierOf (band setup) used) (m .valid) hy (carrier-lt (band setup) (setup .size) (band-law (m .valid)) used h)
+  -- a pilot's
+  pilot-on-grid : (symbol used : ℕ) → symbol / symbols setup ≡ slot → used < band setup .used → isPilot setup symbol used ≡ true → isUsedLit setup mask used ≡ true
+      → OnGrid setup mask slot pilot symbol (usedCarrier setup used) (there setup symbol (carrierOf (band setup) used))
+  pilot-on-grid symbol used own h is lit = rw (lit, pilot-content setup (m .valid) symbol used h is) at (used-on-grid symbol used own h)
 
   -- one that is not lit
-  dark-on-grid : (slot symbol used : ℕ) → symbol / symbols setup ≡ slot → symbol < 512 * symbols setup → used < band setup .used → isUsedLit setup mask used ≡ false
-      → OnGrid setup mask slot guard symbol (usedCarrier setup used)
-  dark-on-grid slot symbol used own hy h dark =
-      rw (used-there used h ∙ dark) at (on-grid slot _ symbol (usedCarrier setup used) own (used-located symbol used hy h))
+  dark-on-grid : (symbol used : ℕ) → symbol / symbols setup ≡ slot → used < band setup .used → isUsedLit setup mask used ≡ false
+      → OnGrid setup mask slot guard symbol (usedCarrier setup used) (there setup symbol (carrierOf (band setup) used))
+  dark-on-grid symbol used own h dark = rw dark at (used-on-grid symbol used own h)
+
+-- a point, at its place: its subchannel tells whether it is lit
+module _ {setup : Setup} {mask : ℕ} (m : MaskAccepted setup mask) where
+  point-on-grid : (slot s index : ℕ) (place : Place) → placeOf setup slot s index ≡ accepted place
+      → OnGrid setup mask slot (pick (isLit setup mask s) (point slot s index) guard) (place .symbol) (place .carrier) (standsAt setup slot s index)
+  unfolding standsAt usedPosition placeAt
+  point-on-grid slot s index place e =
+      let q = placing setup slot s index e in
+      let v = m .valid in
+      let x = spotOf setup slot s index in
+      let h = slot-law v slot .lies s index (q .subchannel-lt) (q .index-lt) in
+      subst (λ (t : Place). OnGrid setup mask slot (pick (isLit setup mask s) (point slot s index) guard) (t .symbol) (t .carrier) (standsAt setup slot s index)) (q .place-is)
+      (rw (
+        point-lit v mask slot s index (q .subchannel-lt) (q .index-lt),
+        content-placed setup v slot s index (q .subchannel-lt) (q .index-lt),
+        digits-mod slot (h .offset-lt),
+      ) at
+      (used-on-grid m slot (q .slot-lt) (slot * symbols setup + x .offset) (x .used) (digits-div slot (h .offset-lt)) (h .used-lt)))
 
 -- ---- one lay
 
@@ -118,32 +129,47 @@ module _ (setup : Setup) (mask slot s : ℕ) (points grid next : List Float) (e 
 
   -- what stands and is seen then at the place of a point of the slot
   module _ (t index : ℕ) (place : Place) (q : placeOf setup slot t index ≡ accepted place) where
+    abbrev n : ℕ
+    n = standsAt setup slot t index
+
     abbrev w : Content
     w = pick (isLit setup mask t) (point slot t index) guard
 
-    abbrev k : OnGrid setup mask slot w (place .symbol) (place .carrier)
+    abbrev k : OnGrid setup mask slot w (place .symbol) (place .carrier) n
     k = point-on-grid (lay-fits .fits .lit) slot t index place q
 
-    abbrev old : Point
-    old = pointAt grid (there setup (place .symbol) (place .carrier))
+    stands-then : pointAt next n ≡ relaid s points (pointAt grid n) w
+    stands-then = lay-at n (k .n-lt) ∙ ap (relaid s points (pointAt grid n)) (k .n-holds)
 
-    stands-then : pointAt next (there setup (place .symbol) (place .carrier)) ≡ relaid s points old w
-    stands-then = lay-at (there setup (place .symbol) (place .carrier)) (k .there-lt) ∙ ap (relaid s points old) (k .there-holds)
-
-    seen-then : lookOf setup mask (place .symbol) next (place .carrier) ≡ accepted (sight (relaid s points old w) w)
+    seen-then : lookOf setup mask (place .symbol) next (place .carrier) ≡ accepted (sight (relaid s points (pointAt grid n) w) w)
     seen-then = k .looked next lay-long _ stands-then
-
-    other-stays : (t ≡ s → ⊥) → relaid s points old w ≡ old
-    unfolding relaid
-    other-stays ne = cases (isLit setup mask t) (λ b. rw (b, ne-eqb t s ne)) (λ b. rw b)
-
-    other-stands : (t ≡ s → ⊥) → pointAt next (there setup (place .symbol) (place .carrier)) ≡ old
-    other-stands ne = stands-then ∙ other-stays ne
 
   own-seen : (index : ℕ) (place : Place) → placeOf setup slot s index ≡ accepted place
       → lookOf setup mask (place .symbol) next (place .carrier) ≡ accepted (data-with (pointAt points index) slot s index)
   unfolding relaid sight
   own-seen index place q = rw (lay-fits .subchannel-lit, eq-eqb s s refl) at (seen-then s index place q)
+
+  -- a place where none of the subchannel's points stands
+  not-own : (n : ℕ) → n < gridPoints setup → ((index : ℕ) → index < 48 → standsAt setup slot s index ≡ n → ⊥) → (w : Content) → contentAt setup mask slot n ≡ w
+      → relaid s points (pointAt grid n) w ≡ pointAt grid n
+  unfolding relaid
+  not-own n hn miss guard c = refl
+  not-own n hn miss dc c = refl
+  not-own n hn miss pilot c = refl
+  not-own n hn miss (point a t i) c =
+      let q = point-stands setup (lay-fits .fits .lit .valid) slot (lay-fits .fits .slot-lt) n hn mask a t i c in
+      rw (ne-eqb t s (λ e. miss i (q .index-lt) (rw (← e) (q .stands))))
+
+  touches-its-own : (n : ℕ) → n < gridPoints setup → ((index : ℕ) → index < 48 → standsAt setup slot s index ≡ n → ⊥) → pointAt next n ≡ pointAt grid n
+  touches-its-own n hn miss = lay-at n hn ∙ not-own n hn miss (contentAt setup mask slot n) refl
+
+  other-stands : (t index symbol column : ℕ) → (t ≡ s → ⊥) → PlacedIn setup slot t index symbol column → pointAt next (there setup symbol column) ≡ pointAt grid (there setup symbol column)
+  other-stands t index symbol column ne e =
+      let q = placing setup slot t index e in
+      let v = lay-fits .fits .lit .valid in
+      rw (placed-there setup slot t index symbol column e)
+      (touches-its-own (standsAt setup slot t index) (stands-lt setup v slot t index (q .subchannel-lt) (q .index-lt))
+      (λ i h z. ne (sym (stands-alone setup v slot s i t index (lay-fits .subchannel-lt) h (q .subchannel-lt) (q .index-lt) z .0))))
 
 -- ---- lays one after another
 
@@ -171,6 +197,11 @@ module _ {setup : Setup} {mask slot : ℕ} where
     stays : {before after : List Float} {lays : List Lay} → Lays setup mask slot before lays after → Untouched w lays → pointAt after n ≡ pointAt before n
     stays no-lay no-more = refl
     stays (lay-then e rest) (still same more) = stays rest more ∙ lay-at setup mask slot _ _ _ _ e n hn ∙ rw c (same _ _)
+
+  -- a subchannel that was laid is lit
+  last-lit : {s : ℕ} {points before after : List Float} {lays : List Lay} → LastLay s points lays → Lays setup mask slot before lays after → isLit setup mask s ≡ true
+  last-lit (here never) (lay-then e rest) = lay-fits setup mask slot _ _ _ _ e .subchannel-lit
+  last-lit (later more) (lay-then e rest) = last-lit more rest
 
   last-counts : (n : ℕ) → n < gridPoints setup → (a s m : ℕ) → contentAt setup mask slot n ≡ point a s m → {points before after : List Float} {lays : List Lay}
       → LastLay s points lays → Lays setup mask slot before lays after → pointAt after n ≡ pointAt points m
@@ -213,21 +244,9 @@ module _ (setup : Setup) (mask : ℕ) (m : MaskAccepted setup mask) (slot : ℕ)
       (sym (empty-last setup mask slot (length before) (length grid) m hs (litSubchannels setup mask) refl (l ∙ points-long) 0 (grid-0 setup (length grid) (gridPoints setup) refl long)))
       points (by-points points (48 * litSubchannels setup mask) _ (points-long ∙ omega arith) back))
 
-  -- what stands and is seen on a carrier where w is shown
-  module _ {w : Content} {symbol : ℕ} {carrier : ℤ} (k : OnGrid setup mask slot w symbol carrier) where
-    standing-there : pointAt grid (there setup symbol carrier) ≡ held setup mask p points w
-    standing-there = holds (there setup symbol carrier) (k .there-lt) ∙ ap (held setup mask p points) (k .there-holds)
-
-    seen-there : lookOf setup mask symbol grid carrier ≡ accepted (sight (held setup mask p points w) w)
-    seen-there = k .looked grid long _ standing-there
-
-  -- guards and DC, lit or not
-  zero-there : (w : Content) → held setup mask p points w ≡ zeroPoint → (symbol : ℕ) (carrier : ℤ) → symbol / symbols setup ≡ slot → locateOf setup symbol carrier ≡ accepted w
-      → pointAt grid (there setup symbol carrier) ≡ zeroPoint
-  unfolding held
-  zero-there w z symbol carrier own a =
-      standing-there (on-grid m slot w symbol carrier own a)
-      ∙ cases (carrierLit setup mask carrier) (λ t. rw t z) (λ t. rw t)
+  -- what is seen on a carrier where w is shown
+  seen-there : {w : Content} {symbol : ℕ} {carrier : ℤ} {n : ℕ} → OnGrid setup mask slot w symbol carrier n → lookOf setup mask symbol grid carrier ≡ accepted (sight (held setup mask p points w) w)
+  seen-there {n = n} k = k .looked grid long _ (holds n (k .n-lt) ∙ ap (held setup mask p points) (k .n-holds))
 
   filled-grid : FilledGrid setup mask slot p points grid
   unfolding sight held
@@ -238,9 +257,7 @@ module _ (setup : Setup) (mask : ℕ) (m : MaskAccepted setup mask) (slot : ℕ)
         lengths-fit = (points-long ∙ long′ .0, long ∙ long′ .1);
         emptied-again = again;
         look-at-point = λ s index place lit h. rw lit at (seen-there (point-on-grid m slot s index place h));
-        look-at-pilot = λ symbol carrier own a lit. rw lit at (seen-there (on-grid m slot pilot symbol carrier own a));
-        zero-on-guards = zero-there guard refl;
-        zero-on-dc = zero-there dc refl;
+        look-at-pilot = λ symbol used own h is lit. seen-there (pilot-on-grid m slot hs symbol used own h is lit);
       }
 
 -- the ground
@@ -266,18 +283,58 @@ module _ (setup : Setup) (mask slot : ℕ) (p : Point) (old ground grid : List F
   abbrev fits : GroundAccepted setup mask slot (length old)
   fits = ground-fits setup mask slot p old ground e
 
-  as-the-ground : (n : ℕ) → n < gridPoints setup → (w : Content) → contentAt setup mask slot n ≡ w → ((s : ℕ) (points : List Float) (old : Point) → relaid s points old w ≡ old)
-      → pointAt grid n ≡ bare p w
-  as-the-ground n hn w c h = stays n hn w c l (no-point w h lays) ∙ ground-at setup mask slot p old ground e n hn ∙ ap (bare p) c
+  -- where no lay changes what is shown, it is as the ground has it
+  as-the-ground : (n : ℕ) → n < gridPoints setup → (w : Content) → contentAt setup mask slot n ≡ w → Untouched w lays → pointAt grid n ≡ bare p w
+  as-the-ground n hn w c u = stays n hn w c l u ∙ ground-at setup mask slot p old ground e n hn ∙ ap (bare p) c
 
-  dark-stays : (symbol used : ℕ) → symbol / symbols setup ≡ slot → used < band setup .used → isUsedLit setup mask used ≡ false
-      → pointAt grid (there setup symbol (usedCarrier setup used)) ≡ zeroPoint
-  unfolding bare relaid
-  dark-stays symbol used own h dark =
+  -- on a used number
+  shown-stays : {w : Content} {symbol : ℕ} {carrier : ℤ} {n : ℕ} → OnGrid setup mask slot w symbol carrier n → ((s : ℕ) (points : List Float) (old : Point) → relaid s points old w ≡ old)
+      → pointAt grid n ≡ bare p w
+  shown-stays {w} {n = n} k h = as-the-ground n (k .n-lt) w (k .n-holds) (no-point w h lays)
+
+  -- in a column that holds w, which is guard or DC
+  nothing-stays : (w : Content) → ((s : ℕ) (points : List Float) (old : Point) → relaid s points old w ≡ old) → bare p w ≡ zeroPoint
+      → (symbol column : ℕ) → symbol / symbols setup ≡ slot → column < setup .size → contentOf setup symbol column ≡ w → pointAt grid (there setup symbol column) ≡ zeroPoint
+  unfolding litContent bare relaid
+  nothing-stays w h z symbol column own lt c =
+      let k = column-on-grid (fits .lit) slot (fits .slot-lt) symbol column own lt in
+      cases (isUsedLit setup mask (usedOf (band setup) column))
+      (λ t. shown-stays (rw (t, c) at k) h ∙ z)
+      (λ t. shown-stays (rw t at k) (λ s x o. refl))
+
+  -- at the place of a point
+  module _ (s index symbol column : ℕ) (q : PlacedIn setup slot s index symbol column) where
+    abbrev own : OnGrid setup mask slot (pick (isLit setup mask s) (point slot s index) guard) symbol (fromDc (setup .size) column) (standsAt setup slot s index)
+    own = point-on-grid (fits .lit) slot s index _ q
+
+    abbrev there-stands : there setup symbol column ≡ standsAt setup slot s index
+    there-stands = placed-there setup slot s index symbol column q
+
+    never-laid : Never s lays → pointAt grid (there setup symbol column) ≡ zeroPoint
+    unfolding bare relaid
+    never-laid never =
+        rw there-stands
+        (cases (isLit setup mask s)
+        (λ t. as-the-ground _ (own .n-lt) (point slot s index) (rw t at (own .n-holds)) (never-touched slot index never))
+        (λ t. shown-stays (rw t at own) (λ s x o. refl)))
+
+    last-laid : (points : List Float) → LastLay s points lays → pointAt grid (there setup symbol column) ≡ pointAt points index
+    last-laid points last = rw there-stands (last-counts _ (own .n-lt) slot s index (rw (last-lit last l) at (own .n-holds)) last l)
+
+  laid-grid : LaidGrid setup mask slot p lays grid
+  unfolding bare relaid contentOf
+  laid-grid =
       let m = fits .lit in
-      let few-symbols : symbol < 512 * symbols setup = div-lt-iff-lt-mul (few (m .valid) .symbols-pos) .0 (rw own (fits .slot-lt)) in
-      let k = dark-on-grid m slot symbol used own few-symbols h dark in
-      as-the-ground (there setup symbol (usedCarrier setup used)) (k .there-lt) guard (k .there-holds) (λ s x o. refl)
+      let hs = fits .slot-lt in
+      let v = m .valid in
+      record {
+        pilots-lit = λ symbol used own h is lit. shown-stays (pilot-on-grid m slot hs symbol used own h is lit) (λ s x o. refl);
+        zero-on-guards = λ symbol column own h g. nothing-stays guard (λ s x o. refl) refl symbol column own h (rw g);
+        zero-on-dc = λ symbol own. nothing-stays dc (λ s x o. refl) refl symbol (band setup .dc) own (let b = band-law v in omega (arith, b .size-is, b .dc-is, b .half-le)) (dc-content setup v symbol);
+        zero-on-unlit = λ symbol used own h dark. shown-stays (dark-on-grid m slot hs symbol used own h dark) (λ s x o. refl);
+        zero-unless-laid = never-laid;
+        last-lay-stands = λ s index symbol column points q. last-laid s index symbol column q points;
+      }
 
 -- in which every lit subchannel occurs
 module _ (setup : Setup) (mask slot : ℕ) (p : Point) (points old ground grid : List Float) (lays : List Lay) (e : Leaves (groundOf setup mask slot p old) ground)
@@ -286,8 +343,8 @@ module _ (setup : Setup) (mask slot : ℕ) (p : Point) (points old ground grid :
   its = fits setup mask slot p old ground grid lays e l
 
   module _ (n : ℕ) (hn : n < gridPoints setup) where
-    abbrev bare-stays : (w : Content) → contentAt setup mask slot n ≡ w → ((s : ℕ) (points : List Float) (old : Point) → relaid s points old w ≡ old) → pointAt grid n ≡ bare p w
-    bare-stays = as-the-ground setup mask slot p old ground grid lays e l n hn
+    bare-stays : (w : Content) → contentAt setup mask slot n ≡ w → ((s : ℕ) (points : List Float) (old : Point) → relaid s points old w ≡ old) → pointAt grid n ≡ bare p w
+    bare-stays w c h = as-the-ground setup mask slot p old ground grid lays e l n hn w c (no-point w h lays)
 
     in-the-end : (w : Content) → contentAt setup mask slot n ≡ w → pointAt grid n ≡ held setup mask p points w
     unfolding held bare relaid ownPoints
@@ -313,32 +370,26 @@ module _ (setup : Setup) (mask slot : ℕ) (p : Point) (points old ground grid :
 
 -- a lit subchannel's point, by where it is placed
 module _ (setup : Setup) (mask slot carriers : ℕ) (grid points next : List Float) (e : Leaves (emptyFirstOf setup mask slot carriers grid points) next)
-    (s index : ℕ) (place : Place) (lit : isLit setup mask s ≡ true) (q : placeOf setup slot s index ≡ accepted place) where
+    (s index symbol column : ℕ) (lit : isLit setup mask s ≡ true) (q : PlacedIn setup slot s index symbol column) where
   -- its number among the points, and where it stands
-  abbrev n : ℕ
-  n = pointNumber (litRank setup mask s) index
+  abbrev number : ℕ
+  number = pointNumber (litRank setup mask s) index
 
   abbrev stood : ℕ
-  stood = there setup (place .symbol) (place .carrier)
+  stood = there setup symbol column
 
-  stands-there : standsAt setup slot s index ≡ stood
-  stands-there =
-      let f = first-fits setup mask slot grid points carriers next e .fits in
-      let k = point-on-grid (f .lit) slot s index place q in
-      point-stands setup (f .lit .valid) slot (f .slot-lt) stood (k .there-lt) mask slot s index (rw lit at (k .there-holds)) .stands
-
-  first-writes : pointAt next n ≡ pick (ltb stood carriers) (pointAt grid stood) (pointAt points n)
+  first-writes : pointAt next number ≡ pick (ltb stood carriers) (pointAt grid stood) (pointAt points number)
   first-writes =
       let law = mask-law .ranks setup mask (subchannels setup) in
       let w = placing setup slot s index q in
       let s-lt = w .subchannel-lt in
       let i = w .index-lt in
       let r = law .rank-lt s s-lt lit in
-      let rank : n / 48 ≡ litRank setup mask s = omega arith in
-      let own : n % 48 ≡ index = omega arith in
-      let at : standsAt setup slot (ofLitRank setup mask (n / 48)) (n % 48) ≡ stood =
-      rw (rank, own, law .back s s-lt lit) stands-there in
-      left-at setup mask slot grid points carriers next e n (omega arith) ∙ rw at
+      let rank : number / 48 ≡ litRank setup mask s = omega arith in
+      let its : number % 48 ≡ index = omega arith in
+      let at : standsAt setup slot (ofLitRank setup mask (number / 48)) (number % 48) ≡ stood =
+      rw (rank, its, law .back s s-lt lit) (sym (placed-there setup slot s index symbol column q)) in
+      left-at setup mask slot grid points carriers next e number (omega arith) ∙ rw at
 
 -- a setup and a mask that pass, and a grid of the length that is told, which passes the last question
 passed : {setup : Setup} {mask : ℕ} → Passes setup → isMask (setup .mode) mask ≡ true → MaskAccepted setup mask
@@ -356,14 +407,18 @@ grid-law =
     record {
       two-moves = λ setup mask slot p points old ground grid lays e l long every. both-moves setup mask slot p points old ground grid lays e l every long;
       laid-is-seen = own-seen;
-      others-stay = λ setup mask slot s points grid next e other index place ne q. other-stands setup mask slot s points grid next e other index place q ne;
-      zero-on-unlit = dark-stays;
+      lay-touches-its-own = touches-its-own;
+      others-stay = other-stands;
+      laid-in-part = laid-grid;
+      ground-mod-3 = ground-mod-3;
+      ground-always = ground-always;
+      ground-every-cell = λ mode size cell other slot p old a b. every-cell mode size cell other slot p old (setup-asked _ _ a .0) (setup-asked _ _ b .0);
       unlit-meets-5 = λ setup mask slot s points grid e k h l dark.
           sym (refused-leaves _ _ _ (lay-numbered setup mask slot s (length points) (length grid) _) grid 5
           (lay-unlit setup mask slot s (length points) (length grid) (passed e k) h (subchannels setup) refl l _ refl (ap not dark)) (λ z. omega arith));
       unlit-is-nothing = λ setup mask symbol used grid e k hy h dark g.
           let m = passed e k in
-          dark-on-grid m (symbol / symbols setup) symbol used refl hy h dark .looked grid (told-long m (length grid) g) _ refl;
+          dark-on-grid m (symbol / symbols setup) (div-lt-iff-lt-mul (few (m .valid) .symbols-pos) .1 hy) symbol used refl h dark .looked grid (told-long m (length grid) g) _ refl;
       first-writes = first-writes;
       first-of-all = λ setup mask slot carriers grid points. of-all setup mask slot grid points carriers;
       first-then-more = λ setup mask slot fewer more earlier grid points e. then-more setup mask slot earlier grid points e fewer more;
@@ -383,5 +438,6 @@ grid-law =
           let m = passed e k in
           accepted-number _ _ _ (empty-numbered setup mask slot (length old) (length grid) _) _
           (sym (empty-last setup mask slot (length old) (length grid) m h (litSubchannels setup mask) refl (l ∙ sym (lengths-listed m .0)) 0 (told m (length grid) g)));
+      all-lit-filled = all-filled;
       all-lit-length = all-lit-length;
     }

@@ -7,4 +7,5 @@ pub mod Walked
 pub mod Dropped
 pub mod First
 pub mod Looked
+pub mod Alike
 pub mod Law

@@ -27,7 +27,7 @@ use Rattle.points.specs.declared.Point.{Point}
 use Rattle.points.specs.Points.{pointAt}
 use Rattle.lengths.specs.Model.{lookRefusal}
 use Rattle.lengths.proofs.Refusal.{LookAccepted, look-numbered, look-accepted}
-use Rattle.grid.specs.Row.{position}
+use Rattle.grid.specs.Row.{columnPosition}
 use Rattle.grid.specs.Grid.{Sight, nothing, data-with, sight, lookOf}
 
 -- ---- a column of a symbol's row
@@ -100,13 +100,13 @@ module _ (setup : Setup) (mask symbol : ℕ) (carrier k : ℤ) (same : k ≡ car
     pub look-column : (j : ℕ) → j ≡ onRow (setup .size) k → j < setup .size
     look-column j f = rw f (centred (look-asked .lit .valid) .0 .column-lt k (look-asked .in-range))
 
-    pub look-done : (j : ℕ) → j ≡ onRow (setup .size) k → (place : ℕ) → place ≡ position setup (symbol % symbols setup) j
+    pub look-done : (j : ℕ) → j ≡ onRow (setup .size) k → (place : ℕ) → place ≡ columnPosition setup (symbol % symbols setup) j
         → (p : Point) → p ≡ pointAt grid place → (a : Answer Sight) → a ≡ accepted (sight p (litContent setup mask symbol j)) → a ≡ lookOf setup mask symbol grid carrier
     unfolding lookOf
     look-done j f place at p g a h =
         let on : j ≡ onRow (setup .size) carrier = f ∙ ap (onRow (setup .size)) same in
         h ∙ ap (λ (x : Point). accepted (sight x (litContent setup mask symbol j))) (g ∙ ap (pointAt grid) at)
-        ∙ ap (λ (x : ℕ). accepted (sight (pointAt grid (position setup (symbol % symbols setup) x)) (litContent setup mask symbol x))) on
+        ∙ ap (λ (x : ℕ). accepted (sight (pointAt grid (columnPosition setup (symbol % symbols setup) x)) (litContent setup mask symbol x))) on
         ∙ sym (look-numbered setup mask symbol carrier (length grid) _ ∙ yes-all _ _ (sym number ∙ z))
 
 -- what look tells of a point is what the reverse tells

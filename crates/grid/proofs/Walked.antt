@@ -32,7 +32,7 @@ use Rattle.rows.specs.declared.Runs.{Runs}
 use Rattle.rows.specs.Model.{runStep, runCount, runsOf, runPlace, pointsBelow, runPoints, pointsWithin, numberAt, runNumber}
 use Rattle.rows.proofs.Walk.{RunLaw, run-law, place-below, below-place, within-place, place-within}
 use Rattle.lengths.specs.Length.{gridPoints}
-use Rattle.grid.specs.Row.{position, usedPosition}
+use Rattle.grid.specs.Row.{columnPosition, usedPosition}
 use Rattle.grid.specs.Grid.{standsAt, litStandsAt, emptied, emptiedFirst}
 use Rattle.grid.specs.Model.{litSpot, runAt, walked, runStart, dropped}
 use Rattle.grid.proofs.Slot.{stands-lt}
@@ -133,7 +133,7 @@ module _ (setup : Setup) (v : Valid setup) (mask slot : ℕ) where
       omega arith)
 
   run-stands : (row i p : ℕ) → p < step → usedPosition setup row (i * step + p) ≡ runStart setup row i + p
-  unfolding usedPosition position
+  unfolding usedPosition columnPosition
   run-stands row i p h = omega (arith, run-carrier i p h)
 
   -- carriers rise with the used numbers
@@ -379,7 +379,7 @@ module _ (setup : Setup) (v : Valid setup) (mask slot : ℕ) where
 
       -- where it starts past the first `carriers`, nothing is left to be taken, there or later
       run-past : (n : ℕ) → n < 48 * lit → r ≤ runAt setup mask slot n → runStart setup row i ≤ at n
-      unfolding runAt standsAt usedPosition position
+      unfolding runAt standsAt usedPosition columnPosition
       run-past n h l =
           let o = spot n .offset in
           let start-in : i * step + 0 < band setup .used = rw (← own-law .used-is) (digits-lt hi (own-law .step-pos)) in

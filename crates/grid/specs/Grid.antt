@@ -10,7 +10,7 @@ use Rattle.base.specs.Choice.{pick}
 use Rattle.centre.specs.Centre.{onRow}
 use Rattle.map.specs.declared.Setup.{Setup}
 use Rattle.map.specs.Mode.{symbols, spotOf}
-use Rattle.map.specs.Place.{Content, guard, dc, pilot, point}
+use Rattle.map.specs.Place.{Content, guard, dc, pilot, point, contentOf}
 use Rattle.mask.specs.Mask.{litContent, litSubchannels, litRank, ofLitRank}
 use Rattle.points.specs.declared.Point.{Point}
 use Rattle.points.specs.Points.{pointAt, floatsOf, zeroPoint}
@@ -30,9 +30,9 @@ abbrev pub outcome : (answer : Answer (List Float)) (old : List Float) → Outco
 outcome (accepted new) old = record { refusal = 0; buffer = new }
 outcome (refused number) old = record { refusal = number; buffer = old }
 
--- the number of a point among the points of subchannels one after another: by the subchannel's place among these and index, 48 a subchannel
-abbrev pub pointNumber : (place index : ℕ) → ℕ
-pointNumber place index = place * 48 + index
+-- the number of a point among the points of subchannels one after another: by the subchannel's rank among these and index, 48 a subchannel
+abbrev pub pointNumber : (rank index : ℕ) → ℕ
+pointNumber rank index = rank * 48 + index
 
 -- what the carrier holds that stands at point n of a slot's grid, where only the mask's groups are lit
 abbrev pub contentAt : (setup : Setup) (mask slot n : ℕ) → Content
@@ -78,6 +78,17 @@ held setup mask p points (point slot subchannel index) = pointAt points (pointNu
 
 unfoldable pub filled : (setup : Setup) (mask slot : ℕ) (p : Point) (points : List Float) → List Float
 filled setup mask slot p points = floatsOf (gridPoints setup) (λ n. held setup mask p points (contentAt setup mask slot n))
+
+-- The filled grid in document 01's own words, "Grids", which knows no mask: data, the pilot point on pilots, 0.0 elsewhere, of all points of the slot by subchannel and index. Where all is lit both moves together give it (`all-lit-filled`).
+unfoldable pub heldAll : (p : Point) (points : List Float) (content : Content) → Point
+heldAll p points guard = zeroPoint
+heldAll p points dc = zeroPoint
+heldAll p points pilot = p
+heldAll p points (point slot subchannel index) = pointAt points (pointNumber subchannel index)
+
+unfoldable pub filledAll : (setup : Setup) (slot : ℕ) (p : Point) (points : List Float) → List Float
+filledAll setup slot p points =
+    floatsOf (gridPoints setup) (λ n. heldAll p points (contentOf setup (slot * symbols setup + rowOf setup n) (columnOf setup n)))
 
 -- where in the grid a point of the slot stands
 unfoldable pub standsAt : (setup : Setup) (slot subchannel index : ℕ) → ℕ

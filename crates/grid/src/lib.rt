@@ -16,7 +16,7 @@ ghost use Rattle.mask.specs.Mask.{litContent, litSubchannels};
 ghost use Rattle.rows.specs.Model.{RunFlags, LitRuns, runCount, runsOf, runPlace, runPoints, runStride, pointStride, RowNumbers, RunTable, PlaceTable};
 ghost use Rattle.points.specs.Model.{putPoint};
 ghost use Rattle.lengths.specs.Length.{gridPoints};
-ghost use Rattle.grid.specs.Row.{position, usedPosition};
+ghost use Rattle.grid.specs.Row.{columnPosition, usedPosition};
 ghost use Rattle.grid.specs.Grid.{grounded, groundOf, layOf, emptiedFirst, emptyOf, emptyFirstOf, sight as sightOf, seen, lookOf};
 ghost use Rattle.grid.specs.Model.{pilotRow, RowWalked, runStart, dropped};
 
@@ -69,9 +69,9 @@ fn zeros_and_pilots(setup: Setup, mask: usize, slot: usize, p: Point, grid: &mut
 {
     points::clear(grid);
     let lit = rows::lit_runs(setup, mask);
-    let rows = map::symbols(setup);
+    let symbols = map::symbols(setup);
     let mut row = 0;
-    while row < rows {
+    while row < symbols {
         pilot_row(setup, &lit, slot, row, p, grid);
         row += 1;
     }
@@ -224,9 +224,9 @@ fn empty_rows(
     let lit = rows::lit_runs(setup, mask);
     let runs = rows::run_table(setup, mask);
     let places = rows::place_table(setup);
-    let rows = map::symbols(setup);
+    let symbols = map::symbols(setup);
     let mut row = 0;
-    while row < rows {
+    while row < symbols {
         empty_row(
             setup,
             mask,
@@ -317,7 +317,7 @@ fn sight(setup: Setup, mask: usize, symbol: usize, column: usize, p: Point) -> S
 fn column_position(setup: Setup, symbol: usize, column: usize) -> usize
     requires { ⌜ Valid setup ⌝ }
     requires { ⌜ column < setup .size ⌝ }
-    ensures { λ r. ⌜ (r ≡ position setup (symbol % symbols setup) column) × (r < gridPoints setup) ⌝ }
+    ensures { λ r. ⌜ (r ≡ columnPosition setup (symbol % symbols setup) column) × (r < gridPoints setup) ⌝ }
 {
     map::offset_of(setup, symbol) * setup.size + column
 }
