@@ -5,7 +5,7 @@ use lib.Ieee.{Float}
 use Rattle.base.specs.Answer.{Answer, accepted, refused}
 use Rattle.points.specs.declared.Point.{Point}
 use Rattle.points.specs.Points.{pointAt}
-use Rattle.grid.specs.Grid.{Sight, nothing, pilot-with, data-with}
+use Rattle.look.specs.Look.{Sight, nothing, pilot-with, data-with}
 
 -- the point in a lent pair of floats
 abbrev pub pairPoint : (pair : List Float) → Point

@@ -1,6 +1,6 @@
 // The C interface: thin functions over the engine. Each returns 0, or document 01's refusal number; on a refusal nothing is written.
 use collision::Collisions;
-use grid::Seen;
+use look::Seen;
 use map::Located;
 use map::Placed;
 use map::Setup;
@@ -19,7 +19,10 @@ ghost use Rattle.places.specs.Places.{placesOf};
 ghost use Rattle.capi.specs.Places.{placesOut};
 ghost use Rattle.capi.specs.Version.{version};
 ghost use Rattle.capi.specs.Collision.{CollisionOut, collisionOut};
-ghost use Rattle.grid.specs.Grid.{groundOf, layOf, emptyOf, emptyFirstOf, lookOf};
+ghost use Rattle.ground.specs.Ground.{groundOf};
+ghost use Rattle.lay.specs.Lay.{layOf};
+ghost use Rattle.empty.specs.Empty.{emptyOf, emptyFirstOf};
+ghost use Rattle.look.specs.Look.{lookOf};
 ghost use Rattle.lengths.specs.Length.{pointsLength, litPointsLength, gridLength};
 ghost use Rattle.capi.specs.Grid.{pairPoint, lookOut};
 ghost use Rattle.plan.specs.Read.{planOf, answered};
@@ -239,7 +242,7 @@ pub extern "C" fn bp_ground(
     };
     let of = setup(mode, size, cell);
     let lit = mask as usize;
-    let number = grid::ground(of, lit, slot as usize, p, grid);
+    let number = ground::ground(of, lit, slot as usize, p, grid);
     number as u32
 }
 
@@ -258,7 +261,7 @@ pub extern "C" fn bp_lay(
 {
     let of = setup(mode, size, cell);
     let lit = mask as usize;
-    let number = grid::lay(of, lit, slot as usize, subchannel as usize, points, grid);
+    let number = lay::lay(of, lit, slot as usize, subchannel as usize, points, grid);
     number as u32
 }
 
@@ -276,7 +279,7 @@ pub extern "C" fn bp_empty(
 {
     let of = setup(mode, size, cell);
     let lit = mask as usize;
-    let number = grid::empty(of, lit, slot as usize, grid, points);
+    let number = empty::empty(of, lit, slot as usize, grid, points);
     number as u32
 }
 
@@ -295,7 +298,7 @@ pub extern "C" fn bp_empty_first(
 {
     let of = setup(mode, size, cell);
     let lit = mask as usize;
-    let number = grid::empty_first(of, lit, slot as usize, carriers as usize, grid, points);
+    let number = empty::empty_first(of, lit, slot as usize, carriers as usize, grid, points);
     number as u32
 }
 
@@ -318,7 +321,7 @@ pub extern "C" fn bp_look(
 {
     let of = setup(mode, size, cell);
     let lit = mask as usize;
-    let answer = grid::look(of, lit, symbol as usize, grid, carrier);
+    let answer = look::look(of, lit, symbol as usize, grid, carrier);
     match answer {
         Seen::Nothing => {
             *kind = 0;

@@ -31,7 +31,7 @@ use Rattle.mask.proofs.Law.{point-lit}
 use Rattle.lengths.specs.Length.{gridPoints}
 use Rattle.grid.specs.Row.{columnPosition, usedPosition, rowOf, columnOf}
 use Rattle.grid.specs.Grid.{contentAt, standsAt}
-use Rattle.grid.specs.Law.{PlacedIn}
+use Rattle.grid.specs.Grid.{PlacedIn}
 use Rattle.points.specs.declared.Point.{Point}
 use Rattle.points.specs.Points.{pointAt, floatsOf}
 use Rattle.points.specs.Model.{puts, turned, Within}

@@ -23,10 +23,11 @@ use Rattle.map.proofs.Law.{placing}
 use Rattle.points.specs.Points.{pointAt}
 use Rattle.lengths.specs.Length.{gridPoints}
 use Rattle.grid.specs.Row.{columnPosition}
-use Rattle.grid.specs.Grid.{relaid, standsAt, layOf}
-use Rattle.grid.specs.Law.{Leaves, PlacedIn}
+use Rattle.grid.specs.Grid.{standsAt}
+use Rattle.lay.specs.Lay.{relaid, layOf}
+use Rattle.grid.specs.Grid.{Leaves, PlacedIn}
 use Rattle.grid.proofs.Slot.{stands-lt, lit-holds, placed-there}
-use Rattle.grid.proofs.Law.{lay-fits, lay-at}
+use Rattle.lay.proofs.Left.{lay-fits, lay-at}
 use Rattle.places.specs.declared.PlaceRow.{PlaceRow}
 use Rattle.places.specs.Places.{askPlaces, placeRow, placesOf}
 use Rattle.places.specs.Law.{PlaceLaw}

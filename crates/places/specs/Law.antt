@@ -13,8 +13,8 @@ use Rattle.map.specs.Place.{placeOf}
 use Rattle.points.specs.Points.{pointAt}
 use Rattle.lengths.specs.Length.{gridPoints}
 use Rattle.grid.specs.Row.{columnPosition}
-use Rattle.grid.specs.Grid.{layOf}
-use Rattle.grid.specs.Law.{Leaves, PlacedIn}
+use Rattle.lay.specs.Lay.{layOf}
+use Rattle.grid.specs.Grid.{Leaves, PlacedIn}
 use Rattle.places.specs.Places.{placesOf}
 
 pub record PlaceLaw (setup : Setup) (slot subchannel : ℕ) : Type 0 where

@@ -2,7 +2,7 @@
 use mathlib.Core.Path.{_≡_}
 use native.Mathlib.Omega.{arith}
 use denote.Ref.{now}
-use Rattle.grid.specs.Grid.{lookOf, seen}
+use Rattle.look.specs.Look.{lookOf, seen}
 use Rattle.capi.specs.Grid.{lookOut}
 use Rattle.capi.proofs.Grid.{seen-small, seen-out}
 use mir.Syntax.{w32}
