@@ -1998,10 +1998,11 @@ class RuleSheet(Case):
         self.assertIn("\n### g. At most %d of the 48 indices\n" % self.amc, text)
         rows = [47 // (n - 1) + 1 for n in self.most]
         self.assertEqual([self.row * many for many in rows], list(self.most.values()))
-        self.assertIn(": %s rows of at most %d marks.\n" % (in_turn("%d", "%d", rows), self.row), text)
+        words = " ".join(text.split())
+        self.assertIn(": %s rows of at most %d marks." % (in_turn("%d", "%d", rows), self.row), words)
         sizes = [(64 * n, many) for n, many in zip(self.most, rows)]
         told = in_turn("At FFT size %d there are %d rows", "at %d there are %d", sizes)
-        self.assertIn(told + ", so the figure is twice that.", " ".join(text.split()))
+        self.assertIn(told + ", so the figure is twice that.", words)
 
     def test_no_text_speaks_of_whole_cells(self):
         """The figures are of one subchannel with one: that two cells collide, or share so much, is said nowhere."""
