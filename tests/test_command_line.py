@@ -1530,15 +1530,17 @@ class Streams(Files):
 
 class Bar(Files):
     def on_a_terminal(self, slots, pause):
-        """What a terminal is told that is standard error; the slots come in two halves."""
+        """What a terminal is told that is standard error; the slots come in two halves, with a pause between them."""
         terminal, errors = pty.openpty()
         points = some_points(2, 256, 0, slots)
         words = [COMMAND, "fill", "2", "256", "0", "-", self.path("grids")]
         with subprocess.Popen(words, stdin=subprocess.PIPE, stderr=errors, env=ENV) as filling:
             os.close(errors)
-            for half in (points[: len(points) // 2], points[len(points) // 2 :]):
-                send(filling, half)
-                time.sleep(pause)
+            send(filling, points[: len(points) // 2])
+            while not os.listdir(self.directory) and filling.poll() is None:
+                time.sleep(0.01)  # it has not started yet, which takes long on a busy machine
+            time.sleep(pause)
+            send(filling, points[len(points) // 2 :])
             filling.stdin.close()
             self.assertEqual(filling.wait(60), 0)
         told = b""
