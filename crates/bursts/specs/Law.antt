@@ -6,6 +6,7 @@ use Prim.Native.Nat.{ℕ, _+_, _%_, _<_, _≤_}
 use lib.ListN.{length}
 use Rattle.base.specs.Steps.{entry}
 use Rattle.map.specs.Mode.{subchannels}
+use Rattle.mask.specs.Mask.{isMask}
 use Rattle.plan.specs.declared.Zone.{Zone}
 use Rattle.plan.specs.Zone.{setupOf, fieldsRefusal}
 use Rattle.bursts.specs.Burst.{burstAt, burstCount, isCovering, checkOf}
@@ -18,6 +19,14 @@ Covers numbers i slot subchannel = isCovering (burstAt numbers i) slot subchanne
 -- it covers nothing beside its zone
 abbrev pub InZone : (size : ℕ) (zone : Zone) (numbers : List ℕ) (i : ℕ) → Type 0
 InZone size zone numbers i = (slot subchannel : ℕ) → Covers numbers i slot subchannel → (slot < zone .slots) × (subchannel < subchannels (setupOf size zone))
+
+-- a zone with another mask in place of its own
+abbrev pub masked : (zone : Zone) (mask : ℕ) → Zone
+masked zone mask = record { mode = zone .mode; cell = zone .cell; slots = zone .slots; mask = mask }
+
+-- two masks of a mode, by question 17
+abbrev pub Masks : (mode m n : ℕ) → Type 0
+Masks mode m n = (isMask mode m ≡ true) × (isMask mode n ≡ true)
 
 -- The first n bursts are fit for their zone, by what they cover.
 pub record FirstFit (size : ℕ) (zone : Zone) (numbers : List ℕ) (n : ℕ) : Type 0 where
@@ -79,3 +88,9 @@ pub record BurstLaw (size : ℕ) (zone : Zone) (numbers : List ℕ) : Type 0 whe
   pub row-long : (slot : ℕ) → length (ownersOf size zone slot numbers .owners) ≡ 192
   pub row-owner : (slot subchannel : ℕ) → subchannel < subchannels (setupOf size zone) → subchannel < 192 → entry (ownersOf size zone slot numbers .owners) subchannel ≡ ownerOf size zone slot subchannel numbers .owner
   pub row-past : (slot subchannel : ℕ) → subchannels (setupOf size zone) ≤ subchannel → subchannel < 192 → entry (ownersOf size zone slot numbers .owners) subchannel ≡ noOwner
+  -- "A refusal's row is all 64", whatever it was refused for.
+  pub refused-row : (slot subchannel : ℕ) → (ownersOf size zone slot numbers .refusal ≡ 0 → ⊥) → subchannel < 192 → entry (ownersOf size zone slot numbers .owners) subchannel ≡ noOwner
+  -- "Unlit subchannels count like lit ones": under every mask of the zone's mode each call gives the same answer, owners and refusals alike.
+  pub check-any-mask : (m n : ℕ) → Masks (zone .mode) m n → checkOf size (masked zone m) numbers ≡ checkOf size (masked zone n) numbers
+  pub owner-any-mask : (m n slot subchannel : ℕ) → Masks (zone .mode) m n → ownerOf size (masked zone m) slot subchannel numbers ≡ ownerOf size (masked zone n) slot subchannel numbers
+  pub row-any-mask : (m n slot : ℕ) → Masks (zone .mode) m n → ownersOf size (masked zone m) slot numbers ≡ ownersOf size (masked zone n) slot numbers
