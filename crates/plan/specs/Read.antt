@@ -17,7 +17,7 @@ use Rattle.plan.specs.Zone.{askZone, isCount, inPlaces}
 
 -- A value at the head of the bytes: it and the bytes after it are handed on. 10 and 11 are the value's questions.
 abbrev pub handOn : {A : Type 0} → (value : Answer Value) (bytes : List ℕ) (next : ℕ → List ℕ → Answer A) → Answer A
-handOn (accepted v) bytes next = next (v .value) (drop (v .size) bytes)
+handOn (accepted v) bytes next = next (v .value) (drop (v .bytes) bytes)
 handOn (refused number) bytes next = refused number
 
 abbrev pub readValue : {A : Type 0} → (bytes : List ℕ) (next : ℕ → List ℕ → Answer A) → Answer A

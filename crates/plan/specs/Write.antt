@@ -47,7 +47,7 @@ unfoldable pub planBytes : (plan : Plan) → List ℕ
 planBytes plan = encode (plan .count) ++ (encode (plan .size) ++ each zoneBytes (usedZones plan))
 
 -- what a call of `write` leaves: its answer and the destination
-pub record Outcome : Type 0 where
+pub record AfterWrite : Type 0 where
   pub answer : Answer ℕ
   pub dest : List ℕ
 
@@ -56,15 +56,15 @@ abbrev pub over : (bytes dest : List ℕ) → List ℕ
 over bytes dest = bytes ++ drop (length bytes) dest
 
 -- It gives the number of bytes written; on a refusal the destination keeps its contents.
-abbrev pub outcome : (answer : Answer (List ℕ)) (dest : List ℕ) → Outcome
-outcome (accepted bytes) dest = record { answer = accepted (length bytes); dest = over bytes dest }
-outcome (refused number) dest = record { answer = refused number; dest = dest }
+abbrev pub afterWrite : (answer : Answer (List ℕ)) (dest : List ℕ) → AfterWrite
+afterWrite (accepted bytes) dest = record { answer = accepted (length bytes); dest = over bytes dest }
+afterWrite (refused number) dest = record { answer = refused number; dest = dest }
 
 -- 16 Is the destination long enough?
-unfoldable pub writeOf : (plan : Plan) (dest : List ℕ) → Outcome
-writeOf plan dest = outcome (askPlan plan (ask (leb (length (planBytes plan)) (length dest)) 16 (accepted (planBytes plan)))) dest
+unfoldable pub writeOf : (plan : Plan) (dest : List ℕ) → AfterWrite
+writeOf plan dest = afterWrite (askPlan plan (ask (leb (length (planBytes plan)) (length dest)) 16 (accepted (planBytes plan)))) dest
 
 -- what an answer of `write` says, with the destination that it leaves
-abbrev pub written : (answer : Written) (dest : List ℕ) → Outcome
+abbrev pub written : (answer : Written) (dest : List ℕ) → AfterWrite
 written (Bytes number) dest = record { answer = accepted number; dest = dest }
 written (Refused number) dest = record { answer = refused number; dest = dest }

@@ -144,26 +144,38 @@ fn zone_at(bytes: &[u8], at: usize) -> ZoneFound
 {
     match value::read(bytes, at) {
         Found::Refused(number) => ZoneFound::Refused(number),
-        Found::Value { value: mode, size } => {
-            let at = at + size;
+        Found::Value {
+            value: mode,
+            bytes: n,
+        } => {
+            let at = at + n;
             match value::read(bytes, at) {
                 Found::Refused(number) => ZoneFound::Refused(number),
-                Found::Value { value: cell, size } => {
-                    let at = at + size;
+                Found::Value {
+                    value: cell,
+                    bytes: n,
+                } => {
+                    let at = at + n;
                     match value::read(bytes, at) {
                         Found::Refused(number) => ZoneFound::Refused(number),
-                        Found::Value { value: slots, size } => {
-                            let at = at + size;
+                        Found::Value {
+                            value: slots,
+                            bytes: n,
+                        } => {
+                            let at = at + n;
                             match value::read(bytes, at) {
                                 Found::Refused(number) => ZoneFound::Refused(number),
-                                Found::Value { value: mask, size } => ZoneFound::Found {
+                                Found::Value {
+                                    value: mask,
+                                    bytes: n,
+                                } => ZoneFound::Found {
                                     zone: Zone {
                                         mode: mode,
                                         cell: cell,
                                         slots: slots,
                                         mask: mask,
                                     },
-                                    next: at + size,
+                                    next: at + n,
                                 },
                             }
                         }
@@ -219,7 +231,7 @@ pub fn read(bytes: &[u8]) -> ReadPlan
         Found::Refused(number) => refused(number),
         Found::Value {
             value: count,
-            size: at,
+            bytes: at,
         } => {
             if !base::is_up_to(8, count) {
                 return refused(12);
@@ -228,7 +240,7 @@ pub fn read(bytes: &[u8]) -> ReadPlan
                 Found::Refused(number) => refused(number),
                 Found::Value {
                     value: size,
-                    size: n,
+                    bytes: n,
                 } => {
                     if !map::is_four_sizes(size) {
                         return refused(2);
@@ -305,10 +317,10 @@ fn put_zone(dest: &mut [u8], at: usize, zone: Zone) -> usize
     requires { ⌜ Small zone × (at + 6 ≤ length (now dest)) ⌝ }
     ensures { λ r. ⌜ Put (now (dest .entry)) at (zoneBytes zone) r (now (dest .exit)) × (r ≤ at + 6) ⌝ }
 {
-    let cell = value::write(dest, at, zone.mode);
-    let slots = value::write(dest, cell, zone.cell);
-    let mask = value::write(dest, slots, zone.slots);
-    value::write(dest, mask, zone.mask)
+    let after_mode = value::write(dest, at, zone.mode);
+    let after_cell = value::write(dest, after_mode, zone.cell);
+    let after_slots = value::write(dest, after_cell, zone.slots);
+    value::write(dest, after_slots, zone.mask)
 }
 
 // Puts an accepted plan, 51 bytes at most; answers how many.
@@ -318,8 +330,8 @@ fn put_plan(dest: &mut [u8], plan: Plan) -> usize
 {
     let used = plan.count;
     let zones = plan.zones;
-    let size = value::write(dest, 0, used);
-    let mut at = value::write(dest, size, plan.size);
+    let after_count = value::write(dest, 0, used);
+    let mut at = value::write(dest, after_count, plan.size);
     let mut k = 0;
     while k < used {
         at = put_zone(dest, at, zones[k]);

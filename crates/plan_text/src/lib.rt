@@ -22,10 +22,10 @@ fn put_line(dest: &mut [u8], at: usize, zone: Zone) -> usize
     requires { ⌜ at + 84 ≤ length (now dest) ⌝ }
     ensures { λ r. ⌜ (Put (now (dest .entry)) at (lineOf zone) r (now (dest .exit))) × (r ≤ at + 84) ⌝ }
 {
-    let cell = put_field(dest, at, zone.mode, b' ');
-    let slots = put_field(dest, cell, zone.cell, b' ');
-    let mask = put_field(dest, slots, zone.slots, b' ');
-    put_field(dest, mask, zone.mask, b'\n')
+    let after_mode = put_field(dest, at, zone.mode, b' ');
+    let after_cell = put_field(dest, after_mode, zone.cell, b' ');
+    let after_slots = put_field(dest, after_cell, zone.slots, b' ');
+    put_field(dest, after_slots, zone.mask, b'\n')
 }
 
 // Puts a line for each zone of the plan.
