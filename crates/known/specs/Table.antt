@@ -19,13 +19,15 @@ use Rattle.bursts.specs.declared.Owned.{Owned}
 use Rattle.bursts.specs.Burst.{checkOf}
 use Rattle.bursts.specs.Owner.{ownerOf}
 
--- a carrier below DC
+-- A carrier below DC.
 abbrev pub minus : (k : ℕ) → ℤ
 minus k = negℤ (pos k)
 
+-- A place that is accepted.
 abbrev pub at : (symbol : ℕ) (carrier : ℤ) → Answer Place
 at symbol carrier = accepted (record { symbol = symbol; carrier = carrier })
 
+-- Does a carrier hold data?
 abbrev pub isPoint : (answer : Answer Content) → Bool
 isPoint (accepted guard) = false
 isPoint (accepted dc) = false
@@ -33,24 +35,24 @@ isPoint (accepted pilot) = false
 isPoint (accepted (point slot subchannel index)) = true
 isPoint (refused number) = false
 
--- the tiles of line 9
+-- The tiles of line 9.
 abbrev pub tiles : List ℕ
 tiles = 1 ∷ 83 ∷ 166 ∷ 256 ∷ 324 ∷ 380 ∷ []
 
--- the numbers of the marks that are set, where the first mark has number k
+-- The numbers of the marks that are set, where the first mark has number k.
 unfoldable pub setFrom : (k : ℕ) (hits : List Bool) → List ℕ
 setFrom k [] = []
 setFrom k (true ∷ hits) = k ∷ setFrom (suc k) hits
 setFrom k (false ∷ hits) = setFrom (suc k) hits
 
--- the groups of line 5, and the indices of line 6
+-- The groups of line 5, and the indices of line 6.
 abbrev pub groups : List ℕ
 groups = 0 ∷ 1 ∷ 31 ∷ 32 ∷ []
 
 abbrev pub indices : List ℕ
 indices = 8 ∷ 24 ∷ 32 ∷ []
 
--- a zone of a plan
+-- A zone of a plan.
 abbrev pub zone : (mode cell slots mask : ℕ) → Zone
 zone mode cell slots mask = record { mode = mode; cell = cell; slots = slots; mask = mask }
 
@@ -58,7 +60,7 @@ zone mode cell slots mask = record { mode = mode; cell = cell; slots = slots; ma
 abbrev pub bytes : (zones : List Zone) → List ℕ
 bytes zones = length zones ∷ 0x80 ∷ 0x10 ∷ each (λ z. z .mode ∷ z .cell ∷ z .slots ∷ z .mask ∷ []) zones
 
--- Such a plan when it is read.
+-- What reading answers where a plan at 2048 of these zones is read.
 abbrev pub whole : (zones : List Zone) → Answer Plan
 whole zones = accepted (planWith (length zones) 2048 zones)
 
@@ -66,31 +68,33 @@ whole zones = accepted (planWith (length zones) 2048 zones)
 abbrev pub third : (before mode slots mask : ℕ) → List Zone
 third before mode slots mask = zone 0 0 1 0x3F ∷ zone before 0 1 0 ∷ zone mode 0 slots mask ∷ []
 
--- AMC's modes
+-- The mode is one of AMC's.
 abbrev pub Amc : (mode : ℕ) → Type 0
 Amc mode = (3 ≤ mode) × (mode ≤ 6)
 
--- three bursts: subchannels 0 and 1 in slots 0 to 3, 2 and 3 in all six, 0 and 1 in slots 4 and 5
+-- Three bursts: subchannels 0 and 1 in slots 0 to 3, 2 and 3 in all six, 0 and 1 in slots 4 and 5.
 abbrev pub bursts : List ℕ
 bursts = 0 ∷ 2 ∷ 0 ∷ 4 ∷ 2 ∷ 2 ∷ 0 ∷ 6 ∷ 0 ∷ 2 ∷ 4 ∷ 2 ∷ []
 
--- the first of them, and another
+-- The first of the three bursts, and another.
 abbrev pub corner : (subchannel subchannels slot slots : ℕ) → List ℕ
 corner subchannel subchannels slot slots = 0 ∷ 2 ∷ 0 ∷ 4 ∷ subchannel ∷ subchannels ∷ slot ∷ slots ∷ []
 
+-- Every list of bursts here is for one zone: mode 2 at 256, cell 0, six slots.
 abbrev pub check : (numbers : List ℕ) → ℕ
 check numbers = checkOf 256 (zone 2 0 6 0) numbers
 
 abbrev pub owner : (slot subchannel : ℕ) → Owned
 owner slot subchannel = ownerOf 256 (zone 2 0 6 0) slot subchannel bursts
 
+-- What asking for an owner answers: an owner, or 64, and how many were looked at; or a refusal.
 abbrev pub owns : (owner looked : ℕ) → Owned
 owns owner looked = record { refusal = 0; owner = owner; looked = looked }
 
 abbrev pub refusal : (number : ℕ) → Owned
 refusal number = record { refusal = number; owner = 64; looked = 0 }
 
--- what a carrier holds under any PUSC downlink cell
+-- What a carrier holds under any PUSC downlink cell.
 pub record AnyCell (cell : ℕ) : Type 0 where
   pub data-in-symbol-0 : isPoint (locateOf (setupWith 0 2048 cell) 0 (minus 840)) ≡ true
   pub pilot-in-symbol-1 : locateOf (setupWith 0 2048 cell) 1 (minus 840) ≡ accepted pilot

@@ -34,13 +34,13 @@ pub struct Plan {
     pub zones: [Zone; 8],
 }
 
-// The refusal, or 0 and the plan.
+// What reading a plan answers: the number of the refusal, or 0 and the plan.
 pub struct ReadPlan {
     pub refusal: u8,
     pub plan: Plan,
 }
 
-// How many bytes were written, or the refusal.
+// What writing a plan answers: how many bytes were written, or the number of the refusal.
 pub enum Written {
     Bytes(usize),
     Refused(u8),
@@ -52,13 +52,13 @@ pub enum Before {
     After(usize),
 }
 
-// A zone and the place after it, or the refusal.
+// A zone and the place after it, or the number of the refusal.
 pub enum ZoneFound {
     Found { zone: Zone, next: usize },
     Refused(u8),
 }
 
-// Is it one of AMC's modes?
+// Is a mode one of AMC's?
 fn is_amc(mode: usize) -> bool
     ensures { λ r. ⌜ r ≡ isAmc mode ⌝ }
 {
@@ -68,6 +68,7 @@ fn is_amc(mode: usize) -> bool
     mode < 7
 }
 
+// Does a zone stand in its place, the first or after one of a mode?
 fn is_order(size: usize, prior: Before, zone: Zone) -> bool
     ensures { λ r. ⌜ r ≡ isOrder prior size zone ⌝ }
 {
@@ -125,6 +126,7 @@ fn zone_refusal(size: usize, prior: Before, zone: Zone) -> u8
     14
 }
 
+// The answer of a refusal has no plan: count, size and zones are all zero.
 fn refused(number: u8) -> ReadPlan
     ensures { λ r. ⌜ r ≡ answered (no number) ⌝ }
 {
@@ -252,6 +254,7 @@ pub fn read(bytes: &[u8]) -> ReadPlan
     }
 }
 
+// Is a place of a plan unused, all zero?
 fn is_unused(zone: Zone) -> bool
     ensures { λ r. ⌜ r ≡ isUnused zone ⌝ }
 {

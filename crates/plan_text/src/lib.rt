@@ -8,7 +8,7 @@ ghost use Rattle.text.specs.Text.{Put};
 ghost use Rattle.plan.specs.Write.{usedZones};
 ghost use Rattle.plan_text.specs.Lines.{field, lineOf, linesOf, refusalLine, textOf};
 
-// Puts a number in base ten and one byte behind it; 21 bytes at most.
+// Puts a number in base ten and one byte behind it, 21 bytes at most.
 fn put_field(dest: &mut [u8], at: usize, x: usize, mark: u8) -> usize
     requires { ⌜ at + 21 ≤ length (now dest) ⌝ }
     ensures { λ r. ⌜ (Put (now (dest .entry)) at (field x mark) r (now (dest .exit))) × (r ≤ at + 21) ⌝ }
@@ -17,7 +17,7 @@ fn put_field(dest: &mut [u8], at: usize, x: usize, mark: u8) -> usize
     text::put_byte(dest, next, mark)
 }
 
-// Puts a zone's line; 84 bytes at most.
+// Puts the line of a zone, 84 bytes at most.
 fn put_line(dest: &mut [u8], at: usize, zone: Zone) -> usize
     requires { ⌜ at + 84 ≤ length (now dest) ⌝ }
     ensures { λ r. ⌜ (Put (now (dest .entry)) at (lineOf zone) r (now (dest .exit))) × (r ≤ at + 84) ⌝ }
@@ -47,6 +47,7 @@ fn put_zones(dest: &mut [u8], plan: Plan) -> usize
     at
 }
 
+// Puts the line of a refusal.
 fn put_refusal(dest: &mut [u8], number: u8) -> usize
     requires { ⌜ 672 ≤ length (now dest) ⌝ }
     ensures { λ r. ⌜ Put (now (dest .entry)) 0 (refusalLine number) r (now (dest .exit)) ⌝ }

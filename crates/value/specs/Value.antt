@@ -12,7 +12,7 @@ use Rattle.value.specs.declared.Found.the-variants.{Value as Is, Refused
 abbrev pub Bytes : (s : List ℕ) → Type 0
 Bytes s = (k : ℕ) → getD s k 0 < 256
 
--- a value that was read, and how many bytes it takes
+-- A value that was read, and how many bytes it takes.
 pub record Value : Type 0 where
   pub value : ℕ
   pub bytes : ℕ

@@ -6,7 +6,7 @@ ghost use lib.ListN.{length, drop};
 ghost use Rattle.value.specs.Value.{found, valueOf, encode};
 ghost use Rattle.text.specs.Text.{Put};
 
-// A value and how many bytes it takes, or the refusal.
+// A value and how many bytes it takes, or the number of the refusal.
 pub enum Found {
     Value { value: usize, bytes: usize },
     Refused(u8),
