@@ -141,43 +141,34 @@ fn refused(number: u8) -> ReadPlan
 }
 
 // The zone whose first byte stands at a place: its values in a row.
-fn zone_at(bytes: &[u8], at: usize) -> ZoneFound
-    ensures { λ r. ⌜ ZoneAt (now (bytes .entry)) at r ⌝ }
+fn zone_at(s: &[u8], at: usize) -> ZoneFound
+    ensures { λ r. ⌜ ZoneAt (now (s .entry)) at r ⌝ }
 {
-    match value::read(bytes, at) {
+    match value::read(s, at) {
         Found::Refused(number) => ZoneFound::Refused(number),
-        Found::Value {
-            value: mode,
-            bytes: n,
-        } => {
-            let at = at + n;
-            match value::read(bytes, at) {
+        Found::Value { value: mode, bytes } => {
+            let at = at + bytes;
+            match value::read(s, at) {
                 Found::Refused(number) => ZoneFound::Refused(number),
-                Found::Value {
-                    value: cell,
-                    bytes: n,
-                } => {
-                    let at = at + n;
-                    match value::read(bytes, at) {
+                Found::Value { value: cell, bytes } => {
+                    let at = at + bytes;
+                    match value::read(s, at) {
                         Found::Refused(number) => ZoneFound::Refused(number),
                         Found::Value {
                             value: slots,
-                            bytes: n,
+                            bytes,
                         } => {
-                            let at = at + n;
-                            match value::read(bytes, at) {
+                            let at = at + bytes;
+                            match value::read(s, at) {
                                 Found::Refused(number) => ZoneFound::Refused(number),
-                                Found::Value {
-                                    value: mask,
-                                    bytes: n,
-                                } => ZoneFound::Found {
+                                Found::Value { value: mask, bytes } => ZoneFound::Found {
                                     zone: Zone {
                                         mode: mode,
                                         cell: cell,
                                         slots: slots,
                                         mask: mask,
                                     },
-                                    next: at + n,
+                                    next: at + bytes,
                                 },
                             }
                         }
