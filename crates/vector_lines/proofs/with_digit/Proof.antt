@@ -1,9 +1,9 @@
--- `text::with_digit` meets its contract.
+-- `vector_lines::with_digit` meets its contract.
 use native.Mathlib.Omega.{arith}
 use borrow.Author.Needs.{needs}
-use Rattle.text.specs.Model.{withDigit}
-use Rattle.text.proofs.with_digit.Statement.{statement}
-use Rattle.text.proofs.with_digit.Tie as tie
+use Rattle.vector_lines.specs.Model.{withDigit}
+use Rattle.vector_lines.proofs.with_digit.Statement.{statement}
+use Rattle.vector_lines.proofs.with_digit.Tie as tie
 
 pub with-digit-spec : {M : Type 1} → statement M
 unfolding withDigit

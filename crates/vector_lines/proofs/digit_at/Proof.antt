@@ -1,9 +1,9 @@
--- `text::digit_at` meets its contract.
+-- `vector_lines::digit_at` meets its contract.
 use mathlib.Core.Path.{sym}
 use borrow.Author.Needs.{needs}
-use Rattle.text.proofs.Reading.{digit-past, digit-low, digit-high, digit-in}
-use Rattle.text.proofs.digit_at.Statement.{statement}
-use Rattle.text.proofs.digit_at.Tie as tie
+use Rattle.vector_lines.proofs.Reading.{digit-past, digit-low, digit-high, digit-in}
+use Rattle.vector_lines.proofs.digit_at.Statement.{statement}
+use Rattle.vector_lines.proofs.digit_at.Tie as tie
 
 pub digit-at-spec : {M : Type 1} → statement M
 digit-at-spec =

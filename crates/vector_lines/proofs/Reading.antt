@@ -10,8 +10,8 @@ use lib.ListN.{length, getD, drop, drop-of-length-le, List·getD-eq-default}
 use lib.Seq.{drop-cons}
 use lib.Dec.{eqb}
 use borrow.Author.Tests.{lt-ltb, le-ltb}
 use Rattle.text.proofs.Laws.{below}
-use Rattle.text.specs.Model.{numeral, digitOf, withDigit, readOn, pastSpaces}
+use Rattle.vector_lines.specs.Model.{numeral, digitOf, withDigit, readOn, pastSpaces}
 
 pub digit-low : (byte : ℕ) → byte < 48 → digitOf byte ≡ 10
 unfolding digitOf

@@ -1,12 +1,12 @@
--- `text::past_spaces` meets its contract. The loop's invariant: what is left gives the answer. The measure is what is left of the source.
+-- `vector_lines::past_spaces` meets its contract. The loop's invariant: what is left gives the answer. The measure is what is left of the source.
 use borrow.Author.Needs.{needs}
 use Prim.Native.Nat.{_-_}
 use mathlib.Core.Path.{_≡_, refl, sym, _∙_}
 use lib.ListN.{length, drop}
-use Rattle.text.specs.Model.{pastSpaces}
-use Rattle.text.proofs.Reading.{space-more, space-none, space-end}
-use Rattle.text.proofs.past_spaces.Statement.{statement}
-use Rattle.text.proofs.past_spaces.Tie as tie
+use Rattle.vector_lines.specs.Model.{pastSpaces}
+use Rattle.vector_lines.proofs.Reading.{space-more, space-none, space-end}
+use Rattle.vector_lines.proofs.past_spaces.Statement.{statement}
+use Rattle.vector_lines.proofs.past_spaces.Tie as tie
 
 abbrev Inv-loop : tie.InvT-loop
 Inv-loop src at next₀ next = pastSpaces next (drop next src) ≡ pastSpaces at (drop at src)

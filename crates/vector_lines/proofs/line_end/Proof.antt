@@ -1,9 +1,9 @@
--- `text::line_end` meets its contract. The measure is what is left of the source.
+-- `vector_lines::line_end` meets its contract. The measure is what is left of the source.
 use borrow.Author.Needs.{needs}
 use Prim.Native.Nat.{_-_, _≤_}
 use lib.ListN.{length}
-use Rattle.text.proofs.line_end.Statement.{statement}
-use Rattle.text.proofs.line_end.Tie as tie
+use Rattle.vector_lines.proofs.line_end.Statement.{statement}
+use Rattle.vector_lines.proofs.line_end.Tie as tie
 
 abbrev Inv-loop : tie.InvT-loop
 Inv-loop src at end₀ end = (at ≤ end) × (end ≤ length src)
