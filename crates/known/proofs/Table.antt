@@ -11,7 +11,7 @@ use Rattle.map.specs.Place.{usedCarrier, placeOf, locateOf, placeAt, contentOf,
 use Rattle.collision.specs.Collision.{countOf, indexIn, columnIn, ofuscHit, amcHit, answerOf, ofuscOf, amcOf}
 use Rattle.mask.specs.Mask.{isMask}
 use Rattle.plan.specs.Zone.{isZoneMode, each}
-use Rattle.plan.proofs.Points.{any-first-cell, first-refusals, amc-after-amc, others-after-amc, faults-in-order, mask-outside}
+use Rattle.plan.proofs.Points.{any-first-cell, first-refusals, amc-after-amc, others-after-amc, faults-in-order, mask-outside, masks-refused}
 use Rattle.base.specs.First.{firstOf}
 use Rattle.bursts.specs.Owner.{ownerAt, lookedAt, ownerOf}
 use Rattle.known.specs.Table.{Known, AnyCell, setFrom, groups, indices, bursts, corner, check, owner, owns, refusal}
@@ -72,6 +72,7 @@ known =
       line-10 = any-cell;
       line-11 = (any-first-cell 0 (omega arith), first-refusals .0);
       line-11-twin = any-first-cell;
+      line-11-masks = masks-refused;
       amc-after-amc = λ m n h h′. amc-after-amc m n (h .0) (h .1) (h′ .0) (h′ .1);
       others-after-amc = λ m h. others-after-amc m (h .0) (h .1);
       faults-in-order = faults-in-order;

@@ -126,6 +126,10 @@ pub record Known : Type 0 where
   pub line-11 : (planOf (1 ∷ 0x80 ∷ 0x10 ∷ 0 ∷ 0 ∷ 0x0C ∷ 0x3F ∷ []) ≡ accepted (planWith 1 2048 (zone 0 0 12 63 ∷ []))) × (planOf (1 ∷ 0x80 ∷ 0x10 ∷ 2 ∷ 0 ∷ 0x0C ∷ 0 ∷ []) ≡ refused 14)
   -- Document 02, wish 1: its twin with cell 5, by wish 5 01 80 10 00 05 0C 3F (hex), is read; and so is the line with every cell of mode 0, 0 to 31.
   pub line-11-twin : (cell : ℕ) → cell < 32 → planOf (1 ∷ 0x80 ∷ 0x10 ∷ 0 ∷ cell ∷ 0x0C ∷ 0x3F ∷ []) ≡ accepted (planWith 1 2048 (zone 0 cell 12 63 ∷ []))
+  -- Document 02, wish 5: line 11 with a mask out of its range. 3F (hex) in mode 2 meets 17, not 14; 00 and 40 in mode 0 meet it too; where there are no slots either, 13 comes before 17; without its mask the line ends within a zone.
+  pub line-11-masks : (planOf (1 ∷ 0x80 ∷ 0x10 ∷ 2 ∷ 0 ∷ 0x0C ∷ 0x3F ∷ []) ≡ refused 17) × (planOf (1 ∷ 0x80 ∷ 0x10 ∷ 0 ∷ 0 ∷ 0x0C ∷ 0 ∷ []) ≡ refused 17)
+      × (planOf (1 ∷ 0x80 ∷ 0x10 ∷ 0 ∷ 0 ∷ 0x0C ∷ 0x40 ∷ []) ≡ refused 17) × (planOf (1 ∷ 0x80 ∷ 0x10 ∷ 0 ∷ 0 ∷ 0 ∷ 0 ∷ []) ≡ refused 13)
+      × (planOf (1 ∷ 0x80 ∷ 0x10 ∷ 0 ∷ 0 ∷ 0x0C ∷ []) ≡ refused 10)
   -- Not starred: plans at 2048, worked out by hand. Document 02, wish 2: after a zone of any of modes 3 to 6 one of any of these is read, and one of mode 0 or 2 meets 14.
   pub amc-after-amc : (m n : ℕ) → Amc m → Amc n → planOf (bytes (third m n 1 0)) ≡ whole (third m n 1 0)
   pub others-after-amc : (m : ℕ) → Amc m → (planOf (bytes (third m 0 1 0x3F)) ≡ refused 14) × (planOf (bytes (third m 2 1 0)) ≡ refused 14)
