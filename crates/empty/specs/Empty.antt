@@ -28,13 +28,13 @@ emptyOf setup mask slot grid points =
 abbrev pub litStandsAt : (setup : Setup) (mask slot n : ℕ) → ℕ
 litStandsAt setup mask slot n = standsAt setup slot (ofLitRank setup mask (n / 48)) (n % 48)
 
--- Document 02, wish 6: a call beside it empties only so many carriers from the grid's start (all, where the grid has fewer). It writes the points on these and no other float. The grid's places are counted, guards, DC and pilots too.
+-- Document 02, wish 6: a call beside empty empties only so many carriers from the grid's start (all, where the grid has fewer). It writes the points on these and no other float. The grid's places are counted, guards, DC and pilots too.
 unfoldable pub emptiedFirst : (setup : Setup) (mask slot carriers : ℕ) (grid points : List Float) → List Float
 emptiedFirst setup mask slot carriers grid points =
     floatsOf (48 * litSubchannels setup mask)
     (λ n. pick (ltb (litStandsAt setup mask slot n) carriers) (pointAt grid (litStandsAt setup mask slot n)) (pointAt points n))
 
--- It has the fields of empty and a count, and puts the same questions: none about the count.
+-- The call that empties the first carriers has the fields of empty and a count, and puts the same questions: 1, 2, 3, 17, 4, 8, 9, none about the count.
 unfoldable pub emptyFirstOf : (setup : Setup) (mask slot carriers : ℕ) (grid points : List Float) → Outcome
 emptyFirstOf setup mask slot carriers grid points =
     outcome

@@ -55,7 +55,7 @@ fn drop_run(
     );
 }
 
-// The same of all runs of a row, up to the first that lies past the first `carriers` of the grid.
+// The points on all runs of a row dropped at their numbers, up to the first run that lies past the first `carriers` of the grid.
 fn empty_row(
     setup: Setup,
     mask: usize,

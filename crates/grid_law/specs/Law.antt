@@ -70,7 +70,7 @@ pub record LaidGrid (setup : Setup) (mask slot : ℕ) (p : Point) (lays : List L
 
 -- what holds of a grid that is filled with these points of a slot's lit subchannels and the pilot point p
 pub record FilledGrid (setup : Setup) (mask slot : ℕ) (p : Point) (points grid : List Float) : Type 0 where
-  -- It is the grid that document 01 defines, where only the mask's groups are lit.
+  -- The grid is the one that document 01 defines, where only the mask's groups are lit.
   pub is-filled : grid ≡ filled setup mask slot p points
   -- Both buffers have the lengths that are told.
   pub lengths-fit : (length points ≡ litPointsLength (setup .mode) (setup .size) mask) × (length grid ≡ gridLength (setup .mode) (setup .size))
@@ -108,13 +108,13 @@ pub record GridLaw : Type 0 where
       → groundOf setup mask slot p old ≡ groundOf setup mask other p old
   pub ground-always : (setup : Setup) (mask slot other : ℕ) (p : Point) (old : List Float) → slot < 512 → other < 512 → (setup .mode ≡ 0) ⊎ (symbols setup % 3 ≡ 0)
       → groundOf setup mask slot p old ≡ groundOf setup mask other p old
-  -- Where all is lit it serves every cell too.
+  -- Where all is lit one ground serves every cell too.
   pub ground-every-cell : (mode size cell other slot : ℕ) (p : Point) (old : List Float) → Passes (setupWith mode size cell) → Passes (setupWith mode size other)
       → groundOf (setupWith mode size cell) (allLit mode) slot p old ≡ groundOf (setupWith mode size other) (allLit mode) slot p old
-  -- Document 02, wish 5: laying an unlit subchannel meets 5,
+  -- Document 02, wish 5: laying an unlit subchannel meets 5.
   pub unlit-meets-5 : (setup : Setup) (mask slot s : ℕ) (points grid : List Float) → Passes setup → isMask (setup .mode) mask ≡ true → slot < 512
       → s < subchannels setup → isLit setup mask s ≡ false → layOf setup mask slot s points grid ≡ record { refusal = 5; buffer = grid }
-  -- and look answers nothing on what is not lit, whatever the grid holds there.
+  -- Document 02, wish 5: look answers nothing on what is not lit, whatever the grid holds there.
   pub unlit-is-nothing : (setup : Setup) (mask symbol used : ℕ) (grid : List Float) → Passes setup → isMask (setup .mode) mask ≡ true → symbol < 512 * symbols setup
       → used < band setup .used → isUsedLit setup mask used ≡ false → length grid ≡ gridLength (setup .mode) (setup .size)
       → lookOf setup mask symbol grid (usedCarrier setup used) ≡ accepted nothing
@@ -124,15 +124,15 @@ pub record GridLaw : Type 0 where
       → pointAt next (pointNumber (litRank setup mask s) index)
       ≡ pick (ltb (columnPosition setup (symbol % symbols setup) column) carriers) (standing setup grid symbol column)
       (pointAt points (pointNumber (litRank setup mask s) index))
-  -- Document 02, wish 6: with a count of all carriers, or more, it is empty,
+  -- Document 02, wish 6: emptying the first carriers, with a count of all carriers or more, is emptying.
   pub first-of-all : (setup : Setup) (mask slot carriers : ℕ) (grid points : List Float) → gridPoints setup ≤ carriers
       → emptyFirstOf setup mask slot carriers grid points ≡ emptyOf setup mask slot grid points
-  -- a first count and then a larger one is the larger one alone, also where more has come into the grid since,
+  -- Emptying by a first count and then by a larger one is emptying by the larger one alone, also where more has come into the grid since.
   pub first-then-more : (setup : Setup) (mask slot fewer more : ℕ) (earlier grid points : List Float) → length earlier ≡ length grid → fewer ≤ more
       → emptyFirstOf setup mask slot more grid (emptyFirstOf setup mask slot fewer earlier points .buffer) ≡ emptyFirstOf setup mask slot more grid points
-  -- and with a count of none nothing is written.
+  -- With a count of none nothing is written.
   pub first-of-none : (setup : Setup) (mask slot : ℕ) (grid points : List Float) → emptyFirstOf setup mask slot 0 grid points .buffer ≡ points
-  -- Document 02, wish 6: there is no question about the count. It is refused where empty is, with the same number.
+  -- Document 02, wish 6: there is no question about the count. Emptying the first carriers is refused where empty is, with the same number.
   pub first-refused-alike : (setup : Setup) (mask slot carriers : ℕ) (grid points : List Float)
       → emptyFirstOf setup mask slot carriers grid points .refusal ≡ emptyOf setup mask slot grid points .refusal
   -- An accepted move leaves the grid as long as it was.

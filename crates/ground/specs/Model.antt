@@ -13,7 +13,7 @@ use Rattle.points.specs.Points.{zeroPoint}
 use Rattle.points.specs.Model.{puts}
 use Rattle.grid.specs.Row.{usedPosition}
 
--- pilot j of a row whose pilots are a comb
+-- where pilot j of a row stands in the grid, the row's pilots being a comb
 abbrev pub pilotPlace : (setup : Setup) (row : ℕ) (comb : Comb) (j : ℕ) → ℕ
 pilotPlace setup row comb j = usedPosition setup row (pilotNumber comb j)
 
@@ -21,7 +21,7 @@ pilotPlace setup row comb j = usedPosition setup row (pilotNumber comb j)
 unfoldable pub runPoint : (setup : Setup) (lit : List ℕ) (p : Point) (i : ℕ) → Point
 runPoint setup lit p i = pick (eqb (runLit setup lit i) 0) zeroPoint p
 
--- these put on the pilots of a row
+-- the pilot point, or 0.0, put on each pilot of a row
 unfoldable pub pilotRow : (setup : Setup) (lit : List ℕ) (slot : ℕ) (p : Point) (row : ℕ) (floats : List Float) → List Float
 pilotRow setup lit slot p row floats =
     let comb = combOf setup (slot * symbols setup + row) in

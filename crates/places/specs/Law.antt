@@ -23,7 +23,7 @@ pub record PlaceLaw (setup : Setup) (slot subchannel : ℕ) : Type 0 where
   -- Each entry is where `place` puts that index: the column of its carrier, in the symbol's row of the grid.
   pub is-placed : (index symbol column : ℕ) → PlacedIn setup slot subchannel index symbol column
       → entry (placesOf setup slot subchannel .places) index ≡ columnPosition setup (symbol % symbols setup) column
-  -- It lies in the grid.
+  -- Each entry of an accepted row lies in the grid.
   pub in-grid : (index : ℕ) → placesOf setup slot subchannel .refusal ≡ 0 → index < 48 → entry (placesOf setup slot subchannel .places) index < gridPoints setup
   -- The row is refused where `place` is, with the same number.
   pub refused-alike : (index : ℕ) → index < 48 → placesOf setup slot subchannel .refusal ≡ refusalOf (placeOf setup slot subchannel index)

@@ -1,4 +1,4 @@
--- `grid::drop_run` meets its contract.
+-- `empty::drop_run` meets its contract.
 use mathlib.Core.Path.{_≡_}
 use mathlib.Core.Bool.{true}
 use Prim.Native.Nat.{_*_}

@@ -1,4 +1,4 @@
--- `grid::empty` meets its contract.
+-- `empty::empty` meets its contract.
 use mathlib.Core.Path.{sym, _∙_}
 use native.Mathlib.Omega.{arith}
 use borrow.Author.Needs.{needs}

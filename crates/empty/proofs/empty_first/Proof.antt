@@ -1,4 +1,4 @@
--- `grid::empty_first` meets its contract.
+-- `empty::empty_first` meets its contract.
 use mathlib.Core.Path.{sym, _∙_}
 use borrow.Author.Needs.{needs}
 use Rattle.lengths.proofs.Refusal.{mask-few, empty-numbered, empty-accepted}

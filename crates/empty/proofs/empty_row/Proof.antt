@@ -1,4 +1,4 @@
--- `grid::empty_row` meets its contract.
+-- `empty::empty_row` meets its contract.
 use mathlib.Core.Path.{_≡_, refl, ap, _∙_}
 use Prim.Native.Nat.{ℕ, _+_, _-_, _*_, _<_}
 use native.Mathlib.Omega.{arith}

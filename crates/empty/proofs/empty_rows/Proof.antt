@@ -1,4 +1,4 @@
--- `grid::empty_rows` meets its contract.
+-- `empty::empty_rows` meets its contract.
 use mathlib.Core.Path.{_∙_}
 use Prim.Native.Nat.{_-_}
 use borrow.Author.Needs.{needs}

@@ -1,4 +1,4 @@
--- `grid::ground` meets its contract.
+-- `ground::ground` meets its contract.
 use mathlib.Core.Path.{sym, ap, _∙_}
 use lib.ListN.{length}
 use borrow.Author.Needs.{needs}

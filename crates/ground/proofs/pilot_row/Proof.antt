@@ -1,4 +1,4 @@
--- `grid::pilot_row` meets its contract.
+-- `ground::pilot_row` meets its contract.
 use mathlib.Core.Path.{_≡_, sym, _∙_}
 use mathlib.Core.List.{[], _∷_}
 use Prim.Native.Nat.{_-_, _*_, _<_}

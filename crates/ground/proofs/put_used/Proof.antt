@@ -1,4 +1,4 @@
--- `grid::put_used` meets its contract.
+-- `ground::put_used` meets its contract.
 use mathlib.Core.Path.{ap, _∙_}
 use native.Mathlib.Omega.{arith}
 use borrow.Author.Needs.{needs}

@@ -1,4 +1,4 @@
--- `grid::zeros_and_pilots` meets its contract.
+-- `ground::zeros_and_pilots` meets its contract.
 use mathlib.Core.Path.{sym, _∙_}
 use Prim.Native.Nat.{_-_}
 use native.Mathlib.Omega.{arith}

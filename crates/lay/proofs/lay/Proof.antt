@@ -1,4 +1,4 @@
--- `grid::lay` meets its contract.
+-- `lay::lay` meets its contract.
 use mathlib.Core.Path.{sym, _∙_}
 use native.Mathlib.Omega.{arith}
 use borrow.Author.Needs.{needs}

@@ -1,4 +1,4 @@
--- `grid::column_position` meets its contract.
+-- `look::column_position` meets its contract.
 use mathlib.Core.Path.{refl}
 use native.Mathlib.Nat.{mod-lt}
 use native.Mathlib.Omega.{arith}

@@ -1,4 +1,4 @@
--- `grid::look` meets its contract.
+-- `look::look` meets its contract.
 use mathlib.Core.Path.{refl}
 use native.Mathlib.Omega.{arith}
 use borrow.Author.Needs.{needs}

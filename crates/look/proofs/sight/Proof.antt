@@ -1,4 +1,4 @@
--- `grid::sight` meets its contract.
+-- `look::sight` meets its contract.
 use mathlib.Core.Path.{_≡_, refl, sym, ap, _∙_}
 use mathlib.Core.Bool.{true, false}
 use borrow.Author.Needs.{needs}
