@@ -12,7 +12,7 @@ use Rattle.base.proofs.Test.{cases}
 use Rattle.base.proofs.Table.{all, all-at}
 use Rattle.ofusc.specs.Width.{Width, n4, n8, n16, n32}
 use Rattle.ofusc.specs.Field.{modulus, coefficient, product, remainder, times, power, p1, p2}
-use Rattle.ofusc.specs.Map.{term, mask}
+use Rattle.ofusc.specs.Map.{term, cellTerm}
 
 -- a test computed at each of the four N
 pub at-width : (f : ℕ → Bool) → T (f 4) × T (f 8) × T (f 16) × T (f 32) → {n : ℕ} → Width n → T (f n)
@@ -96,13 +96,13 @@ term-lt {n} w sequence lt c k =
     (λ e. rw e (let z = size w .above in omega arith))
     (λ e. rw e (lt ((k % (n - 1) + c) % (n - 1)) (mod-lt (k % (n - 1) + c) (turn-pos w))))
 
-pub mask-lt : {n : ℕ} → Width n → (cell k : ℕ) → mask n cell k < n
-unfolding mask
-mask-lt {n} w cell k =
+pub cell-term-lt : {n : ℕ} → Width n → (cell k : ℕ) → cellTerm n cell k < n
+unfolding cellTerm
+cell-term-lt {n} w cell k =
     sum-lt w (term (p1 n) n (cell % n) k) (term (p2 n) n (cell / n) k)
     (term-lt w (p1 n) (p1-lt w) (cell % n) k) (term-lt w (p2 n) (λ i h. p2-lt w i) (cell / n) k)
 
--- the mask goes by k mod (N-1)
-pub mask-as : (n cell j k : ℕ) → j % (n - 1) ≡ k % (n - 1) → mask n cell j ≡ mask n cell k
-unfolding mask term
-mask-as n cell j k e = rw e
+-- the cell's term goes by k mod (N-1)
+pub cell-term-as : (n cell j k : ℕ) → j % (n - 1) ≡ k % (n - 1) → cellTerm n cell j ≡ cellTerm n cell k
+unfolding cellTerm term
+cell-term-as n cell j k e = rw e

@@ -11,7 +11,7 @@ use Rattle.base.proofs.Table.{all, all-at}
 use Rattle.ofusc.specs.Width.{Width, n4, n8, n16, n32}
 use Rattle.ofusc.specs.Field.{modulus, coefficient, product, remainder, times, power, p1, p2}
 use Rattle.ofusc.specs.Table.{printed1, printed2}
-use Rattle.ofusc.specs.Map.{term, mask}
+use Rattle.ofusc.specs.Map.{term, cellTerm}
 use Rattle.ofusc.proofs.Sequence.{at-width, term-as}
 
 -- document 002's rows are the sequences, at all four N
@@ -47,11 +47,11 @@ pub rows2-are : {n : ℕ} → Width n → (i : ℕ) → i < n - 1 → entry rows
 unfolding modulus coefficient product remainder times power p1 p2
 rows2-are {n} w i h = eqb→eq (entry rows2 (n + i)) (p2 n i) (all-at (row p2 rows2 n) (n - 1) (at-width (λ m. all (row p2 rows2 m) (m - 1)) (tt, tt, tt, tt) w) i h)
 
--- the mask by the code's tables
-pub mask-is : {n : ℕ} → Width n → (cell k : ℕ)
-    → bitXor (term (λ i. entry rows1 (n + i)) n (cell % n) k) (term (λ i. entry rows2 (n + i)) n (cell / n) k) ≡ mask n cell k
-unfolding mask
-mask-is {n} w cell k =
+-- the cell's term by the code's tables
+pub cell-term-is : {n : ℕ} → Width n → (cell k : ℕ)
+    → bitXor (term (λ i. entry rows1 (n + i)) n (cell % n) k) (term (λ i. entry rows2 (n + i)) n (cell / n) k) ≡ cellTerm n cell k
+unfolding cellTerm
+cell-term-is {n} w cell k =
     ap₂ bitXor
     (term-as w (λ i. entry rows1 (n + i)) (p1 n) (rows1-are w) (cell % n) k)
     (term-as w (λ i. entry rows2 (n + i)) (p2 n) (rows2-are w) (cell / n) k)
