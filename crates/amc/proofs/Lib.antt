@@ -4,5 +4,6 @@ pub mod Tables
 pub mod ZeroRule
 pub mod Parts
 pub mod Law
+pub mod Claims
 pub mod Row
 pub mod Points

@@ -9,6 +9,7 @@ use lib.Arith.{lt-of-le-ne}
 use lib.ListN.{length, getD}
 use borrow.Author.Tests.{eqb-true, eqb-false}
 use Rattle.base.specs.Steps.{entry}
+use Rattle.base.specs.Permutation.{Permutation}
 use Rattle.base.proofs.Test.{both, both-left, both-right, cases}
 use Rattle.base.proofs.Perm.{Perm}
 
@@ -62,3 +63,6 @@ table-perm n xs ys long long′ test test′ =
       back = entry-back n xs ys long test;
       forth = entry-back n ys xs long′ test′;
     }
+
+pub permutation : {n : ℕ} {xs ys : List ℕ} → length xs ≡ n → Perm n (entry xs) (entry ys) → Permutation n xs ys
+permutation long perm = record { long = long; number-lt = perm .to-lt; place-lt = perm .from-lt; back = perm .back; forth = perm .forth }

@@ -3,6 +3,7 @@ pub mod Choice
 pub mod Answer
 pub mod Steps
 pub mod Tabulate
+pub mod Permutation
 pub mod Rank
 pub mod First
 pub mod Model

@@ -8,21 +8,21 @@ use borrow.Author.Tests.{le-ltb, lt-leb, ne-eqb, ltb-false, leb-false, eqb-false
 use Rattle.base.specs.Choice.{pick}
 use Rattle.base.specs.Steps.{skip, unskip}
 use Rattle.base.proofs.Test.{cases, true-false}
-use Rattle.base.proofs.LeaveOut.{unskip-skip, skip-unskip, skip-ne, skip-lt, unskip-lt}
+use Rattle.base.proofs.LeaveOut.{unskip-skip, skip-unskip, skip-ne, skip-lt, unskip-lt, before-skip}
 use Rattle.carriers.specs.declared.Band.{Band}
 use Rattle.carriers.specs.Band.{binBand, puscBand, carrierOf, usedOf, isGuard, isDc}
+use Rattle.carriers.specs.Law.{Whole, BandLaw}
 
--- left guards, the used carriers with DC before the used number `half`, right guards: together the symbol
-pub record BandLaw (b : Band) (size : ℕ) : Type 0 where
-  pub dc-is : b .dc ≡ b .left + b .half
-  pub half-le : b .half ≤ b .used
-  pub size-is : size ≡ b .left + (b .used + 1) + b .right
-
-pub pusc-band : BandLaw puscBand 2048
+pub pusc-band : Whole puscBand 2048
 pusc-band = record { dc-is = refl; half-le = omega arith; size-is = refl }
 
-pub bin-band : (n : ℕ) → 0 < n → BandLaw (binBand n) (64 * n)
+pub bin-band : (n : ℕ) → 0 < n → Whole (binBand n) (64 * n)
 bin-band n h = record { dc-is = omega arith; half-le = omega arith; size-is = omega arith }
+
+-- the larger of two used numbers is in the column further on
+rising : (b : Band) (u v : ℕ) → u < v → carrierOf b u < carrierOf b v
+unfolding carrierOf
+rising b u v l = let s = before-skip (b .half) u (skip (b .half) v) (rw (unskip-skip (b .half) v) l) in omega arith
 
 cancel : (a x : ℕ) → a + x - a ≡ x
 cancel a x = omega arith
@@ -35,7 +35,7 @@ guard-cases b size carrier g =
     (λ e. absurd (true-false (sym (ap (λ t. pick t true (leb (size - b .right) carrier)) e) ∙ g)))
     (λ e. (ltb-false carrier (b .left) e, leb-false (size - b .right) carrier (sym (ap (λ t. pick t true (leb (size - b .right) carrier)) e) ∙ g)))
 
-module _ (b : Band) (size : ℕ) (law : BandLaw b size) where
+module _ (b : Band) (size : ℕ) (law : Whole b size) where
   -- a used number's carrier
   module _ (u : ℕ) (h : u < b .used) where
     pub carrier-lt : carrierOf b u < size
@@ -74,3 +74,15 @@ module _ (b : Band) (size : ℕ) (law : BandLaw b size) where
     pub carrier-used : carrierOf b (usedOf b carrier) ≡ carrier
     unfolding usedOf carrierOf
     carrier-used = ap (λ w. b .left + w) (skip-unskip (b .half) (carrier - b .left) not-half) ∙ (let l = used-left in omega arith)
+
+  pub band-law : BandLaw b size
+  band-law =
+      record {
+        rising = rising b;
+        column-lt = carrier-lt;
+        no-guard = carrier-no-guard;
+        no-dc = carrier-no-dc;
+        back = used-carrier;
+        used-lt = used-lt;
+        forth = carrier-used;
+      }

@@ -1,11 +1,11 @@
 -- THE LAW OF THE CENTRE holds at every even size, where as many carriers lie below DC as from DC on.
 use mathlib.Core.Path.{_≡_, refl, sym, ap, _∙_}
 use mathlib.Core.Bool.{Bool, true, false}
-use Prim.Native.Nat.{ℕ, zero, suc, _+_, _*_, _/_, _≤_, _<_}
+use Prim.Native.Nat.{ℕ, zero, suc, _+_, _-_, _*_, _/_, _≤_, _<_}
 use native.Mathlib.Omega.{arith}
-use lib.Dec.{T, ltb}
+use lib.Dec.{T, ltb, lt→ltb}
 use lib.IntN.{ℤ, pos, negsuc, negℤ, natAbs, _+ℤ_, _-ℤ_, +ℤ-invr, -ℤ-+ℤ-cancel, +ℤ-negℤ-cancel}
-use lib.Signed.{ltZ, mag, nonNeg, pos-natAbs}
+use lib.Signed.{_<ℤ_, ltZ, ltZ-yes, mag, nonNeg, pos-natAbs}
 use mir.Syntax.{w32}
 use mir.Val.{SFits, toZ, ofZ}
 use mir.ValLaws.{toZ-pos, toZ-ofZ}
@@ -57,6 +57,16 @@ pub sum-nonNeg : (z : ℤ) (h : ℕ) → mag z < h → T (nonNeg (z +ℤ pos h))
 sum-nonNeg (pos n) h l = (tt, omega arith)
 sum-nonNeg (negsuc n) h l = rw (le-ltb h (suc n) (omega arith)) (tt, omega arith)
 
+-- a larger number, less h, is larger
+difference-rises : (h j k : ℕ) → j < k → (pos j -ℤ pos h) <ℤ (pos k -ℤ pos h)
+difference-rises zero j k l = ltZ-yes (lt→ltb (j + 0) (k + 0) (omega arith))
+difference-rises (suc h) j k l =
+    cases (ltb j (suc h))
+    (λ t. cases (ltb k (suc h))
+    (λ u. let m = ltb-true k (suc h) u in rw (t, u) (ltZ-yes (lt→ltb (suc h - suc k) (suc h - suc j) (omega arith))))
+    (λ u. rw (t, u) (ltZ-yes tt)))
+    (λ t. let m = ltb-false j (suc h) t in rw (t, le-ltb k (suc h) (omega arith)) (ltZ-yes (lt→ltb (j - suc h) (k - suc h) (omega arith))))
+
 -- the machine's difference of two numbers, none of them negative, is their difference
 module _ {a b : ℕ} (la : a ≤ 2147483647) (lb : b ≤ 2147483647) where
   same : toZ w32 a -ℤ toZ w32 b ≡ pos a -ℤ pos b
@@ -78,6 +88,7 @@ centre-law size even =
     let h = size / 2 in
     record {
       middle = +ℤ-invr (pos h);
+      rising = difference-rises h;
       in-range = λ k l. mag-around h (pos k -ℤ pos h) (column-mag k h (omega arith));
       back = λ k. ap natAbs (-ℤ-+ℤ-cancel (pos k) (pos h));
       column-lt = λ z e. omega (arith, sum-nonNeg z h (around-mag h z e) .1);

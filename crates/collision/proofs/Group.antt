@@ -16,9 +16,9 @@ use Rattle.carriers.proofs.Bin.{data-used, used-lt}
 use Rattle.centre.specs.Centre.{fromDc, onRow}
 use Rattle.centre.proofs.Law.{centre-law}
 use Rattle.ofusc.specs.Width.{Width}
-use Rattle.ofusc.specs.Map.{groupOf, mask, dataNumber}
+use Rattle.ofusc.specs.Map.{groupOf, cellTerm, dataNumber}
 use Rattle.ofusc.specs.Model.{cellNumber, groupNumber}
-use Rattle.ofusc.proofs.Sequence.{pos, sum-lt, mask-lt}
+use Rattle.ofusc.proofs.Sequence.{pos, sum-lt, cell-term-lt}
 use Rattle.ofusc.proofs.Row.{with-subchannel}
 use Rattle.map.specs.Mode.{width, symbols, band, spotOf, setupWith}
 use Rattle.map.proofs.Accept.{width-is}
@@ -62,14 +62,14 @@ group-in s k h = rotation 48 (23 * s) (lit< tt) .forth k h
 module _ {n : ℕ} (w : Width n) (k : ℕ) (h : k < 48) where
   -- the element of subchannel s in group k
   abbrev pub element : ℕ → ℕ → ℕ
-  element cell s = bitXor s (mask n cell k)
+  element cell s = bitXor s (cellTerm n cell k)
 
   pub element-lt : (cell s : ℕ) → s < n → element cell s < n
-  element-lt cell s l = sum-lt w s (mask n cell k) l (mask-lt w cell k)
+  element-lt cell s l = sum-lt w s (cellTerm n cell k) l (cell-term-lt w cell k)
 
   pub number-in : (cell s : ℕ) → dataNumber n cell s (indexIn s k) ≡ k * n + element cell s
   unfolding dataNumber
-  number-in cell s = ap (λ (g : ℕ). g * n + bitXor s (mask n cell g)) (group-in s k h)
+  number-in cell s = ap (λ (g : ℕ). g * n + bitXor s (cellTerm n cell g)) (group-in s k h)
 
   column-in : (cell slot s : ℕ) → columnIn (setupWith 2 (64 * n) cell) slot s k ≡ columnAt n slot (k * n + element cell s)
   unfolding columnIn spotOf symbols width band

@@ -9,7 +9,7 @@ use borrow.Author.Tests.{eqb-true, eqb-false, ne-eqb, ltb-true, ltb-false}
 use Rattle.base.specs.Choice.{pick}
 use Rattle.base.proofs.Test.{cases}
 use Rattle.ofusc.specs.Field.{times, power, p1, p2}
-use Rattle.ofusc.specs.Map.{term, mask}
+use Rattle.ofusc.specs.Map.{term, cellTerm}
 use Rattle.ofusc.proofs.Sequence.{term-zero, term-entry}
 use Rattle.figures.proofs.Field.{shift, Doubling, xor-swap, xor-zero, shift-lt, shift-sum, shift-add, shift-mod, shift-zero, shift-back, still, still-twice, three}
 
@@ -136,8 +136,8 @@ module _ {n : ℕ} (F : Doubling n) where
     B-lt = F .closed _ _ (lt₂ (a / n)) (lt₂ (b / n))
 
     -- what they add in group k differs by A·2^k + B·2^2k
-    difference : (k : ℕ) → bitXor (mask n a k) (mask n b k) ≡ bitXor (shift n k A) (shift n (k + k) B)
-    unfolding mask
+    difference : (k : ℕ) → bitXor (cellTerm n a k) (cellTerm n b k) ≡ bitXor (shift n k A) (shift n (k + k) B)
+    unfolding cellTerm
     difference k =
         let a₁ = coefficient₁ n (a % n) in
         let b₁ = coefficient₁ n (b % n) in
@@ -148,7 +148,7 @@ module _ {n : ℕ} (F : Doubling n) where
         ∙ sym (ap₂ bitXor (shift-sum F k a₁ b₁ (lt₁ (a % n)) (lt₁ (b % n))) (shift-sum F (k + k) a₂ b₂ (lt₂ (a / n)) (lt₂ (b / n))))
 
     -- in group k + i, seen from group k
-    onward : (k i : ℕ) → bitXor (mask n a (k + i)) (mask n b (k + i)) ≡ bitXor (shift n i (shift n k A)) (shift n (i + i) (shift n (k + k) B))
+    onward : (k i : ℕ) → bitXor (cellTerm n a (k + i)) (cellTerm n b (k + i)) ≡ bitXor (shift n i (shift n k A)) (shift n (i + i) (shift n (k + k) B))
     onward k i =
         difference (k + i)
         ∙ ap₂ bitXor (ap (λ (t : ℕ). shift n t A) swapped ∙ shift-add F i k A) (ap (λ (t : ℕ). shift n t B) sorted ∙ shift-add F (i + i) (k + k) B)
@@ -161,7 +161,7 @@ module _ {n : ℕ} (F : Doubling n) where
 
     -- the same difference in three of N-1 groups in a row: it is one cell
     pub three-groups : a < n * n → b < n * n → (d k i j : ℕ) → 0 < i → i < j → j < n - 1
-        → bitXor (mask n a k) (mask n b k) ≡ d → bitXor (mask n a (k + i)) (mask n b (k + i)) ≡ d → bitXor (mask n a (k + j)) (mask n b (k + j)) ≡ d → a ≡ b
+        → bitXor (cellTerm n a k) (cellTerm n b k) ≡ d → bitXor (cellTerm n a (k + i)) (cellTerm n b (k + i)) ≡ d → bitXor (cellTerm n a (k + j)) (cellTerm n b (k + j)) ≡ d → a ≡ b
     three-groups ha hb d k i j h l g e eᵢ eⱼ =
         let z = three F (shift n k A) (shift n (k + k) B) (shift-lt F k A A-lt) (shift-lt F (k + k) B B-lt) i j h l g
         (sym (difference k) ∙ e ∙ sym eᵢ ∙ onward k i) (sym (difference k) ∙ e ∙ sym eⱼ ∙ onward k j) in

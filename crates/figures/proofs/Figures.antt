@@ -14,7 +14,7 @@ use Rattle.carriers.specs.Band.{carrierOf}
 use Rattle.carriers.specs.Bin.{binPilotPlace, usedOfData}
 use Rattle.ofusc.specs.Width.{Width, n4, n8, n16, n32}
 use Rattle.ofusc.specs.Field.{modulus, coefficient, product, remainder, times, power, p1, p2}
-use Rattle.ofusc.specs.Map.{groupOf, term, mask, dataNumber}
+use Rattle.ofusc.specs.Map.{groupOf, term, cellTerm, dataNumber}
 use Rattle.amc.specs.Element.{add, sequence, times as product′}
 use Rattle.amc.specs.Map.{off, zeroRule, elementOf, traffic}
 use Rattle.map.specs.Mode.{width, cells, subchannels, symbols, band, spotOf, setupWith}
@@ -66,7 +66,7 @@ rows-count {n} {a} {s} {b} {t} p other =
     )
 
 d-reached : {n : ℕ} → Width n → Reached n
-unfolding ofuscOf answerOf isFourSizes isCell isSubchannel cells subchannels symbols width ofuscHit columnIn indexIn spotOf band carrierOf skip usedOfData binPilotPlace dataNumber groupOf mask term p1 p2 power times remainder product coefficient modulus tabulate countOf most
+unfolding ofuscOf answerOf isFourSizes isCell isSubchannel cells subchannels symbols width ofuscHit columnIn indexIn spotOf band carrierOf skip usedOfData binPilotPlace dataNumber groupOf cellTerm term p1 p2 power times remainder product coefficient modulus tabulate countOf most
 d-reached n4 = record { a = 10; s = 0; b = 4; t = 2; row = 0; allowed = record { width = n4; first = omega arith; second = omega arith }; within = omega arith; different = λ e. omega arith; in-row = refl; in-all = refl }
 d-reached n8 = record { a = 32; s = 0; b = 45; t = 7; row = 0; allowed = record { width = n8; first = omega arith; second = omega arith }; within = omega arith; different = λ e. omega arith; in-row = refl; in-all = refl }
 d-reached n16 = record { a = 0; s = 2; b = 244; t = 0; row = 0; allowed = record { width = n16; first = omega arith; second = omega arith }; within = omega arith; different = λ e. omega arith; in-row = refl; in-all = refl }

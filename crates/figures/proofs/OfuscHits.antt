@@ -11,8 +11,8 @@ use Rattle.base.specs.Tabulate.{tabulate}
 use Rattle.base.proofs.Chain.{same-accepted}
 use Rattle.base.proofs.Xor.{xor-twice}
 use Rattle.ofusc.specs.Width.{Width}
-use Rattle.ofusc.specs.Map.{mask, dataNumber}
-use Rattle.ofusc.proofs.Sequence.{sum-lt, mask-lt}
+use Rattle.ofusc.specs.Map.{cellTerm, dataNumber}
+use Rattle.ofusc.proofs.Sequence.{sum-lt, cell-term-lt}
 use Rattle.map.specs.Place.{Place, placeOf}
 use Rattle.map.specs.Mode.{setupWith}
 use Rattle.map.proofs.Law.{placing}
@@ -31,15 +31,15 @@ module _ {n : ℕ} (w : Width n) (a b s : ℕ) (hs : s < n) where
   one-hit : (k : ℕ) → k < 48 → sum n (λ t. one (ofuscHit (64 * n) a s b t k)) ≡ 1
   one-hit k hk =
       sum-same n (λ t. one (ofuscHit (64 * n) a s b t k)) (λ t. one (eqb t x)) (λ t ht. ap one (hit-is w k hk a s b t hs ht ∙ turned t))
-      ∙ sum-one n x (sum-lt w (element w k hk a s) (mask n b k) (element-lt w k hk a s hs) (mask-lt w b k))
+      ∙ sum-one n x (sum-lt w (element w k hk a s) (cellTerm n b k) (element-lt w k hk a s hs) (cell-term-lt w b k))
     where
       x : ℕ
-      x = bitXor (element w k hk a s) (mask n b k)
+      x = bitXor (element w k hk a s) (cellTerm n b k)
 
       turned : (t : ℕ) → eqb (element w k hk a s) (element w k hk b t) ≡ eqb t x
       turned t = same-test _ _ _ _
-          (λ e. sym (xor-twice t (mask n b k)) ∙ ap (λ (y : ℕ). bitXor y (mask n b k)) (sym e))
-          (λ e. sym (xor-twice (element w k hk a s) (mask n b k)) ∙ ap (λ (y : ℕ). bitXor y (mask n b k)) (sym e))
+          (λ e. sym (xor-twice t (cellTerm n b k)) ∙ ap (λ (y : ℕ). bitXor y (cellTerm n b k)) (sym e))
+          (λ e. sym (xor-twice (element w k hk a s) (cellTerm n b k)) ∙ ap (λ (y : ℕ). bitXor y (cellTerm n b k)) (sym e))
 
   pub all-counts : sum n (λ t. countOf (tabulate 48 (ofuscHit (64 * n) a s b t))) ≡ 48
   all-counts = columns n 48 (ofuscHit (64 * n) a s b) one-hit
@@ -70,19 +70,19 @@ module _ {n a s b t : ℕ} (p : Pair n a s b t) where
     row i = Marked (inRow (n - 1) k (tabulate 48 hit)) i
 
     -- a hit, as the difference of what the two cells add
-    found : (i : ℕ) → row i → (i < n - 1) × (bitXor (mask n a (k + i)) (mask n b (k + i)) ≡ bitXor s t)
+    found : (i : ℕ) → row i → (i < n - 1) × (bitXor (cellTerm n a (k + i)) (cellTerm n b (k + i)) ≡ bitXor s t)
     found i e =
         let r = marked-in-row (n - 1) k (tabulate 48 hit) i e in
         let m = marked-at 48 hit (k + i) (r .1) in
-        (r .0, sym (xor-cross s (mask n a (k + i)) t (mask n b (k + i)) (same-here (k + i) (m .0) (m .1))))
+        (r .0, sym (xor-cross s (cellTerm n a (k + i)) t (cellTerm n b (k + i)) (same-here (k + i) (m .0) (m .1))))
 
     three-in-a-row : (i j m : ℕ) → i < j → j < m → row i → row j → row m → a ≡ b
     three-in-a-row i j m l g eᵢ eⱼ eₘ =
         let fⱼ = found j eⱼ in
         let fₘ = found m eₘ in
         three-groups (field w) a b (p .first .cell-lt) (p .second .cell-lt) (bitXor s t) (k + i) (j - i) (m - i) (omega arith) (omega arith) (omega arith) (found i eᵢ .1)
-        (ap (λ (x : ℕ). bitXor (mask n a x) (mask n b x)) (from j l) ∙ fⱼ .1)
-        (ap (λ (x : ℕ). bitXor (mask n a x) (mask n b x)) (from m (omega arith)) ∙ fₘ .1)
+        (ap (λ (x : ℕ). bitXor (cellTerm n a x) (cellTerm n b x)) (from j l) ∙ fⱼ .1)
+        (ap (λ (x : ℕ). bitXor (cellTerm n a x) (cellTerm n b x)) (from m (omega arith)) ∙ fₘ .1)
       where
         from : (j : ℕ) → i < j → k + i + (j - i) ≡ k + j
         from j l = omega arith
@@ -128,10 +128,10 @@ module _ {n a s b t : ℕ} (p : Pair n a s b t) where
 -- one cell: a subchannel meets itself in every group, and no other
 module _ {n a s t : ℕ} (p : Pair n a s a t) where
   pub same-subchannel : s ≡ t → countOf (tabulate 48 (hit p)) ≡ 48
-  same-subchannel e = count-all 48 (hit p) (λ k hk. hit-here p k hk ∙ eq-eqb _ _ (ap (λ (x : ℕ). bitXor x (mask n a k)) e))
+  same-subchannel e = count-all 48 (hit p) (λ k hk. hit-here p k hk ∙ eq-eqb _ _ (ap (λ (x : ℕ). bitXor x (cellTerm n a k)) e))
 
   pub other-subchannel : (s ≡ t → ⊥) → countOf (tabulate 48 (hit p)) ≡ 0
   other-subchannel ne =
       count-none 48 (hit p)
       (λ k hk. hit-here p k hk
-      ∙ ne-eqb (x p k hk) (y p k hk) (λ e. ne (sym (xor-twice s (mask n a k)) ∙ ap (λ (x : ℕ). bitXor x (mask n a k)) e ∙ xor-twice t (mask n a k))))
+      ∙ ne-eqb (x p k hk) (y p k hk) (λ e. ne (sym (xor-twice s (cellTerm n a k)) ∙ ap (λ (x : ℕ). bitXor x (cellTerm n a k)) e ∙ xor-twice t (cellTerm n a k))))

@@ -37,11 +37,11 @@ any-cell cell h =
     record { data-in-symbol-0 = rw e; pilot-in-symbol-1 = rw e; guard-below = λ y l. rw (e, lt-ltb y 1024 l); dc-in-the-middle = λ y l. rw (e, lt-ltb y 1024 l) }
 
 counts : (ofuscOf 1024 0 6 17 0 .count ≡ 7) × (ofuscOf 1024 0 2 244 0 .count ≡ 8)
-unfolding countOf tabulate skip ofuscOf answerOf ofuscHit columnIn indexIn question.isFourSizes question.isCell question.isSubchannel mode.width mode.cells mode.subchannels mode.symbols mode.band mode.spotOf band.carrierOf bin.binPilotPlace bin.usedOfData ofusc.groupOf ofusc.term ofusc.mask ofusc.dataNumber field.modulus field.coefficient field.product field.remainder field.times field.power field.p1 field.p2
+unfolding countOf tabulate skip ofuscOf answerOf ofuscHit columnIn indexIn question.isFourSizes question.isCell question.isSubchannel mode.width mode.cells mode.subchannels mode.symbols mode.band mode.spotOf band.carrierOf bin.binPilotPlace bin.usedOfData ofusc.groupOf ofusc.term ofusc.cellTerm ofusc.dataNumber field.modulus field.coefficient field.product field.remainder field.times field.power field.p1 field.p2
 counts = (refl, refl)
 
 at-2048 : setFrom 0 (ofuscOf 2048 0 2 1010 0 .hits) ≡ groups
-unfolding setFrom tabulate skip ofuscOf answerOf ofuscHit columnIn indexIn question.isFourSizes question.isCell question.isSubchannel mode.width mode.cells mode.subchannels mode.symbols mode.band mode.spotOf band.carrierOf bin.binPilotPlace bin.usedOfData ofusc.groupOf ofusc.term ofusc.mask ofusc.dataNumber field.modulus field.coefficient field.product field.remainder field.times field.power field.p1 field.p2
+unfolding setFrom tabulate skip ofuscOf answerOf ofuscHit columnIn indexIn question.isFourSizes question.isCell question.isSubchannel mode.width mode.cells mode.subchannels mode.symbols mode.band mode.spotOf band.carrierOf bin.binPilotPlace bin.usedOfData ofusc.groupOf ofusc.term ofusc.cellTerm ofusc.dataNumber field.modulus field.coefficient field.product field.remainder field.times field.power field.p1 field.p2
 at-2048 = refl
 
 adjacent : setFrom 0 (amcOf 48 176 .hits) ≡ indices
@@ -57,7 +57,7 @@ unfolding isUpTo mode.width mode.cells mode.subchannels question.isFourSizes que
 zone-owner = (refl, refl, refl, refl, refl, refl)
 
 pub known : Known
-unfolding each tabulate skip fromDc placeOf usedCarrier placeAt mode.shapeOf mode.width mode.cells mode.subchannels mode.symbols mode.band mode.spotOf question.isMode question.isFourSizes question.isSize question.isCell question.isSlot question.isSubchannel question.isIndex band.carrierOf bin.binPilotPlace bin.usedOfData dl.groupUsed dl.spotOf group.groupIn group.groupSize group.ofSize group.baseOf group.groupData cluster.unrenumber cluster.firstPilot cluster.secondPilot cluster.clusterPlace ul.spotOf tile.tileOf tile.placeSymbol tile.placeTile tile.placeCarrier ofusc.groupOf ofusc.term ofusc.mask ofusc.dataNumber field.modulus field.coefficient field.product field.remainder field.times field.power field.p1 field.p2 amc.off amc.zeroRule amc.elementOf amc.traffic amc.trafficNumber amc.dataNumber element.add element.times element.sequence
+unfolding each tabulate skip fromDc placeOf usedCarrier placeAt mode.shapeOf mode.width mode.cells mode.subchannels mode.symbols mode.band mode.spotOf question.isMode question.isFourSizes question.isSize question.isCell question.isSlot question.isSubchannel question.isIndex band.carrierOf bin.binPilotPlace bin.usedOfData dl.groupUsed dl.spotOf group.groupIn group.groupSize group.ofSize group.baseOf group.groupData cluster.unrenumber cluster.firstPilot cluster.secondPilot cluster.clusterPlace ul.spotOf tile.tileOf tile.placeSymbol tile.placeTile tile.placeCarrier ofusc.groupOf ofusc.term ofusc.cellTerm ofusc.dataNumber field.modulus field.coefficient field.product field.remainder field.times field.power field.p1 field.p2 amc.off amc.zeroRule amc.elementOf amc.traffic amc.trafficNumber amc.dataNumber element.add element.times element.sequence
 known =
     record {
       line-1 = (refl, refl);

@@ -7,7 +7,7 @@ use lib.Arith.{digits-div, digits-lt}
 use lib.IntN.{ℤ, pos}
 use Rattle.base.specs.Answer.{accepted}
 use Rattle.carriers.specs.Band.{carrierOf, usedOf}
-use Rattle.carriers.proofs.Guards.{carrier-lt, carrier-no-guard, carrier-no-dc, used-carrier}
+use Rattle.carriers.proofs.Guards.{carrier-lt, carrier-no-guard, carrier-no-dc, used-carrier, band-law as columns}
 use Rattle.map.specs.declared.Setup.{Setup}
 use Rattle.map.specs.Mode.{symbols, band, isPilot, spotOf, addressOf}
 use Rattle.map.specs.Place.{Place, dc, usedCarrier, placeAt, placeOf, contentOf, locateOf}
@@ -81,6 +81,9 @@ map-law =
       pilot-found = λ setup y u e hy hu p.
           let v = passed setup e in
           locate-column setup y _ v hy (carrier-lt (band setup) (setup .size) (band-law v) u hu) ∙ ap accepted (pilot-content setup v y u hu p);
+      carriers-rise = λ setup u next e l.
+          let v = passed setup e in
+          centred v .0 .rising _ _ (columns (band setup) (setup .size) (band-law v) .rising u next l);
       dc-at-0 = λ setup y e hy. dc-there setup (passed setup e) y hy;
       place-accepts = λ setup slot s m e h₄ h₅ h₆. (placeAt setup slot (spotOf setup slot s m), place-accepts setup slot s m (passed setup e) h₄ h₅ h₆);
       locate-accepts = λ setup y column e h₄ h. (contentOf setup y column, locate-column setup y column (passed setup e) h₄ h);

@@ -4,8 +4,8 @@ use Prim.Native.Nat.{ℕ, _+_, _*_, _/_, _%_, _<_}
 use native.Mathlib.Omega.{arith}
 use lib.Arith.{digits-mod}
 use Rattle.carriers.specs.Bin.{isBinPilot, dataOfUsed, binSpot, inOnlySymbol}
-use Rattle.carriers.specs.Law.{SlotLaw}
-use Rattle.carriers.proofs.Guards.{BandLaw, pusc-band, bin-band}
+use Rattle.carriers.specs.Law.{Whole, SlotLaw}
+use Rattle.carriers.proofs.Guards.{pusc-band, bin-band}
 use Rattle.carriers.proofs.Bin.{bin-law}
 use Rattle.carriers.proofs.Relabel.{relabel}
 use Rattle.centre.specs.Law.{CentreLaw}
@@ -65,7 +65,8 @@ slot-law (amc {mode = mode} {n = n} {cell = cell} q w h) slot =
     (λ o u l. ap (λ (y : ℕ). adjacent.addressOf shape cell y (dataOfUsed (first + o) u)) (digits-mod slot l))
     (bin-law first n (adjacent-law.law shape (amc-shape mode q) cell h n)))
 
-pub band-law : {c : Setup} → Valid c → BandLaw (band c) (c .size)
+-- the band takes up the symbol
+pub band-law : {c : Setup} → Valid c → Whole (band c) (c .size)
 unfolding band width
 band-law (pusc-dl h) = pusc-band
 band-law (pusc-ul h) = pusc-band

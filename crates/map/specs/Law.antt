@@ -4,6 +4,7 @@ use mathlib.Core.Bool.{false, true}
 use mathlib.Core.Logic.{_↔_}
 use Prim.Native.Nat.{ℕ, _+_, _*_, _/_, _<_}
 use lib.IntN.{ℤ, pos}
+use lib.Signed.{_<ℤ_}
 use Rattle.base.specs.Answer.{accepted}
 use Rattle.centre.specs.Centre.{fromDc}
 use Rattle.map.specs.declared.Setup.{Setup}
@@ -52,7 +53,9 @@ pub record MapLaw : Type 0 where
   -- A pilot's carrier holds the pilot.
   pub pilot-found : (setup : Setup) (symbol used : ℕ) → Passes setup → symbol < 512 * symbols setup → used < band setup .used → isPilot setup symbol used ≡ true
       → locateOf setup symbol (usedCarrier setup used) ≡ accepted pilot
-  -- Document 02, wish 3: DC is at 0, in every mode.
+  -- Document 02, wish 3: carriers rise with their used numbers,
+  pub carriers-rise : (setup : Setup) (used next : ℕ) → Passes setup → used < next → usedCarrier setup used <ℤ usedCarrier setup next
+  -- and DC is at 0, in every mode.
   pub dc-at-0 : (setup : Setup) (symbol : ℕ) → Passes setup → symbol < 512 * symbols setup → locateOf setup symbol (pos 0) ≡ accepted dc
   -- Fields in range, and the carrier of every column, are accepted, so that none of this is empty.
   pub place-accepts : (setup : Setup) (slot subchannel index : ℕ) → Passes setup → slot < 512 → subchannel < subchannels setup → index < 48

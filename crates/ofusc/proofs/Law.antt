@@ -13,8 +13,8 @@ use Rattle.carriers.specs.declared.Address.{Address}
 use Rattle.carriers.specs.Bin.{inOnlySymbol}
 use Rattle.carriers.specs.Law.{NumberLaw}
 use Rattle.ofusc.specs.Width.{Width}
-use Rattle.ofusc.specs.Map.{groupOf, mask, dataNumber, addressOf}
-use Rattle.ofusc.proofs.Sequence.{pos, size, sum-lt, mask-lt}
+use Rattle.ofusc.specs.Map.{groupOf, cellTerm, dataNumber, addressOf}
+use Rattle.ofusc.proofs.Sequence.{pos, size, sum-lt, cell-term-lt}
 
 pub group-lt : (s m : ℕ) → groupOf s m < 48
 unfolding groupOf
@@ -26,11 +26,11 @@ start-lt w k h = omega (arith, digits-lt h (pos w), size w .most)
 
 module _ {n : ℕ} (w : Width n) (cell : ℕ) where
   element : ℕ → ℕ → ℕ
-  element s m = bitXor s (mask n cell (groupOf s m))
+  element s m = bitXor s (cellTerm n cell (groupOf s m))
 
   element-lt : (s m : ℕ) → s < n → element s m < n
   unfolding element
-  element-lt s m h = sum-lt w s (mask n cell (groupOf s m)) h (mask-lt w cell (groupOf s m))
+  element-lt s m h = sum-lt w s (cellTerm n cell (groupOf s m)) h (cell-term-lt w cell (groupOf s m))
 
   -- the digits of a data number
   pub group-digit : (s m : ℕ) → s < n → dataNumber n cell s m / n ≡ groupOf s m
@@ -44,22 +44,22 @@ module _ {n : ℕ} (w : Width n) (cell : ℕ) where
   found : (s m : ℕ) → s < n → m < 48 → addressOf n cell (dataNumber n cell s m) ≡ record { subchannel = s; index = m }
   unfolding addressOf element groupOf
   found s m hs hm =
-      ap₂ (λ (k e : ℕ). at (bitXor e (mask n cell k)) k) (group-digit s m hs) (element-digit s m hs)
-      ∙ ap (λ (t : ℕ). at t (groupOf s m)) (xor-twice s (mask n cell (groupOf s m)))
+      ap₂ (λ (k e : ℕ). at (bitXor e (cellTerm n cell k)) k) (group-digit s m hs) (element-digit s m hs)
+      ∙ ap (λ (t : ℕ). at t (groupOf s m)) (xor-twice s (cellTerm n cell (groupOf s m)))
       ∙ (λ i. record { subchannel = s; index = rotation 48 (23 * s) (lit< tt) .back m hm i })
     where
       at : ℕ → ℕ → Address
       at s k = record { subchannel = s; index = unrotate 48 (23 * s) k }
 
-  pub subchannel-lt : (d : ℕ) → bitXor (d % n) (mask n cell (d / n)) < n
-  subchannel-lt d = sum-lt w (d % n) (mask n cell (d / n)) (mod-lt d (pos w)) (mask-lt w cell (d / n))
+  pub subchannel-lt : (d : ℕ) → bitXor (d % n) (cellTerm n cell (d / n)) < n
+  subchannel-lt d = sum-lt w (d % n) (cellTerm n cell (d / n)) (mod-lt d (pos w)) (cell-term-lt w cell (d / n))
 
   placed : (d : ℕ) → d < 48 * n → dataNumber n cell (addressOf n cell d .subchannel) (addressOf n cell d .index) ≡ d
   unfolding dataNumber addressOf groupOf
   placed d h =
-      let s = bitXor (d % n) (mask n cell (d / n)) in
-      ap (λ (k : ℕ). k * n + bitXor s (mask n cell k)) (rotation 48 (23 * s) (lit< tt) .forth (d / n) (div-lt-iff-lt-mul (pos w) .1 h))
-      ∙ ap (λ (e : ℕ). d / n * n + e) (xor-twice (d % n) (mask n cell (d / n)))
+      let s = bitXor (d % n) (cellTerm n cell (d / n)) in
+      ap (λ (k : ℕ). k * n + bitXor s (cellTerm n cell k)) (rotation 48 (23 * s) (lit< tt) .forth (d / n) (div-lt-iff-lt-mul (pos w) .1 h))
+      ∙ ap (λ (e : ℕ). d / n * n + e) (xor-twice (d % n) (cellTerm n cell (d / n)))
       ∙ div-add-mod' d n
 
   pub law : NumberLaw 1 n (48 * n) (λ s m. inOnlySymbol (dataNumber n cell s m)) (λ o d. addressOf n cell d)

@@ -11,9 +11,9 @@ use Rattle.base.specs.Choice.{pick}
 use Rattle.base.proofs.Test.{cases}
 use Rattle.carriers.specs.Model.{addressNumber}
 use Rattle.ofusc.specs.Width.{Width, n4, n8, n16, n32}
-use Rattle.ofusc.specs.Map.{mask, addressOf}
+use Rattle.ofusc.specs.Map.{cellTerm, addressOf}
 use Rattle.ofusc.specs.Model.{cellNumber, pointNumber}
-use Rattle.ofusc.proofs.Sequence.{pos, size, mask-lt}
+use Rattle.ofusc.proofs.Sequence.{pos, size, cell-term-lt}
 use Rattle.ofusc.proofs.Law.{subchannel-lt}
 
 -- N is a power of two, so what two numbers of a group share goes out
@@ -45,11 +45,11 @@ pub group-lt : {n : ℕ} → Width n → (d : ℕ) → d < 48 * n → d / n < 48
 group-lt w d h = div-lt-iff-lt-mul (pos w) .1 h
 
 module _ {n : ℕ} (w : Width n) (cell : ℕ) where
-  subchannel-is : (d : ℕ) → bitXor d (cellNumber n cell (d / n)) ≡ bitXor (d % n) (mask n cell (d / n))
+  subchannel-is : (d : ℕ) → bitXor d (cellNumber n cell (d / n)) ≡ bitXor (d % n) (cellTerm n cell (d / n))
   unfolding cellNumber
   subchannel-is d =
-      ap (λ (x : ℕ). bitXor x (d / n * n + mask n cell (d / n))) (sym (div-add-mod' d n))
-      ∙ xor-group w (d / n) (d % n) (mask n cell (d / n)) (mod-lt d (pos w)) (mask-lt w cell (d / n))
+      ap (λ (x : ℕ). bitXor x (d / n * n + cellTerm n cell (d / n))) (sym (div-add-mod' d n))
+      ∙ xor-group w (d / n) (d % n) (cellTerm n cell (d / n)) (mod-lt d (pos w)) (cell-term-lt w cell (d / n))
 
   -- point j of bin i, as the code finds it
   pub record Found (i j k fixed : ℕ) : Type 0 where

@@ -1,4 +1,4 @@
--- What the sequences are made of: each entry is an element of the field.
+-- What the sequences are made of: document 002's rows, each computed from the rule once; each entry is an element of the field.
 use mathlib.Core.Path.{_≡_, refl, sym, ap, _∙_, subst, subst⁻¹}
 use mathlib.Core.Bool.{Bool}
 use Prim.Native.Nat.{ℕ, _+_, _-_, _*_, _/_, _%_, _^_, _<_, _≤_}
@@ -8,11 +8,16 @@ use lib.Dec.{T, eqb, ltb, ltb→lt}
 use borrow.Author.Tests.{eq-eqb, ne-eqb}
 use lib.Bits.{bitXor, xor-lt}
 use Rattle.base.specs.Choice.{pick}
+use Rattle.base.specs.Steps.{entry}
+use Rattle.base.specs.Tabulate.{tabulate}
 use Rattle.base.proofs.Test.{cases}
 use Rattle.base.proofs.Table.{all, all-at}
+use Rattle.base.proofs.Tabulate.{entry-of}
 use Rattle.ofusc.specs.Width.{Width, n4, n8, n16, n32}
 use Rattle.ofusc.specs.Field.{modulus, coefficient, product, remainder, times, power, p1, p2}
-use Rattle.ofusc.specs.Map.{term, mask}
+use Rattle.ofusc.specs.Table.{printed1, printed2}
+use Rattle.ofusc.specs.Map.{term, cellTerm}
+use Rattle.ofusc.specs.Law.{SequenceLaw}
 
 -- a test computed at each of the four N
 pub at-width : (f : ℕ → Bool) → T (f 4) × T (f 8) × T (f 16) × T (f 32) → {n : ℕ} → Width n → T (f n)
@@ -59,10 +64,42 @@ sum-lt {n} w a b ha hb =
     let e = size w .is in
     subst⁻¹ (λ (k : ℕ). bitXor a b < k) e (xor-lt (size w .bits) a b (subst (λ (k : ℕ). a < k) e ha) (subst (λ (k : ℕ). b < k) e hb))
 
--- each entry of P1 is an element, by a test computed at the four N; so each of P2 is
+-- document 002's rows are those of the rule, P1's by the powers of 2 and P2's by P1's row
+printed1-is : {n : ℕ} → Width n → printed1 n ≡ tabulate (n - 1) (λ i. power n 2 i)
+unfolding tabulate printed1 modulus coefficient product remainder times power
+printed1-is n4 = refl
+printed1-is n8 = refl
+printed1-is n16 = refl
+printed1-is n32 = refl
+
+printed2-is : {n : ℕ} → Width n → printed2 n ≡ tabulate (n - 1) (λ i. entry (printed1 n) (2 * i % (n - 1)))
+unfolding tabulate printed1 printed2
+printed2-is n4 = refl
+printed2-is n8 = refl
+printed2-is n16 = refl
+printed2-is n32 = refl
+
+pub sequence-law : SequenceLaw
+unfolding p1 p2
+sequence-law =
+    record {
+      printed1-is = printed1-is;
+      printed2-is = printed2-is;
+      p1-is = p1-is;
+      p2-is = λ {n} w i h.
+          p1-is w (2 * i % (n - 1)) (mod-lt (2 * i) (turn-pos w))
+          ∙ sym (entry-of (printed2 n) (n - 1) (λ k. entry (printed1 n) (2 * k % (n - 1))) (printed2-is w) i h);
+    }
+  where
+    p1-is : {n : ℕ} → Width n → (i : ℕ) → i < n - 1 → p1 n i ≡ entry (printed1 n) i
+    p1-is {n} w i h = sym (entry-of (printed1 n) (n - 1) (λ k. power n 2 k) (printed1-is w) i h)
+
+-- each entry of P1 is an element, by a test of the row; so each of P2 is
 pub p1-lt : {n : ℕ} → Width n → (i : ℕ) → i < n - 1 → p1 n i < n
-unfolding modulus coefficient product remainder times power p1
-p1-lt {n} w i h = ltb→lt (p1 n i) n (all-at (λ k. ltb (p1 n k) n) (n - 1) (at-width (λ m. all (λ k. ltb (p1 m k) m) (m - 1)) (tt, tt, tt, tt) w) i h)
+unfolding printed1
+p1-lt {n} w i h =
+    rw (sequence-law .p1-is w i h)
+    (ltb→lt (entry (printed1 n) i) n (all-at (λ k. ltb (entry (printed1 n) k) n) (n - 1) (at-width (λ m. all (λ k. ltb (entry (printed1 m) k) m) (m - 1)) (tt, tt, tt, tt) w) i h))
 
 pub p2-lt : {n : ℕ} → Width n → (i : ℕ) → p2 n i < n
 unfolding p2
@@ -96,13 +133,13 @@ term-lt {n} w sequence lt c k =
     (λ e. rw e (let z = size w .above in omega arith))
     (λ e. rw e (lt ((k % (n - 1) + c) % (n - 1)) (mod-lt (k % (n - 1) + c) (turn-pos w))))
 
-pub mask-lt : {n : ℕ} → Width n → (cell k : ℕ) → mask n cell k < n
-unfolding mask
-mask-lt {n} w cell k =
+pub cell-term-lt : {n : ℕ} → Width n → (cell k : ℕ) → cellTerm n cell k < n
+unfolding cellTerm
+cell-term-lt {n} w cell k =
     sum-lt w (term (p1 n) n (cell % n) k) (term (p2 n) n (cell / n) k)
     (term-lt w (p1 n) (p1-lt w) (cell % n) k) (term-lt w (p2 n) (λ i h. p2-lt w i) (cell / n) k)
 
--- the mask goes by k mod (N-1)
-pub mask-as : (n cell j k : ℕ) → j % (n - 1) ≡ k % (n - 1) → mask n cell j ≡ mask n cell k
-unfolding mask term
-mask-as n cell j k e = rw e
+-- the cell's term goes by k mod (N-1)
+pub cell-term-as : (n cell j k : ℕ) → j % (n - 1) ≡ k % (n - 1) → cellTerm n cell j ≡ cellTerm n cell k
+unfolding cellTerm term
+cell-term-as n cell j k e = rw e

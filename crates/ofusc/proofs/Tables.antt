@@ -1,33 +1,17 @@
--- The tables of the code and of document 002 against the rule: P1 lists the powers of 2, and P2's entry i is P1's entry 2i mod (N-1). Each a test computed over the whole table.
-use mathlib.Core.Path.{_≡_, refl, ap₂}
+-- The tables of the code hold document 002's rows: a test computed over each table.
+use mathlib.Core.Path.{_≡_, sym, ap₂, _∙_}
 use mathlib.Core.Bool.{Bool}
 use mathlib.Core.List.{List, [], _∷_}
 use Prim.Native.Nat.{ℕ, _+_, _-_, _/_, _%_, _<_}
 use lib.Bits.{bitXor}
 use lib.Dec.{eqb, eqb→eq}
 use Rattle.base.specs.Steps.{entry}
-use Rattle.base.specs.Tabulate.{tabulate}
 use Rattle.base.proofs.Table.{all, all-at}
-use Rattle.ofusc.specs.Width.{Width, n4, n8, n16, n32}
-use Rattle.ofusc.specs.Field.{modulus, coefficient, product, remainder, times, power, p1, p2}
+use Rattle.ofusc.specs.Width.{Width}
+use Rattle.ofusc.specs.Field.{p1, p2}
 use Rattle.ofusc.specs.Table.{printed1, printed2}
-use Rattle.ofusc.specs.Map.{term, mask}
-use Rattle.ofusc.proofs.Sequence.{at-width, term-as}
-
--- document 002's rows are the sequences, at all four N
-pub printed1-is : {n : ℕ} → Width n → printed1 n ≡ tabulate (n - 1) (p1 n)
-unfolding tabulate printed1 modulus coefficient product remainder times power p1
-printed1-is n4 = refl
-printed1-is n8 = refl
-printed1-is n16 = refl
-printed1-is n32 = refl
-
-pub printed2-is : {n : ℕ} → Width n → printed2 n ≡ tabulate (n - 1) (p2 n)
-unfolding tabulate printed2 modulus coefficient product remainder times power p1 p2
-printed2-is n4 = refl
-printed2-is n8 = refl
-printed2-is n16 = refl
-printed2-is n32 = refl
+use Rattle.ofusc.specs.Map.{term, cellTerm}
+use Rattle.ofusc.proofs.Sequence.{at-width, sequence-law, term-as}
 
 -- the code's tables, in which the row of N starts at place N
 abbrev pub rows1 : List ℕ
@@ -36,22 +20,27 @@ rows1 = 0 ∷ 0 ∷ 0 ∷ 0 ∷ 1 ∷ 2 ∷ 3 ∷ 0 ∷ 1 ∷ 2 ∷ 4 ∷ 3 ∷ 
 abbrev pub rows2 : List ℕ
 rows2 = 0 ∷ 0 ∷ 0 ∷ 0 ∷ 1 ∷ 3 ∷ 2 ∷ 0 ∷ 1 ∷ 4 ∷ 6 ∷ 5 ∷ 2 ∷ 3 ∷ 7 ∷ 0 ∷ 1 ∷ 4 ∷ 3 ∷ 12 ∷ 5 ∷ 7 ∷ 15 ∷ 9 ∷ 2 ∷ 8 ∷ 6 ∷ 11 ∷ 10 ∷ 14 ∷ 13 ∷ 0 ∷ 1 ∷ 4 ∷ 16 ∷ 10 ∷ 13 ∷ 17 ∷ 14 ∷ 29 ∷ 27 ∷ 3 ∷ 12 ∷ 21 ∷ 30 ∷ 23 ∷ 22 ∷ 18 ∷ 2 ∷ 8 ∷ 5 ∷ 20 ∷ 26 ∷ 7 ∷ 28 ∷ 31 ∷ 19 ∷ 6 ∷ 24 ∷ 15 ∷ 25 ∷ 11 ∷ 9 ∷ []
 
-abbrev row : (ℕ → ℕ → ℕ) → List ℕ → ℕ → ℕ → Bool
-row sequence rows n i = eqb (entry rows (n + i)) (sequence n i)
+-- a row of such a table is document 002's
+abbrev row : (ℕ → List ℕ) → List ℕ → ℕ → ℕ → Bool
+row printed rows n i = eqb (entry rows (n + i)) (entry (printed n) i)
 
-pub rows1-are : {n : ℕ} → Width n → (i : ℕ) → i < n - 1 → entry rows1 (n + i) ≡ p1 n i
-unfolding modulus coefficient product remainder times power p1
-rows1-are {n} w i h = eqb→eq (entry rows1 (n + i)) (p1 n i) (all-at (row p1 rows1 n) (n - 1) (at-width (λ m. all (row p1 rows1 m) (m - 1)) (tt, tt, tt, tt) w) i h)
+rows1-are : {n : ℕ} → Width n → (i : ℕ) → i < n - 1 → entry rows1 (n + i) ≡ p1 n i
+unfolding printed1
+rows1-are {n} w i h =
+    eqb→eq (entry rows1 (n + i)) (entry (printed1 n) i) (all-at (row printed1 rows1 n) (n - 1) (at-width (λ m. all (row printed1 rows1 m) (m - 1)) (tt, tt, tt, tt) w) i h)
+    ∙ sym (sequence-law .p1-is w i h)
 
-pub rows2-are : {n : ℕ} → Width n → (i : ℕ) → i < n - 1 → entry rows2 (n + i) ≡ p2 n i
-unfolding modulus coefficient product remainder times power p1 p2
-rows2-are {n} w i h = eqb→eq (entry rows2 (n + i)) (p2 n i) (all-at (row p2 rows2 n) (n - 1) (at-width (λ m. all (row p2 rows2 m) (m - 1)) (tt, tt, tt, tt) w) i h)
+rows2-are : {n : ℕ} → Width n → (i : ℕ) → i < n - 1 → entry rows2 (n + i) ≡ p2 n i
+unfolding printed2
+rows2-are {n} w i h =
+    eqb→eq (entry rows2 (n + i)) (entry (printed2 n) i) (all-at (row printed2 rows2 n) (n - 1) (at-width (λ m. all (row printed2 rows2 m) (m - 1)) (tt, tt, tt, tt) w) i h)
+    ∙ sym (sequence-law .p2-is w i h)
 
--- the mask by the code's tables
-pub mask-is : {n : ℕ} → Width n → (cell k : ℕ)
-    → bitXor (term (λ i. entry rows1 (n + i)) n (cell % n) k) (term (λ i. entry rows2 (n + i)) n (cell / n) k) ≡ mask n cell k
-unfolding mask
-mask-is {n} w cell k =
+-- the cell's term by the code's tables
+pub cell-term-is : {n : ℕ} → Width n → (cell k : ℕ)
+    → bitXor (term (λ i. entry rows1 (n + i)) n (cell % n) k) (term (λ i. entry rows2 (n + i)) n (cell / n) k) ≡ cellTerm n cell k
+unfolding cellTerm
+cell-term-is {n} w cell k =
     ap₂ bitXor
     (term-as w (λ i. entry rows1 (n + i)) (p1 n) (rows1-are w) (cell % n) k)
     (term-as w (λ i. entry rows2 (n + i)) (p2 n) (rows2-are w) (cell / n) k)

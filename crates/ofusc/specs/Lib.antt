@@ -2,4 +2,5 @@ pub mod Width
 pub mod Field
 pub mod Table
 pub mod Map
+pub mod Law
 pub mod Model

@@ -16,15 +16,15 @@ unfoldable pub term : (sequence : ℕ → ℕ) (n c k : ℕ) → ℕ
 term sequence n c k = pick (eqb c 0) 0 (sequence ((k % (n - 1) + c) % (n - 1)))
 
 -- what the cell adds to s in group k: c1 = cell mod N goes with P1, c2 = cell div N with P2
-unfoldable pub mask : (n cell k : ℕ) → ℕ
-mask n cell k = bitXor (term (p1 n) n (cell % n) k) (term (p2 n) n (cell / n) k)
+unfoldable pub cellTerm : (n cell k : ℕ) → ℕ
+cellTerm n cell k = bitXor (term (p1 n) n (cell % n) k) (term (p2 n) n (cell / n) k)
 
 -- Data number = N·k + (s, plus P1[..], plus P2[..]), the inner sums in the field.
 unfoldable pub dataNumber : (n cell s m : ℕ) → ℕ
-dataNumber n cell s m = groupOf s m * n + bitXor s (mask n cell (groupOf s m))
+dataNumber n cell s m = groupOf s m * n + bitXor s (cellTerm n cell (groupOf s m))
 
 -- The reverse: the address of a data number.
 unfoldable pub addressOf : (n cell d : ℕ) → Address
 addressOf n cell d =
-    let s = bitXor (d % n) (mask n cell (d / n)) in
+    let s = bitXor (d % n) (cellTerm n cell (d / n)) in
     record { subchannel = s; index = unrotate 48 (23 * s) (d / n) }

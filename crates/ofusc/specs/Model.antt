@@ -2,15 +2,15 @@
 use Prim.Native.Nat.{ℕ, _+_, _*_}
 use lib.Bits.{bitXor}
 use Rattle.base.specs.Steps.{unrotate}
-use Rattle.ofusc.specs.Map.{mask}
+use Rattle.ofusc.specs.Map.{cellTerm}
 
 -- what the cell alone fixes of the data number in group k: N·k and the terms of both sequences
 unfoldable pub cellNumber : (n cell k : ℕ) → ℕ
-cellNumber n cell k = k * n + mask n cell k
+cellNumber n cell k = k * n + cellTerm n cell k
 
 -- the data number of subchannel s in group k
 unfoldable pub groupNumber : (n cell s k : ℕ) → ℕ
-groupNumber n cell s k = k * n + bitXor s (mask n cell k)
+groupNumber n cell s k = k * n + bitXor s (cellTerm n cell k)
 
 -- the number of the point of subchannel s in group k
 unfoldable pub pointNumber : (s k : ℕ) → ℕ

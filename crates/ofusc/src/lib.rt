@@ -13,7 +13,7 @@ ghost use Rattle.base.specs.Tabulate.{tabulate};
 ghost use Rattle.base.specs.Model.{Starts};
 ghost use Rattle.carriers.specs.Model.{addressNumber};
 ghost use Rattle.ofusc.specs.Width.{Width};
-ghost use Rattle.ofusc.specs.Map.{groupOf, term as Term, mask as Mask, dataNumber, addressOf};
+ghost use Rattle.ofusc.specs.Map.{groupOf, term as Term, cellTerm, dataNumber, addressOf};
 ghost use Rattle.ofusc.specs.Model.{cellNumber, groupNumber, pointNumber};
 
 // The basic permutation sequences of document 002, table 6. The row of N, which has N-1 entries, starts at place N.
@@ -215,10 +215,10 @@ fn term(rows: &[u8; 63], n: usize, c: usize, k: usize) -> usize
 }
 
 // What the cell adds to the subchannel in group k.
-fn mask(n: usize, cell: usize, k: usize) -> usize
+fn cell_term(n: usize, cell: usize, k: usize) -> usize
     requires { ⌜ Width n ⌝ }
     requires { ⌜ (cell < n * n) × (k < 48) ⌝ }
-    ensures { λ r. ⌜ r ≡ Mask n cell k ⌝ }
+    ensures { λ r. ⌜ r ≡ cellTerm n cell k ⌝ }
 {
     let first = SEQUENCE_1;
     let second = SEQUENCE_2;
@@ -242,7 +242,7 @@ pub fn data_number(n: usize, cell: usize, subchannel: usize, index: usize) -> us
     ensures { λ r. ⌜ r ≡ dataNumber n cell subchannel index ⌝ }
 {
     let k = group(subchannel, index);
-    k * n + (subchannel ^ mask(n, cell, k))
+    k * n + (subchannel ^ cell_term(n, cell, k))
 }
 
 // The reverse: the point of a data number.
@@ -253,7 +253,7 @@ pub fn address(n: usize, cell: usize, d: usize) -> Address
 {
     let p = parts(n, d);
     let k = p.quotient;
-    let s = p.remainder ^ mask(n, cell, k);
+    let s = p.remainder ^ cell_term(n, cell, k);
     Address {
         subchannel: s,
         index: unrotate(48, 23 * s, k),

@@ -2,8 +2,12 @@
 use mathlib.Core.Path.{refl}
 use Rattle.base.specs.Steps.{entry}
 use Rattle.base.proofs.Perm.{Perm}
-use Rattle.base.proofs.Table.{table-perm}
+use Rattle.base.proofs.Table.{table-perm, permutation}
 use Rattle.pusc_ul.specs.Table.{tilePermutation, tilePermutationInverse}
+use Rattle.pusc_ul.specs.Law.{TableRules}
 
 pub q-perm : Perm 70 (entry tilePermutation) (entry tilePermutationInverse)
 q-perm = table-perm 70 tilePermutation tilePermutationInverse refl refl tt tt
+
+pub tables : TableRules
+tables = record { tiles = permutation refl q-perm }

@@ -13,7 +13,7 @@ use Rattle.base.specs.Model.{Starts, Below, Turned}
 use Rattle.base.proofs.Tabulate.{starts-as, entry-of, turned-row, turned-by, turned-below}
 use Rattle.carriers.specs.declared.Spot.{Spot}
 use Rattle.ofusc.specs.Width.{Width, n4, n8, n16, n32}
-use Rattle.ofusc.proofs.Sequence.{size, sum-lt, mask-lt}
+use Rattle.ofusc.proofs.Sequence.{size, sum-lt, cell-term-lt}
 use Rattle.ofusc.proofs.Row.{number-in-group}
 use Rattle.amc.specs.declared.Shape.{Shape}
 use Rattle.amc.specs.Model.{IsShape, EvenWidth}
@@ -164,7 +164,7 @@ only-ofusc mode h n₁ n₀ = omega arith
 
 pub group-number-lt : {n : ℕ} → Width n → (cell s k : ℕ) → s < n → k < 48 → ofusc.groupNumber n cell s k < 2048
 unfolding ofusc.groupNumber
-group-number-lt {n} w cell s k hs hk = omega (arith, digits-lt hk (sum-lt w s (ofusc-map.mask n cell k) hs (mask-lt w cell k)), size w .most)
+group-number-lt {n} w cell s k hs hk = omega (arith, digits-lt hk (sum-lt w s (ofusc-map.cellTerm n cell k) hs (cell-term-lt w cell k)), size w .most)
 
 -- the shift is below 48
 pub shift-lt : (c : Setup) (s : ℕ) → shiftOf c s < 48

@@ -12,12 +12,12 @@ use Rattle.ofusc.proofs.address.Tie as tie
 group-lt : (c : tie.After-parts) → c .parts .result .quotient < 48
 group-lt c = rw (c .parts .ensures .0) (div-lt-iff-lt-mul (pos (c .before .pre .0)) .1 (c .before .pre .1 .1))
 
-value-lt : (c : tie.After-struct-known) → bitXor (c .before .before .parts .result .remainder) (c .before .mask .result) < c .before .before .before .args .n
-value-lt c = rw (c .before .mask .ensures, c .before .before .parts .ensures .0, c .before .before .parts .ensures .1) (subchannel-lt (c .before .before .before .pre .0) _ _)
+value-lt : (c : tie.After-struct-known) → bitXor (c .before .before .parts .result .remainder) (c .before .cell-term .result) < c .before .before .before .args .n
+value-lt c = rw (c .before .cell-term .ensures, c .before .before .parts .ensures .0, c .before .before .parts .ensures .1) (subchannel-lt (c .before .before .before .pre .0) _ _)
 
 returns : tie.Need-returns
 unfolding addressOf
-returns c = rw (c .unrotate .ensures .0, c .before .before .mask .ensures, c .before .before .before .parts .ensures .0, c .before .before .before .parts .ensures .1)
+returns c = rw (c .unrotate .ensures .0, c .before .before .cell-term .ensures, c .before .before .before .parts .ensures .0, c .before .before .before .parts .ensures .1)
 
 pub address-spec : {M : Type 1} → statement M
 address-spec =

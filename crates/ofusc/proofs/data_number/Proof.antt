@@ -12,7 +12,7 @@ group-below c = omega (arith, group-lt (c .before .args .subchannel) (c .before 
 
 returns : tie.Need-returns
 unfolding dataNumber
-returns c = rw (c .mask .ensures, c .before .group .ensures)
+returns c = rw (c .cell-term .ensures, c .before .group .ensures)
 
 -- the sum is the data number, which is small
 add-result : tie.Need-add-result

@@ -1,12 +1,12 @@
--- `ofusc::mask` meets its contract.
+-- `ofusc::cell_term` meets its contract.
 use mathlib.Core.Path.{_∙_}
 use Prim.Native.Nat.{_-_, _<_}
 use native.Mathlib.Nat.{mod-lt, mod-mod, div-lt-iff-lt-mul}
 use borrow.Author.Needs.{needs}
-use Rattle.ofusc.proofs.Sequence.{pos, turn-pos, mask-as}
-use Rattle.ofusc.proofs.Tables.{mask-is}
-use Rattle.ofusc.proofs.mask.Statement.{statement}
-use Rattle.ofusc.proofs.mask.Tie as tie
+use Rattle.ofusc.proofs.Sequence.{pos, turn-pos, cell-term-as}
+use Rattle.ofusc.proofs.Tables.{cell-term-is}
+use Rattle.ofusc.proofs.cell_term.Statement.{statement}
+use Rattle.ofusc.proofs.cell_term.Tie as tie
 
 turned-lt : (c : tie.After-turn) → c .turn .result < c .before .before .args .n - 1
 turned-lt c = rw (c .turn .ensures) (mod-lt _ (turn-pos (c .before .before .pre .0)))
@@ -25,7 +25,7 @@ returns : tie.Need-returns
 returns c =
     let parts = c .before .before .before .before .before in
     rw (c .before .before .term .ensures, c .term2 .ensures, parts .parts .ensures .0, parts .parts .ensures .1, c .before .before .before .before .turn .ensures)
-    (mask-is (parts .before .pre .0) _ _ ∙ mask-as _ _ _ _ (mod-mod _ _))
+    (cell-term-is (parts .before .pre .0) _ _ ∙ cell-term-as _ _ _ _ (mod-mod _ _))
 
-pub mask-spec : {M : Type 1} → statement M
-mask-spec = tie.close (tie.spec (λ c κs. c .pre .0) (λ c κs. search needs) term-requires term-requires-2 returns)
+pub cell-term-spec : {M : Type 1} → statement M
+cell-term-spec = tie.close (tie.spec (λ c κs. c .pre .0) (λ c κs. search needs) term-requires term-requires-2 returns)
