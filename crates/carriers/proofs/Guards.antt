@@ -14,10 +14,10 @@ use Rattle.carriers.specs.Band.{binBand, puscBand, carrierOf, usedOf, is
 use Rattle.carriers.specs.Law.{Whole, BandLaw}
 
 pub pusc-band : Whole puscBand 2048
-pusc-band = record { dc-is = refl; half-le = omega arith; size-is = refl }
+pusc-band = record { dc-is = refl; half-lt = omega arith; size-is = refl }
 
 pub bin-band : (n : ℕ) → 0 < n → Whole (binBand n) (64 * n)
-bin-band n h = record { dc-is = omega arith; half-le = omega arith; size-is = omega arith }
+bin-band n h = record { dc-is = omega arith; half-lt = omega arith; size-is = omega arith }
 
 -- the larger of two used numbers is in the column further on
 rising : (b : Band) (u v : ℕ) → u < v → carrierOf b u < carrierOf b v
@@ -68,7 +68,7 @@ module _ (b : Band) (size : ℕ) (law : Whole b size) where
 
     pub used-lt : usedOf b carrier < b .used
     unfolding usedOf
-    used-lt = unskip-lt (b .half) (carrier - b .left) (law .half-le) not-half
+    used-lt = unskip-lt (b .half) (carrier - b .left) (omega (arith, law .half-lt)) not-half
         (let p = guard-cases b size carrier g in let e = law .size-is in omega arith)
 
     pub carrier-used : carrierOf b (usedOf b carrier) ≡ carrier

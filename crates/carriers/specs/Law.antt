@@ -1,7 +1,7 @@
 -- What is claimed of a symbol's carriers, and the one law that every mode meets.
 use mathlib.Core.Path.{_≡_}
 use mathlib.Core.Bool.{Bool, false}
-use Prim.Native.Nat.{ℕ, _+_, _<_, _≤_}
+use Prim.Native.Nat.{ℕ, _+_, _<_}
 use Rattle.carriers.specs.declared.Band.{Band}
 use Rattle.carriers.specs.declared.Spot.{Spot}
 use Rattle.carriers.specs.declared.DataNumber.{DataNumber}
@@ -11,7 +11,7 @@ use Rattle.carriers.specs.Band.{carrierOf, usedOf, isGuard, isDc}
 -- A band takes up its symbol: the left guards, the used carriers, with DC before that of the used number `half`, and the right guards.
 pub record Whole (b : Band) (size : ℕ) : Type 0 where
   pub dc-is : b .dc ≡ b .left + b .half
-  pub half-le : b .half ≤ b .used
+  pub half-lt : b .half < b .used
   pub size-is : size ≡ b .left + (b .used + 1) + b .right
 
 -- The used numbers and the columns that are neither guard nor DC are the same, one for one and in the same order. Its proof, for every band that is whole, is `band-law`; those of all modes are (`pusc-band`, `bin-band`).

@@ -308,7 +308,7 @@ module _ (setup : Setup) (mask slot : ℕ) (p : Point) (old ground grid : List F
       record {
         pilots-lit = λ symbol used own h is lit. shown-stays (pilot-on-grid m slot hs symbol used own h is lit) (λ s x o. refl);
         zero-on-guards = λ symbol column own h g. nothing-stays guard (λ s x o. refl) refl symbol column own h (rw g);
-        zero-on-dc = λ symbol own. nothing-stays dc (λ s x o. refl) refl symbol (band setup .dc) own (let b = band-law v in omega (arith, b .size-is, b .dc-is, b .half-le)) (dc-content setup v symbol);
+        zero-on-dc = λ symbol own. nothing-stays dc (λ s x o. refl) refl symbol (band setup .dc) own (let b = band-law v in omega (arith, b .size-is, b .dc-is, b .half-lt)) (dc-content setup v symbol);
         zero-on-unlit = λ symbol used own h dark. shown-stays (dark-on-grid m slot hs symbol used own h dark) (λ s x o. refl);
         zero-unless-laid = never-laid;
         last-lay-stands = λ s index symbol column points q. last-laid s index symbol column q points;

@@ -6,8 +6,8 @@ ghost use mathlib.Core.Path.{_≡_};
 ghost use Prim.Native.Nat.{_*_, _%_, _<_};
 ghost use Rattle.base.specs.Answer.{accepted};
 ghost use Rattle.map.specs.Mode.{symbols};
+ghost use Rattle.map.specs.Place.{Content, located};
 ghost use Rattle.map.specs.Model.{Valid};
-ghost use Rattle.mask.specs.Mask.{litContent};
 ghost use Rattle.lengths.specs.Length.{gridPoints};
 ghost use Rattle.grid.specs.Row.{columnPosition};
 ghost use Rattle.look.specs.Look.{sight as sightOf, seen, lookOf};
@@ -25,40 +25,24 @@ pub enum Seen {
     Refused(u8),
 }
 
-// What is seen in a column of an accepted symbol's row, with the point p there: data is lit by its subchannel, a pilot by its
-// used number.
-fn sight(setup: Setup, mask: usize, symbol: usize, column: usize, p: Point) -> Seen
-    requires { ⌜ Valid setup ⌝ }
-    requires { ⌜ (symbol < 512 * symbols setup) × (column < setup .size) ⌝ }
-    ensures { λ r. ⌜ seen r ≡ accepted (sightOf p (litContent setup mask symbol column)) ⌝ }
+// What is seen on a carrier that holds this, with the point p there.
+fn sight(content: Located, p: Point) -> Seen
+    ensures { λ r. ⌜ ((w : Content) → located content ≡ accepted w → seen r ≡ accepted (sightOf p w)) ⌝ }
 {
-    match map::content(setup, symbol, column) {
+    match content {
         Located::Guard => Seen::Nothing,
         Located::Dc => Seen::Nothing,
-        Located::Pilot => {
-            let used = carriers::used(map::band(setup), column);
-            if mask::is_used_lit(setup, mask, used) {
-                Seen::Pilot(p)
-            } else {
-                Seen::Nothing
-            }
-        }
+        Located::Pilot => Seen::Pilot(p),
         Located::Data {
             slot,
             subchannel,
             index,
-        } => {
-            if mask::is_lit(setup, mask, subchannel) {
-                Seen::Data {
-                    point: p,
-                    slot,
-                    subchannel,
-                    index,
-                }
-            } else {
-                Seen::Nothing
-            }
-        }
+        } => Seen::Data {
+            point: p,
+            slot,
+            subchannel,
+            index,
+        },
         Located::Refused(number) => Seen::Refused(number),
     }
 }
@@ -82,5 +66,5 @@ pub fn look(setup: Setup, mask: usize, symbol: usize, grid: &[f32], carrier: i32
     }
     let column = centre::column(setup.size, carrier);
     let p = points::point_at(grid, column_position(setup, symbol, column));
-    sight(setup, mask, symbol, column, p)
+    sight(mask::lit_content(setup, mask, symbol, column), p)
 }

@@ -1,2 +1,3 @@
 -- The law of the mask, and what an accepted mask is.
 pub mod Law
+pub mod Content

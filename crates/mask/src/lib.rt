@@ -1,10 +1,14 @@
 // Masks: which major groups a sector lights, and what that makes of subchannels and used numbers.
+use map::Located;
 use map::Setup;
 ghost use mathlib.Core.Path.{_≡_};
-ghost use Prim.Native.Nat.{_<_};
-ghost use Rattle.map.specs.Mode.{band};
+ghost use Prim.Native.Nat.{_*_, _<_, _≤_};
+ghost use Rattle.base.specs.Answer.{accepted};
+ghost use Rattle.carriers.specs.Band.{usedOf};
+ghost use Rattle.map.specs.Mode.{symbols, band};
+ghost use Rattle.map.specs.Place.{located};
 ghost use Rattle.map.specs.Model.{Valid};
-ghost use Rattle.mask.specs.Mask.{isMask, isLit, isUsedLit, litSubchannels};
+ghost use Rattle.mask.specs.Mask.{isMask, isLit, isUsedLit, litContent, litSubchannels};
 
 // Is the mask in its range?
 pub fn is_mask(mode: usize, mask: usize) -> bool
@@ -36,6 +40,56 @@ pub fn is_used_lit(setup: Setup, mask: usize, used: usize) -> bool
         return true;
     }
     pusc_dl::is_used_lit(setup.cell, mask, used)
+}
+
+// Is a column lit, by its used number? DC counts as the used number above it.
+fn is_column_lit(setup: Setup, mask: usize, column: usize) -> bool
+    requires { ⌜ Valid setup ⌝ }
+    requires { ⌜ (band setup .left ≤ column) × (usedOf (band setup) column < band setup .used) ⌝ }
+    ensures { λ r. ⌜ r ≡ isUsedLit setup mask (usedOf (band setup) column) ⌝ }
+{
+    is_used_lit(setup, mask, carriers::used(map::band(setup), column))
+}
+
+// What stands in a column of an accepted symbol's row, where what is not lit counts as a guard: data is lit by its subchannel.
+pub fn lit_content(setup: Setup, mask: usize, symbol: usize, column: usize) -> Located
+    requires { ⌜ Valid setup ⌝ }
+    requires { ⌜ (symbol < 512 * symbols setup) × (column < setup .size) ⌝ }
+    ensures { λ r. ⌜ located r ≡ accepted (litContent setup mask symbol column) ⌝ }
+{
+    match map::content(setup, symbol, column) {
+        Located::Guard => Located::Guard,
+        Located::Dc => {
+            if is_column_lit(setup, mask, column) {
+                Located::Dc
+            } else {
+                Located::Guard
+            }
+        }
+        Located::Pilot => {
+            if is_column_lit(setup, mask, column) {
+                Located::Pilot
+            } else {
+                Located::Guard
+            }
+        }
+        Located::Data {
+            slot,
+            subchannel,
+            index,
+        } => {
+            if is_lit(setup, mask, subchannel) {
+                Located::Data {
+                    slot,
+                    subchannel,
+                    index,
+                }
+            } else {
+                Located::Guard
+            }
+        }
+        Located::Refused(number) => Located::Refused(number),
+    }
 }
 
 // How many subchannels are lit.
