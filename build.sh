@@ -7,8 +7,8 @@
 #     ./build.sh            builds what is missing or old; status 0, or 2 where that fails
 #     ./build.sh --check    builds nothing; status 0 where all are current, 1 where they are not
 #
-# CC (which may be several words), CFLAGS and LDFLAGS are used where the shared library is linked; they are no part of
-# the hash.
+# CC and AR (which may be several words), CFLAGS and LDFLAGS are used where the libraries are made of the prover's; they are no
+# part of the hash.
 set -euf
 
 # A stream that is closed would become the next pipe or file that is opened.
@@ -132,7 +132,11 @@ fi
 
 # The archive of a crate has one object, in which its own calls alone are seen from outside.
 for crate in $calls; do
-    (cd "$new" && ${AR:-ar} x "$crate/target/staticlib/lib$crate.a" "$crate.o")
+    archive=$crate/target/staticlib/lib$crate.a
+    (cd "$new" && [ "$(${AR:-ar} t "$archive")" = "$crate.o" ] && ${AR:-ar} x "$archive") || {
+        say "$new/$archive is not made of $crate.o alone"
+        exit 2
+    }
     set -- "$@" "$new/$crate.o"
 done
 ${AR:-ar} rcsD "$new/libbellpulsar.a" "$@"

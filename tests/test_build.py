@@ -53,6 +53,7 @@ echo done >>"$tree/calls"
 ENDLESS = '#!/bin/sh\ntree=$(dirname "$0")/..\nsleep 600 & echo $! >>"$tree/calls"\necho $$ >>"$tree/calls"\nwait\n'
 ENDLESS_CALLS = CHECKS + ENDLESS
 FAILS = "#!/bin/sh\necho called >>calls\necho 'rt: map NOT PROVED' >&2\nexit 1\n"
+FAILS_CALLS = CHECKS + 'echo "rt: $2 NOT PROVED"\nexit 1\n'
 COMPILER = '#!/bin/sh\necho "$0" "$@" >>words\nexec cc "$@"\n'
 # Notes its words, and makes a program that does nothing; the preprocessor is the compiler's own.
 NO_COMPILER = """\
@@ -377,6 +378,19 @@ class Building(Case):
             self.assertEqual(self.build("--check").returncode, 1)
         self.assertEqual(self.calls(), ["called"] * 2)
         self.assertEqual(self.run_in_tree("sh", "examples/c/run.sh", "point", *ASKED[1:]).returncode, 2)
+
+    def test_a_static_library_that_fails(self):
+        """Its proof, or what its archive is made of."""
+        alone = 'ar rcsD "lib$2.a" "$2.o"'
+        self.assertIn(alone, PROVES)
+        others = PROVES.replace(alone, 'cp "$2.o" more.o && %s more.o' % alone)
+        self.edit("crates", "map", "src", "lib.rt")
+        for prover, told in ((FAILS_CALLS, "rt: capi_map NOT PROVED\n"), (others, "is not made of capi_map.o alone\n")):
+            self.stub("rt", prover)
+            done = self.build()
+            self.assertEqual((done.stdout, done.returncode), ("", 2))
+            self.assertIn(told, done.stderr)
+            self.assertEqual(self.build("--check").returncode, 1)
 
     def test_a_compiler_that_fails(self):
         self.assertEqual(self.run_in_tree("sh", "examples/c/run.sh", "point", *ASKED[1:], CC="false").returncode, 2)
