@@ -1,7 +1,7 @@
 #!/bin/sh
 # Runs the examples of one language and fails where one prints, or ends with, something else than it should. Most of
-# what is expected are known points of document 01. An example ends with 0 where it is done, 1 where it is refused and 2
-# where it is misused.
+# what is expected are known points, which are a theorem too (docs/PROOFS.md). An example ends with 0 where it is done, 1
+# where it is refused and 2 where it is misused.
 #
 #     sh examples/expected.sh PREFIX
 #

@@ -3,8 +3,8 @@
  * Link with libbellpulsar.a or the shared libbellpulsar.so.4; nothing else is needed but the C library. The engine keeps no
  * state, so calls may run side by side on different buffers.
  *
- * ANSWERS. Every call but bp_version and those whose names end in _len returns 0, or the number of the first question of
- * document 01 that is answered no (enum bp_refusal). The questions are put in the order in which a call lists its refusals,
+ * ANSWERS. Every call but bp_version and those whose names end in _len returns 0, or the number of the first question that is
+ * answered no (enum bp_refusal has what each refuses). The questions are put in the order in which a call lists its refusals,
  * each only after a yes to all before it. On a refusal nothing is written: every out parameter and buffer keeps its contents.
  * Buffers that are `const` are never written.
  *
@@ -107,7 +107,7 @@ enum bp_mode {
     BP_PUSC_DL = 0, /* PUSC downlink */
     BP_PUSC_UL = 1, /* PUSC uplink */
     BP_OFUSC = 2,   /* optional FUSC */
-    BP_AMC = 3,     /* AMC 6x1, document 000's default */
+    BP_AMC = 3,     /* AMC 6x1, the default of the four shapes */
     BP_AMC_2X3 = 4, /* AMC 2x3 */
     BP_AMC_3X2 = 5, /* AMC 3x2 */
     BP_AMC_1X6 = 6  /* AMC 1x6 */
@@ -250,22 +250,27 @@ uint32_t bp_look(uint32_t mode, uint32_t size, uint32_t cell, uint32_t mask, uin
                  const float *grid, size_t grid_len, int32_t carrier, uint32_t *kind, float point[2],
                  uint32_t *slot, uint32_t *subchannel, uint32_t *index);
 
-/* Optional FUSC: in which groups subchannel_a of cell_a and subchannel_b of cell_b are on one carrier.
+/* COLLISIONS are of one subchannel of a cell with one subchannel of a cell, different or the same, in the same symbol. There are
+ * two calls, for optional FUSC and for AMC, and none for PUSC. */
+
+/* Optional FUSC: in which groups one subchannel, subchannel_a of cell_a, and one other, subchannel_b of cell_b, share a carrier.
  *
  * Sizes, cells and subchannels are those of mode 2. Group k of a symbol (0..47) is its data numbers N*k to N*k+N-1, N
  * being size / 64; each subchannel has one point there, and every symbol has the same answer. One cell may be given twice.
- * Written where it is accepted: all of hits, hits[k] being 1 where the two collide in group k and else 0; and *count, how
- * many are 1.
+ * All N subchannels of cell_b together share a carrier with subchannel_a in all 48 groups, whichever the cells are.
+ * Written where it is accepted: all of hits, hits[k] being 1 where the two subchannels share a carrier in group k and else 0;
+ * and *count, how many are 1.
  * Refusals, in this order: 2 size, 3 cell_a, 3 cell_b, 5 subchannel_a, 5 subchannel_b. */
 uint32_t bp_ofusc_collisions(uint32_t size, uint32_t cell_a, uint32_t subchannel_a,
                              uint32_t cell_b, uint32_t subchannel_b, uint8_t hits[48], uint32_t *count);
 
-/* AMC: which indices of a subchannel both cells put on one carrier of one symbol, the same in every shape (modes 3 to
- * 6), size, slot and subchannel.
+/* AMC: which indices one subchannel of cell_a and the same subchannel of cell_b have on the same carrier of the same symbol.
  *
- * Cells are those of AMC, 0..2351. One cell may be given twice.
- * Written where it is accepted: all of hits, hits[j] being 1 where the two collide at index j and else 0; and *count, how
- * many are 1.
+ * A subchannel of AMC has the same carriers under every cell: what is counted is where both cells put the same index. The answer
+ * is the same in every shape (modes 3 to 6), size, slot and subchannel. Cells are those of AMC, 0..2351. One cell may be given
+ * twice.
+ * Written where it is accepted: all of hits, hits[j] being 1 where both cells put index j on the same carrier of the same
+ * symbol and else 0; and *count, how many are 1.
  * Refusals, in this order: 3 cell_a, 3 cell_b. */
 uint32_t bp_amc_collisions(uint32_t cell_a, uint32_t cell_b, uint8_t hits[48], uint32_t *count);
 

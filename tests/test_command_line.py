@@ -5,6 +5,7 @@
 """
 
 import contextlib
+import glob
 import io
 import itertools
 import json
@@ -72,6 +73,11 @@ def send(command, *pieces):
     for piece in pieces:
         command.stdin.write(piece)
         command.stdin.flush()
+
+
+def file_text(path):
+    with open(os.path.join(ROOT, path), encoding="utf-8") as file:
+        return file.read()
 
 
 def run_shell(line):
@@ -1524,15 +1530,17 @@ class Streams(Files):
 
 class Bar(Files):
     def on_a_terminal(self, slots, pause):
-        """What a terminal is told that is standard error; the slots come in two halves."""
+        """What a terminal is told that is standard error; the slots come in two halves, with a pause between them."""
         terminal, errors = pty.openpty()
         points = some_points(2, 256, 0, slots)
         words = [COMMAND, "fill", "2", "256", "0", "-", self.path("grids")]
         with subprocess.Popen(words, stdin=subprocess.PIPE, stderr=errors, env=ENV) as filling:
             os.close(errors)
-            for half in (points[: len(points) // 2], points[len(points) // 2 :]):
-                send(filling, half)
-                time.sleep(pause)
+            send(filling, points[: len(points) // 2])
+            while not os.listdir(self.directory) and filling.poll() is None:
+                time.sleep(0.01)  # it has not started yet, which takes long on a busy machine
+            time.sleep(pause)
+            send(filling, points[len(points) // 2 :])
             filling.stdin.close()
             self.assertEqual(filling.wait(60), 0)
         told = b""
@@ -1724,6 +1732,9 @@ COMMANDS = "place|locate|table|first|fill|empty|batch|collisions ofusc|collision
 COMMANDS += "|owner|owners|show"
 COMMANDS += "|picture slot|picture zone|picture subchannel"
 OF_BURSTS = ("bursts", "owner", "owners", "picture zone")
+PUBLIC_PLACES = "include/*.h python/*.py python/bellpulsar/*.py rust/*.rs rust/src/*.rs docs/bellpulsar.1 docs/GUIDE.md"
+PUBLIC_PLACES += " examples/*.sh examples/c/*.* examples/rust/*.* examples/gnuradio/*.*"
+PUBLIC_TEXTS = [name for place in PUBLIC_PLACES.split() for name in sorted(glob.glob(os.path.join(ROOT, place)))]
 MASKED = ("first", "fill", "empty", "show", "picture slot", *OF_BURSTS)
 
 
@@ -1808,6 +1819,12 @@ class Usage(Case):
             text = "".join(part[4:] + "\n" for part in output.splitlines())
             self.assertEqual(asked(*shlex.split(line)).stdout.decode(), text, line)
 
+    def test_public_texts_cite_no_paper(self):
+        """Users do not have the papers: nothing is told them by the number of one."""
+        self.assertGreaterEqual(len(PUBLIC_TEXTS), 30)
+        for name in PUBLIC_TEXTS:
+            self.assertNotRegex(file_text(name), r"(?i)\bdocuments? 0\d|\bpapers?\b", name)
+
     def test_not_understood(self):
         lines = ["", "nothing", "-1", "place 2 1024 17 0 0", "place 2 1024 17 0 0 0 0", "place 2 1024 17 0 0 0 -1"]
         lines += ["locate 2 1024 17 0 0 --index 3", "collisions 48 176", "show 2 256 0 0 --sub 1"]
@@ -1850,6 +1867,153 @@ class Usage(Case):
             self.not_understood("plan", "write", 1024, word)
         for word in ("8", "0g", "0x01", "-1", "1 2", " 01", "01 "):
             self.not_understood("plan", "read", "01", word)
+
+
+# --- the rule sheet ---------------------------------------------------------------------------
+
+ONE_AND_ONE = "one subchannel of a cell and one subchannel of a different cell (another permutation base)"
+ONE_AND_SAME = "one subchannel of a cell and the same subchannel of a different cell (another permutation base)"
+
+
+def in_turn(first, other, rows):
+    """A list in words: the first row in the words of `first`, the others in those of `other`."""
+    words = [first % rows[0]] + [other % row for row in rows[1:]]
+    return "%s and %s" % (", ".join(words[:-1]), words[-1])
+
+
+def rules_of(sheet):
+    """The quotable sentences, by their letters."""
+    rules = {}
+    for block in re.findall(r"(?:^>.*\n)+", sheet, re.MULTILINE):
+        words = " ".join(block.replace(">", " ").split())
+        rules.update(re.findall(r"\*\*([a-z])\.\*\* (.+?)(?= \*\*|$)", words))
+    return rules
+
+
+def shown_in(sheet):
+    """The collisions that it shows: kind and fields, and the count with the groups or indices."""
+    shown = {}
+    command = r"^    \$ \./bellpulsar collisions (\w+) ([\d ]+)\n    count (\d+) (?:groups|indices) (none|[\d ]+)$"
+    for kind, fields, count, hits in re.findall(command, sheet, re.MULTILINE):
+        found = [] if hits == "none" else list(map(int, hits.split()))
+        shown[(kind, *map(int, fields.split()))] = (int(count), found)
+    return shown
+
+
+def theorems():
+    """The statements of the record Figures, by their names."""
+    fields = r"^  pub ([a-z][a-z-]*) : (.*(?:\n      .*)*)"
+    found = re.findall(fields, file_text("crates/figures/specs/Figures.antt"), re.MULTILINE)
+    return {name: " ".join(statement.split()) for name, statement in found}
+
+
+class RuleSheet(Case):
+    """docs/RULES.md says what the theorems say, in sentences that stand alone; its examples are of these figures."""
+
+    @classmethod
+    def setUpClass(cls):
+        cls.sheet, cls.theorems = file_text("docs/RULES.md"), theorems()
+        cls.rules, cls.shown = rules_of(cls.sheet), shown_in(cls.sheet)
+        most = re.search(r"^most n = (.*)$", file_text("crates/figures/specs/Word.antt"), re.MULTILINE)[1]
+        cls.most = {int(n): int(figure) for n, figure in re.findall(r"\(eqb n (\d+)\) (\d+)", most)}
+        cls.by_size = [(figure, 64 * n) for n, figure in cls.most.items()]
+        cls.row = cls.figure("b-row", r"countOf \(inRow \(n - 1\) k \(ofuscOf \(64 \* n\) a s b t \.hits\)\) ≤ (\d+)")
+        cls.amc = cls.figure("g-most", r"\(a ≡ b → ⊥\) → amcOf a b \.count ≤ (\d+)")
+
+    @classmethod
+    def figure(cls, name, end):
+        """The number in what a theorem ends with."""
+        return int(re.search(end + "$", cls.theorems[name])[1])
+
+    def test_every_theorem_is_named(self):
+        named = re.findall(r"^\| ([a-z]) \| (`.*`) \|$", self.sheet, re.MULTILINE)
+        self.assertEqual("".join(letter for letter, _ in named), "abcdefg")
+        self.assertEqual("".join(self.rules), "abcdefg")
+        self.assertEqual([name for _, names in named for name in re.findall("`(.*?)`", names)], list(self.theorems))
+        for letter, names in named:
+            self.assertRegex(names, "^`%s-[a-z-]+`(, `%s-[a-z-]+`)*$" % (letter, letter))
+
+    def test_limits_of_optional_fusc(self):
+        self.assertRegex(self.theorems["c-count"], r"\(a ≡ b → ⊥\) → ofuscOf \(64 \* n\) a s b t \.count ≤ most n$")
+        self.assertEqual([size for _, size in self.by_size], ref.sizes(ref.OFUSC))
+        share = "In optional FUSC, %s share a carrier in at most %%s." % ONE_AND_ONE
+        rows = [(size // 64 - 1, size) for _, size in self.by_size]
+        rows = in_turn("in %d of any %%d groups at FFT size %%d" % self.row, "of any %d at %d", rows)
+        wanted = "%d of any N - 1 groups in a row, N being the number of subchannels of a cell: %s" % (self.row, rows)
+        self.assertEqual(self.rules["b"], share % wanted)
+        wanted = in_turn("%d of the 48 groups of a symbol at FFT size %d", "in at most %d at %d", self.by_size)
+        self.assertEqual(self.rules["c"], share % wanted)
+        wanted = in_turn("in %d of the 48 groups of a symbol at %d", "in %d at %d", self.by_size)
+        self.assertIn("share a carrier in %d of N - 1 groups in a row, " % self.row, self.rules["d"])
+        self.assertIn(" and %s; so no lower limit holds." % wanted, self.rules["d"])
+
+    def test_title_and_table(self):
+        told = "one subchannel of a cell and one subchannel of a different cell share a carrier\n"
+        self.assertRegex(self.sheet, "^# Rule sheet for network planners: how often " + told)
+        heading = re.search(r"^\| FFT size, .*$", self.sheet, re.MULTILINE)[0]
+        for groups in ("N - 1 groups in a row", "all 48 groups"):
+            told = "| one subchannel of a cell and one of a different cell share a carrier, of %s, in at most (" % groups
+            self.assertIn(told, heading)
+        row = r"^\| (\d+) \| (\d+) \| 0 to (\d+) \| (\d+) of any (\d+) \| (\d+) of 48 \|$"
+        rows = [tuple(map(int, found)) for found in re.findall(row, self.sheet, re.MULTILINE)]
+        self.assertEqual(rows, [(64 * n, n, n * n - 1, self.row, n - 1, most) for n, most in self.most.items()])
+
+    def test_sum_and_one_cell(self):
+        total = self.figure("e-sum", r"sum n \(λ t\. ofuscOf \(64 \* n\) a s b t \.count\) ≡ (\d+)")
+        self.assertIn("add up to %d," % total, self.rules["e"])
+        equal = r"\(s ≡ t → ofuscOf \(64 \* n\) a s a t \.count ≡ (\d+)\) × \(\(s ≡ t → ⊥\) → .* ≡ 0\)"
+        every = self.figure("f-one-cell", equal)
+        self.assertIn("in all %d groups of a symbol where both use the same subchannel, and in none" % every, self.rules["f"])
+
+    def test_figure_of_amc(self):
+        wanted = "In AMC a subchannel has the same carriers under every cell, and what is counted is where both cells put the"
+        wanted += " same index: %s have the same index on the same carrier of the same symbol" % ONE_AND_SAME
+        wanted += " for at most %d of the 48 indices. " % self.amc
+        self.assertTrue(self.rules["g"].startswith(wanted), self.rules["g"])
+        every = self.figure("g-same", r"amcOf a a \.count ≡ (\d+)")
+        wanted = "for %d of the 48 indices, and two stations with the same permutation base for all %d." % (self.amc, every)
+        self.assertTrue(self.rules["g"].endswith(wanted), self.rules["g"])
+
+    def test_examples_reach_the_figures(self):
+        """What the commands print is what the sheet shows: test_examples_of_the_documents."""
+        for n, most in self.most.items():
+            reached = [
+                fields
+                for fields, (count, hits) in self.shown.items()
+                if fields[:2] == ("ofusc", 64 * n) and fields[2] != fields[4] and count == most == len(hits)
+                if len([hit for hit in hits if hit < n - 1]) == self.row
+            ]
+            self.assertEqual(len(reached), 1, n)
+        counts = [self.shown["ofusc", 256, 10, 0, 4, subchannel][0] for subchannel in range(4)]
+        self.assertEqual(sum(counts), 48)
+        self.assertEqual(self.shown["ofusc", 1024, 17, 3, 17, 4], (0, []))
+        marked = list(map(int, re.findall(r"Marked \(amcOf 48 176 \.hits\) (\d+)", self.theorems["g-reached"])))
+        self.assertEqual(self.shown["amc", 48, 176], (self.amc, marked))
+
+    def test_reasons(self):
+        text = file_text("docs/FIGURES.md")
+        self.assertEqual(re.findall(r"^### ([a-z])\. ", text, re.MULTILINE), list(self.rules))
+        self.assertEqual(text.count("\nIn plain words: "), len(self.rules))
+        figures = in_turn("%d", "%d", list(self.most.values()))
+        self.assertIn("\n### b. At most %d of any N - 1 groups in a row\n" % self.row, text)
+        self.assertIn("\n### c. At most %s of all 48 groups\n" % figures, text)
+        self.assertIn("\n### g. At most %d of the 48 indices\n" % self.amc, text)
+        rows = [47 // (n - 1) + 1 for n in self.most]
+        self.assertEqual([self.row * many for many in rows], list(self.most.values()))
+        words = " ".join(text.split())
+        self.assertIn(": %s rows of at most %d marks." % (in_turn("%d", "%d", rows), self.row), words)
+        sizes = [(64 * n, many) for n, many in zip(self.most, rows)]
+        told = in_turn("At FFT size %d there are %d rows", "at %d there are %d", sizes)
+        self.assertIn(told + ", so the figure is twice that.", words)
+
+    def test_no_text_speaks_of_whole_cells(self):
+        """The figures are of one subchannel with one: that two cells collide, or share so much, is said nowhere."""
+        for name in PUBLIC_TEXTS + ["docs/RULES.md", "docs/FIGURES.md", "README.md"]:
+            words = re.sub(r"\s*\n[ */!#>]*", " ", file_text(name))
+            self.assertNotRegex(words, r"(?i)\btwo (different )?cells (collide|share|meet)\b", name)
+
+
+# --- failures ---------------------------------------------------------------------------------
 
 
 class Failures(Case):

@@ -1,4 +1,6 @@
-/* Where two cells collide. Optional FUSC: collisions SIZE CELL SUBCHANNEL CELL SUBCHANNEL; AMC: collisions CELL CELL */
+/* Where one subchannel of a cell and one of a different cell collide. Optional FUSC: collisions SIZE CELL SUBCHANNEL CELL
+   SUBCHANNEL, the groups in which both are on one carrier; AMC: collisions CELL CELL, the indices that both cells put on one
+   carrier of one symbol, in every subchannel */
 #include <stdio.h>
 
 #include "bellpulsar.h"

@@ -4,8 +4,10 @@
 //!     carrier MODE SIZE CELL SYMBOL CARRIER            what a carrier, counted from DC, holds in a symbol
 //!     places MODE SIZE CELL SLOT SUBCHANNEL            where the points of a subchannel lie, and their places in the
 //!                                                      slot's grid
-//!     collisions SIZE CELL SUBCHANNEL CELL SUBCHANNEL  where two cells collide in optional FUSC
-//!     collisions CELL CELL                             where two cells collide in AMC
+//!     collisions SIZE CELL SUBCHANNEL CELL SUBCHANNEL  the groups of optional FUSC in which the one subchannel and the
+//!                                                      other share a carrier
+//!     collisions CELL CELL                             the indices that both cells put on one carrier of one symbol in
+//!                                                      every subchannel of AMC
 //!     slot MODE SIZE CELL MASK SLOT                    fills a slot's grid in two moves, lays the last lit
 //!                                                      subchannel again, and takes all points off the grid
 //!     capture MODE SIZE CELL MASK SLOT                 takes a slot's points off its grid while a capture delivers

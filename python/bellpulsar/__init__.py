@@ -104,8 +104,11 @@ Numbers. Any integer may stand in any field. One that 32 bits do not hold, negat
 the engine as -2**31 or 2**31 - 1. About a count of carriers no question is put: one beyond 32 bits means all of them,
 and a negative one is a ValueError.
 
-Refusals. A request that cannot be met raises Refusal, with the number of the first question of document 01 that is
-answered no; its text says what was asked, the value given and what would be accepted. Nothing is written then.
+Collisions are of one subchannel of a cell with one subchannel of a cell, different or the same, in the same symbol: of
+optional FUSC by `ofusc_collisions`, of AMC by `amc_collisions`. There is no such call for PUSC.
+
+Refusals. A request that cannot be met raises Refusal, with the number of the first question that is answered no, as
+QUESTIONS has them; its text says what was asked, the value given and what would be accepted. Nothing is written then.
 
 Buffers. Points, grids, plans and destinations are lent: the engine works on the caller's memory and nothing is copied.
 Points and grids are any contiguous buffer of 32-bit floats (array('f'), a memoryview of one, a ctypes array, a numpy
@@ -205,8 +208,8 @@ ALL_GROUPS = 0b111111  # the mask of mode 0 that lights every major group
 
 
 class Refusal(Exception):
-    """The engine refused a request: `number` and `question` are those of document 01, `words` say what was asked, the
-    value given and what would be accepted."""
+    """The engine refused a request: `question` is the first that is answered no, `number` is its number in QUESTIONS,
+    `words` say what was asked, the value given and what would be accepted."""
 
     def __init__(self, number: int, words: str) -> None:
         super().__init__(number, words)
@@ -273,7 +276,8 @@ class Seen(NamedTuple):
 
 
 class Collisions(NamedTuple):
-    """48 marks, True where the two collide, and how many are."""
+    """48 marks, of groups (optional FUSC) or of indices (AMC), True where one subchannel of the first cell and one of
+    the second collide, and how many are True."""
 
     hits: Tuple[bool, ...]
     count: int  # type: ignore[assignment]  # a tuple has one of its own
@@ -583,9 +587,11 @@ def _collisions(call: Any, fields: Dict[str, Int], **mode: Int) -> Collisions:
 
 
 def ofusc_collisions(size: Int, cell_a: Int, subchannel_a: Int, cell_b: Int, subchannel_b: Int) -> Collisions:
-    """Optional FUSC: in which groups the two subchannels are on one carrier, as Collisions(hits, count).
+    """Optional FUSC: in which groups one subchannel of cell_a and one subchannel of cell_b share a carrier.
 
-    hits[k] is group k, the data numbers N*k to N*k+N-1 of a symbol; every symbol has the same answer.
+    The answer is Collisions(hits, count). hits[k] is group k, the data numbers N*k to N*k+N-1 of a symbol; every symbol
+    has the same answer. All N subchannels of cell_b together share a carrier with subchannel_a in all 48 groups,
+    whichever the cells are.
     Refusals 2, 3 (cell_a), 3 (cell_b), 5 (subchannel_a), 5 (subchannel_b), in this order.
     """
     fields = {
@@ -599,9 +605,11 @@ def ofusc_collisions(size: Int, cell_a: Int, subchannel_a: Int, cell_b: Int, sub
 
 
 def amc_collisions(cell_a: Int, cell_b: Int) -> Collisions:
-    """AMC: which indices both cells put on one carrier of one symbol, as Collisions(hits, count); hits[j] is index j.
+    """AMC: which indices one subchannel of cell_a and the same one of cell_b have on the same carrier of the same symbol.
 
-    The answer is the same in every shape (modes 3 to 6), size, slot and subchannel. Refusals 3 (cell_a), 3 (cell_b).
+    The answer is Collisions(hits, count). hits[j] is index j. A subchannel of AMC has the same carriers under every
+    cell: what is counted is where both cells put the same index. The answer is the same in every shape (modes 3 to 6),
+    size, slot and subchannel. Refusals 3 (cell_a), 3 (cell_b).
     """
     return _collisions(engine.bp_amc_collisions, {"cell_a": cell_a, "cell_b": cell_b})
 

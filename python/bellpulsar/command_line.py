@@ -267,14 +267,22 @@ prints a line for each point, by subchannel and index: the first is "subchannel 
 
 
 def add_collisions(commands):
-    kinds = branch(commands, "collisions", "where two cells put points on one carrier")
+    summary = "where one subchannel of a cell and one of a different cell collide (not for PUSC)"
+    kinds = branch(commands, "collisions", summary)
     example = "  bellpulsar collisions ofusc 2048 0 2 1010 0\n  count 4 groups 0 1 31 32"
-    example += "\n\nA group is one of the 48 runs of N data numbers in a symbol."
+    example += """
+
+A group is one of the 48 runs of N data numbers in a symbol. One subchannel and all subchannels of another cell together
+share a carrier in all 48 groups, whichever the cells are. One cell may be given twice."""
     fields = batch.FIELDS["collisions ofusc"]
-    summary = "optional FUSC: the groups in which two subchannels are on one carrier"
+    summary = "optional FUSC: the groups in which one subchannel of a cell and one of a different cell share a carrier"
     add_json(command(kinds, "ofusc", answers.ofusc_collisions, summary, example, fields), "count, groups")
     example = "  bellpulsar collisions amc 48 176\n  count 3 indices 8 24 32"
-    summary = "AMC: the indices that two cells put on one carrier, in every slot shape and subchannel"
+    example += """
+
+The answer is that of every subchannel, slot, slot shape and size. A subchannel has the same carriers under every cell:
+what is counted is where both cells put the same index. One cell may be given twice."""
+    summary = "AMC: the indices that a subchannel has on the same carrier of the same symbol under both cells"
     fields = batch.FIELDS["collisions amc"]
     add_json(command(kinds, "amc", answers.amc_collisions, summary, example, fields), "count, indices")
 

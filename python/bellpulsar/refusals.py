@@ -1,7 +1,7 @@
 """A refusal in words: what was asked, the value given, and what would be accepted.
 
 The engine alone judges a request. What stands here only explains the number that it gave, and where it finds nothing to
-explain, the words are those of document 01's question.
+explain, the words are the question's.
 """
 
 from typing import Any, Callable, Dict, List, Mapping, NamedTuple, Optional, Sequence, Tuple
@@ -10,7 +10,7 @@ Words = Optional[str]  # nothing where there is nothing to explain
 Asked = Mapping[str, Any]  # a request's fields by name
 Numbers = Sequence[int]  # of a zone or of a burst
 
-# The questions of document 01, by number.
+# The questions that the engine puts, by number.
 QUESTIONS = {
     1: "Is the mode listed (in a plan and of bursts: 0 or 2 to 6)?",
     2: "Is the size that mode's (of a plan: 256, 512, 1024 or 2048)?",
@@ -33,7 +33,7 @@ QUESTIONS = {
     19: "Is the burst apart from every earlier one?",
 }
 
-# --- the ranges of document 01 ----------------------------------------------------------------
+# --- ranges -----------------------------------------------------------------------------------
 
 SIZES = (256, 512, 1024, 2048)
 SLOTS = 512

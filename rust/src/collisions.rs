@@ -1,7 +1,8 @@
 use crate::refusal::done;
 use crate::{c, Refusal};
 
-/// The groups (optional FUSC) or indices (AMC) that are on one carrier, and how many they are.
+/// The groups (optional FUSC) or indices (AMC) in which one subchannel of a cell and one subchannel of a cell, different
+/// or the same, collide in a symbol, and how many they are. There is no such call for PUSC.
 ///
 /// ```
 /// use bellpulsar::{amc_collisions, ofusc_collisions, Refusal};
@@ -21,7 +22,9 @@ pub struct Collisions {
     pub count: u32,
 }
 
-/// Optional FUSC: the groups in which two subchannels, each of its cell, are on one carrier.
+/// Optional FUSC: the groups in which one subchannel of `cell_a` and one subchannel of `cell_b` share a carrier.
+///
+/// All subchannels of `cell_b` together share a carrier with `subchannel_a` in all 48 groups, whichever the cells are.
 pub fn ofusc_collisions(
     size: u32,
     cell_a: u32,
@@ -48,7 +51,10 @@ pub fn ofusc_collisions(
     })
 }
 
-/// AMC: the indices that both cells put on one carrier of one symbol, the same in every slot shape.
+/// AMC: the indices that one subchannel of `cell_a` and the same subchannel of `cell_b` have on the same carrier of the
+/// same symbol, the same in every slot shape, size, slot and subchannel.
+///
+/// A subchannel of AMC has the same carriers under every cell: what is counted is where both cells put the same index.
 pub fn amc_collisions(cell_a: u32, cell_b: u32) -> Result<Collisions, Refusal> {
     let (mut hits, mut count) = ([0u8; 48], 0);
     // Safety: `hits` has the 48 bytes that are written.

@@ -32,8 +32,8 @@
 //! # Requests
 //!
 //! Any number may stand in any field, and a slice may have any length: what is out of range is refused by the engine
-//! itself, with the first question of document 01 that is answered no, a [`Refusal`]. On a refusal no lent slice is
-//! written. Lengths, ranges and the order of the questions stand in the header.
+//! itself, with the first question that is answered no, a [`Refusal`]. On a refusal no lent slice is written. Lengths,
+//! ranges and the order of the questions stand in the header.
 //!
 //! The mode alone has a type of its own, [`Mode`]. One that comes as a number or by name is made a `Mode` first, and where
 //! it is not listed that is refused, with [`Refusal::Mode`]: the first question of every call that takes a `Mode`, so no

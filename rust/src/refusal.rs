@@ -1,6 +1,6 @@
 use std::fmt;
 
-/// A request that was refused: the first question of document 01 that is answered no, under the header's name and number.
+/// A request that was refused: the first question that is answered no, under the header's name and number.
 #[non_exhaustive] // A later version may have more.
 #[derive(Clone, Copy, Debug, PartialEq, Eq, Hash)]
 pub enum Refusal {

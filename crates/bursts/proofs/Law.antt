@@ -23,7 +23,7 @@ use Rattle.bursts.specs.declared.Owned.{Owned}
 use Rattle.bursts.specs.declared.OwnerRow.{OwnerRow}
 use Rattle.bursts.specs.Burst.{burstAt, burstCount, isCovering, isInside, isOverlap, isApart, askBursts, checkOf}
 use Rattle.bursts.specs.Owner.{noOwner, ownerAt, lookedAt, askOwner, owned, ownerOf, rowAt, askOwners, ownerRow, ownersOf}
-use Rattle.bursts.specs.Law.{Covers, FirstFit, Fit, Overlapping, BurstLaw}
+use Rattle.bursts.specs.Law.{Covers, masked, Masks, FirstFit, Fit, Overlapping, BurstLaw}
 use Rattle.bursts.specs.Model.{listRefusal}
 use Rattle.base.specs.First.{firstOf}
 use Rattle.base.proofs.First.{first-most, first-passes, none-is, none-not}
@@ -310,6 +310,26 @@ module _ (size : ℕ) (zone : Zone) (numbers : List ℕ) where
           (λ r. entry-yes r ∙ rw (le-ltb s end l))
           (λ n e. entry-no e)
 
+      refused-row : (ownersOf size zone slot numbers .refusal ≡ 0 → ⊥) → entry (ownersOf size zone slot numbers .owners) s ≡ noOwner
+      refused-row n = by-row (λ r. absurd (n (ap (λ (o : OwnerRow). o .refusal) (r .is)))) (λ n e. entry-no e)
+
+  -- What is asked, and what is answered, goes by mode, cell and slots: the mask has its own question alone.
+  module _ (m n : ℕ) (both : Masks (zone .mode) m n) where
+    fields-any-mask : (rest : Answer (Unit {0})) → askFields size (masked zone m) rest ≡ askFields size (masked zone n) rest
+    fields-any-mask rest = rw (both .0, both .1)
+
+    check-any-mask : checkOf size (masked zone m) numbers ≡ checkOf size (masked zone n) numbers
+    unfolding checkOf
+    check-any-mask = ap refusalOf (fields-any-mask _)
+
+    owner-any-mask : (slot s : ℕ) → ownerOf size (masked zone m) slot s numbers ≡ ownerOf size (masked zone n) slot s numbers
+    unfolding ownerOf
+    owner-any-mask slot s = ap (owned (ownerAt numbers slot s) (lookedAt numbers slot s)) (fields-any-mask _)
+
+    row-any-mask : (slot : ℕ) → ownersOf size (masked zone m) slot numbers ≡ ownersOf size (masked zone n) slot numbers
+    unfolding ownersOf rowAt
+    row-any-mask slot = ap (ownerRow (rowAt size zone slot numbers)) (fields-any-mask _)
+
   pub burst-law : BurstLaw size zone numbers
   burst-law =
       record {
@@ -333,4 +353,8 @@ module _ (size : ℕ) (zone : Zone) (numbers : List ℕ) where
         row-long = row-long;
         row-owner = λ slot s l h. row-owner slot s h l;
         row-past = λ slot s l h. row-past slot s h l;
+        refused-row = λ slot s n h. refused-row slot s h n;
+        check-any-mask = check-any-mask;
+        owner-any-mask = λ m n slot s both. owner-any-mask m n both slot s;
+        row-any-mask = λ m n slot both. row-any-mask m n both slot;
       }

@@ -13,18 +13,19 @@ use Rattle.bursts.specs.declared.OwnerRow.{OwnerRow}
 use Rattle.base.specs.First.{firstOf}
 use Rattle.bursts.specs.Burst.{burstAt, burstCount, isCovering, askBursts}
 
--- the position of the first that covers a subchannel in a slot; past the last where none does
+-- The position of the first burst that covers a subchannel in a slot; past the last where none does.
 abbrev pub position : (numbers : List ℕ) (slot subchannel : ℕ) → ℕ
 position numbers slot subchannel = firstOf (λ i. isCovering (burstAt numbers i) slot subchannel) (burstCount numbers)
 
--- "64 for none"
+-- No owner is told as "64 for none".
 abbrev pub noOwner : ℕ
 noOwner = 64
 
--- a value where there is an owner, and one where there is none
+-- One value where a subchannel in a slot has an owner, and another where it has none.
 abbrev pub byOwner : (numbers : List ℕ) (slot subchannel some none : ℕ) → ℕ
 byOwner numbers slot subchannel some none = pick (ltb (position numbers slot subchannel) (burstCount numbers)) some none
 
+-- The owner is told by its position in the list.
 unfoldable pub ownerAt : (numbers : List ℕ) (slot subchannel : ℕ) → ℕ
 ownerAt numbers slot subchannel = byOwner numbers slot subchannel (position numbers slot subchannel) noOwner
 
@@ -32,7 +33,7 @@ ownerAt numbers slot subchannel = byOwner numbers slot subchannel (position numb
 unfoldable pub lookedAt : (numbers : List ℕ) (slot subchannel : ℕ) → ℕ
 lookedAt numbers slot subchannel = byOwner numbers slot subchannel (position numbers slot subchannel + 1) (burstCount numbers)
 
--- "Then 4 and 5 where a slot or subchannel is given": the zone's questions, these, the list's.
+-- "Then 4 and 5 where a slot or subchannel is given": they come between the zone's questions and the list's.
 abbrev pub askOwner : {A : Type 0} → (size : ℕ) (zone : Zone) (slot subchannel : ℕ) (numbers : List ℕ) (rest : Answer A) → Answer A
 askOwner size zone slot subchannel numbers rest =
     askFields size zone

@@ -20,46 +20,48 @@ pub struct Burst {
     pub slots: u32,
 }
 
-// The first refusal, or 0; the owner's position in the list, or 64; how many bursts were looked at.
+// What asking for an owner answers: the first refusal, or 0; the owner's position in the list, or 64; how many bursts were looked at.
 pub struct Owned {
     pub refusal: u8,
     pub owner: usize,
     pub looked: usize,
 }
 
-// The first refusal, or 0; for each subchannel of a slot the owner's position, or 64.
+// What asking for a slot's owners answers: the first refusal, or 0; for each subchannel the owner's position, or 64.
 pub struct OwnerRow {
     pub refusal: u8,
     pub owners: [u8; 192],
 }
 
-// The number after the last of so many. 64 bits hold the sum of any two numbers of 32.
+// The number after the last of a run of so many. 64 bits hold the sum of any two numbers of 32.
 fn end_of(first: u32, many: u32) -> usize
     ensures { λ r. ⌜ r ≡ first + many ⌝ }
 {
     first as usize + many as usize
 }
 
-// Is a number one of so many, from the first on?
+// Is a number one of a run of so many, from the first on?
 fn is_of(first: u32, many: u32, number: usize) -> bool
     ensures { λ r. ⌜ r ≡ isOf first many number ⌝ }
 {
     (first as usize <= number) & (number < end_of(first, many))
 }
 
-// Are there so many, at least one and all below the limit?
+// Has a run of so many numbers at least one, and are all below the limit?
 fn is_within(limit: usize, first: u32, many: u32) -> bool
     ensures { λ r. ⌜ r ≡ isWithin limit first many ⌝ }
 {
     (0 < many) & (end_of(first, many) <= limit)
 }
 
+// Does a burst cover a subchannel in a slot?
 fn is_covering(burst: Burst, slot: usize, subchannel: usize) -> bool
     ensures { λ r. ⌜ r ≡ isCovering burst slot subchannel ⌝ }
 {
     is_of(burst.subchannel, burst.subchannels, subchannel) & is_of(burst.slot, burst.slots, slot)
 }
 
+// Is a burst not empty, and wholly in a zone, given the numbers after the zone's last subchannel and last slot?
 fn is_inside(subchannel_end: usize, slot_end: usize, burst: Burst) -> bool
     ensures { λ r. ⌜ r ≡ isInside «subchannel_end» «slot_end» burst ⌝ }
 {
@@ -114,7 +116,8 @@ fn is_apart(
     !overlaps
 }
 
-// The number of the first question put to a list that is answered no, or 0, in a zone whose subchannels and slots end there.
+// The number of the first question put to a list that is answered no, or 0, given
+// the numbers after the zone's last subchannel and last slot.
 // The bursts so far stand in columns.
 fn list_refusal(subchannel_end: usize, slot_end: usize, bursts: &[u32]) -> u8
     requires { ⌜ («subchannel_end» < 65536) × («slot_end» < 65536) ⌝ }
@@ -176,7 +179,7 @@ fn subchannels(size: usize, zone: Zone) -> usize
     })
 }
 
-// Is a list of bursts fit for its zone? The number of the first question that is answered no, or 0.
+// Is a list of bursts fit for its zone? Answers the number of the first question that is answered no, or 0.
 pub fn check(size: usize, zone: Zone, bursts: &[u32]) -> u8
     ensures { λ r. ⌜ r ≡ checkOf size zone (now (bursts .entry)) ⌝ }
 {
@@ -187,6 +190,7 @@ pub fn check(size: usize, zone: Zone, bursts: &[u32]) -> u8
     list_refusal(subchannels(size, zone), zone.slots, bursts)
 }
 
+// A refusal has no owner, and has looked at none.
 fn refused(number: u8) -> Owned
     ensures { λ r. ⌜ r ≡ record { refusal = number; owner = noOwner; looked = 0 } ⌝ }
 {
@@ -240,7 +244,7 @@ pub fn owner(size: usize, zone: Zone, slot: usize, subchannel: usize, bursts: &[
     first_owner(slot, subchannel, bursts)
 }
 
-// So many entries of a row, from the first on, set to a value.
+// Sets so many entries of a row, from the first on, to a value.
 fn mark(row: &mut [u8; 192], first: usize, many: usize, value: u8)
     requires { ⌜ (length (now row) ≡ 192) × (first + many ≤ 192) ⌝ }
     ensures { λ _. ⌜ now (row .exit) ≡ marked first many value (now (row .entry)) ⌝ }
@@ -252,7 +256,7 @@ fn mark(row: &mut [u8; 192], first: usize, many: usize, value: u8)
     }
 }
 
-// A burst marks its subchannels where it covers the slot.
+// Sets the entries of a burst's subchannels to a value, where the burst covers the slot.
 fn mark_burst(row: &mut [u8; 192], burst: Burst, slot: usize, value: u8)
     requires { ⌜ (length (now row) ≡ 192) × (burst .subchannel + burst .subchannels ≤ 192) ⌝ }
     ensures { λ _. ⌜ now (row .exit) ≡ markedBy burst slot value (now (row .entry)) ⌝ }
@@ -283,6 +287,7 @@ fn marked_row(bursts: &[u32], slot: usize) -> [u8; 192]
     row
 }
 
+// The row of a refusal is all 64.
 fn refused_row(number: u8) -> OwnerRow
     ensures { λ r. ⌜ r ≡ record { refusal = number; owners = tabulate 192 (λ s. noOwner) } ⌝ }
 {

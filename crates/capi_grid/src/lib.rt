@@ -2,7 +2,9 @@
 use points::Point;
 ghost use mathlib.Core.Path.{_≡_};
 ghost use Rattle.map.specs.declared.Setup.{Setup};
-ghost use Rattle.grid.specs.Grid.{groundOf, layOf, emptyOf, emptyFirstOf};
+ghost use Rattle.ground.specs.Ground.{groundOf};
+ghost use Rattle.lay.specs.Lay.{layOf};
+ghost use Rattle.empty.specs.Empty.{emptyOf, emptyFirstOf};
 ghost use Rattle.capi_grid.specs.Grid.{pairPoint};
 
 #[no_mangle]
@@ -23,7 +25,7 @@ pub extern "C" fn bp_ground(
     };
     let of = c_boundary::setup(mode, size, cell);
     let mask = mask as usize;
-    let number = grid::ground(of, mask, slot as usize, p, grid);
+    let number = ground::ground(of, mask, slot as usize, p, grid);
     number as u32
 }
 
@@ -42,7 +44,7 @@ pub extern "C" fn bp_lay(
 {
     let of = c_boundary::setup(mode, size, cell);
     let mask = mask as usize;
-    let number = grid::lay(of, mask, slot as usize, subchannel as usize, points, grid);
+    let number = lay::lay(of, mask, slot as usize, subchannel as usize, points, grid);
     number as u32
 }
 
@@ -60,7 +62,7 @@ pub extern "C" fn bp_empty(
 {
     let of = c_boundary::setup(mode, size, cell);
     let mask = mask as usize;
-    let number = grid::empty(of, mask, slot as usize, grid, points);
+    let number = empty::empty(of, mask, slot as usize, grid, points);
     number as u32
 }
 
@@ -79,6 +81,6 @@ pub extern "C" fn bp_empty_first(
 {
     let of = c_boundary::setup(mode, size, cell);
     let mask = mask as usize;
-    let number = grid::empty_first(of, mask, slot as usize, carriers as usize, grid, points);
+    let number = empty::empty_first(of, mask, slot as usize, carriers as usize, grid, points);
     number as u32
 }

@@ -8,10 +8,10 @@ use Rattle.base.specs.Answer.{Answer}
 use Rattle.map.specs.declared.Setup.{Setup}
 use Rattle.map.proofs.Law.{point-small}
 use Rattle.points.specs.declared.Point.{Point}
-use Rattle.grid.specs.declared.Seen.{Seen}
-use Rattle.grid.specs.declared.Seen.the-variants.{Data}
-use Rattle.grid.specs.Grid.{Sight, lookOf, seen}
-use Rattle.grid.proofs.Looked.{look-point}
+use Rattle.look.specs.declared.Seen.{Seen}
+use Rattle.look.specs.declared.Seen.the-variants.{Data}
+use Rattle.look.specs.Look.{Sight, lookOf, seen}
+use Rattle.look.proofs.Looked.{look-point}
 use Rattle.capi_look.specs.Look.{lookOut}
 
 module _ (setup : Setup) (mask symbol : ℕ) (grid : List Float) (carrier : ℤ) (r : Seen) (e : seen r ≡ lookOf setup mask symbol grid carrier) where

@@ -4,7 +4,7 @@ use Prim.Native.Nat.{ℕ}
 use lib.Ieee.{Float}
 use Rattle.base.specs.Answer.{Answer, accepted, refused}
 use Rattle.points.specs.declared.Point.{Point}
-use Rattle.grid.specs.Grid.{Sight, nothing, pilot-with, data-with}
+use Rattle.look.specs.Look.{Sight, nothing, pilot-with, data-with}
 
 -- a point as a pair of floats
 abbrev pub pairOf : (p : Point) → List Float

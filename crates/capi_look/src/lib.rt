@@ -1,8 +1,8 @@
 // The C call that looks at a grid. It returns 0, or document 01's refusal number; on a refusal nothing is written.
-use grid::Seen;
+use look::Seen;
 ghost use mathlib.Core.Path.{_≡_};
 ghost use Rattle.map.specs.declared.Setup.{Setup};
-ghost use Rattle.grid.specs.Grid.{lookOf};
+ghost use Rattle.look.specs.Look.{lookOf};
 ghost use Rattle.capi_look.specs.Look.{lookOut};
 
 #[no_mangle]
@@ -24,7 +24,7 @@ pub extern "C" fn bp_look(
 {
     let of = c_boundary::setup(mode, size, cell);
     let mask = mask as usize;
-    let answer = grid::look(of, mask, symbol as usize, grid, carrier);
+    let answer = look::look(of, mask, symbol as usize, grid, carrier);
     match answer {
         Seen::Nothing => {
             *kind = 0;

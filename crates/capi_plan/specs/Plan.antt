@@ -5,7 +5,7 @@ use lib.Dec.{eqb}
 use Rattle.base.specs.Answer.{Answer, accepted, refused}
 use Rattle.base.specs.Choice.{pick}
 use Rattle.plan.specs.declared.ReadPlan.{ReadPlan}
-use Rattle.plan.specs.Write.{Outcome}
+use Rattle.plan.specs.Write.{AfterWrite}
 use Rattle.plan_numbers.specs.Numbers.{numbersOf}
 
 pub record ReadOut : Type 0 where
@@ -31,5 +31,5 @@ abbrev pub answerOut : (answer : Answer ℕ) (written : ℕ) (dest : List ℕ) �
 answerOut (accepted bytes) written dest = record { refusal = 0; written = bytes; dest = dest }
 answerOut (refused number) written dest = record { refusal = number; written = written; dest = dest }
 
-unfoldable pub writeOut : (outcome : Outcome) (written : ℕ) → WriteOut
-writeOut outcome written = answerOut (outcome .answer) written (outcome .dest)
+unfoldable pub writeOut : (after : AfterWrite) (written : ℕ) → WriteOut
+writeOut after written = answerOut (after .answer) written (after .dest)

@@ -1,10 +1,3 @@
--- Laws of grids.
+-- Laws of where a slot's points stand in its grid, and of an outcome.
 pub mod Slot
 pub mod Outcome
-pub mod Pilots
-pub mod Laid
-pub mod Walked
-pub mod Dropped
-pub mod First
-pub mod Looked
-pub mod Law

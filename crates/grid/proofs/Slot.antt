@@ -29,8 +29,9 @@ use Rattle.map.proofs.Law.{content-placed, locate-column, placed-where-located,
 use Rattle.mask.specs.Mask.{isLit, isUsedLit, litContent}
 use Rattle.mask.proofs.Law.{point-lit}
 use Rattle.lengths.specs.Length.{gridPoints}
-use Rattle.grid.specs.Row.{position, usedPosition, rowOf, columnOf}
+use Rattle.grid.specs.Row.{columnPosition, usedPosition, rowOf, columnOf}
 use Rattle.grid.specs.Grid.{contentAt, standsAt}
+use Rattle.grid.specs.Grid.{PlacedIn}
 use Rattle.points.specs.declared.Point.{Point}
 use Rattle.points.specs.Points.{pointAt, floatsOf}
 use Rattle.points.specs.Model.{puts, turned, Within}
@@ -44,22 +45,22 @@ floats-long setup f = length-floats (gridPoints setup) f ∙ omega arith
 
 -- the row and the column of a position
 module _ (setup : Setup) (row k : ℕ) (h : k < setup .size) where
-  pub row-position : rowOf setup (position setup row k) ≡ row
-  unfolding rowOf position
+  pub row-position : rowOf setup (columnPosition setup row k) ≡ row
+  unfolding rowOf columnPosition
   row-position = digits-div row h
 
-  pub column-position : columnOf setup (position setup row k) ≡ k
-  unfolding columnOf position
+  pub column-position : columnOf setup (columnPosition setup row k) ≡ k
+  unfolding columnOf columnPosition
   column-position = digits-mod row h
 
-  pub position-lt : row < symbols setup → position setup row k < gridPoints setup
-  unfolding position gridPoints
+  pub position-lt : row < symbols setup → columnPosition setup row k < gridPoints setup
+  unfolding columnPosition gridPoints
   position-lt l = digits-lt l h
 
 -- what is worked out is the position, and small
 pub position-is : {setup : Setup} → Valid setup → (row carrier : ℕ) → row < symbols setup → carrier < setup .size → (r k : ℕ) → r ≡ row → k ≡ carrier
-    → (r * setup .size + k ≡ position setup row carrier) × (r * setup .size + k < gridPoints setup)
-unfolding position
+    → (r * setup .size + k ≡ columnPosition setup row carrier) × (r * setup .size + k < gridPoints setup)
+unfolding columnPosition
 position-is {setup} v row carrier l h r k e q = rw (e, q) (refl, position-lt setup row carrier h l)
 
 -- a used number stands in its row
@@ -132,6 +133,17 @@ module _ (setup : Setup) (v : Valid setup) (slot s m : ℕ) (hs : s < subchannel
   unfolding litContent
   lit-holds mask e = rw (stands-lit mask ∙ e) stands-holds
 
+-- where `place` puts a point of the slot is where it stands
+pub placed-there : (setup : Setup) (slot s index symbol column : ℕ) → PlacedIn setup slot s index symbol column → columnPosition setup (symbol % symbols setup) column ≡ standsAt setup slot s index
+unfolding standsAt usedPosition placeAt usedCarrier
+placed-there setup slot s index symbol column e =
+    let q = placing setup slot s index e in
+    let x = spotOf setup slot s index in
+    let o = slot-law (q .is-valid) slot .lies s index (q .subchannel-lt) (q .index-lt) .offset-lt in
+    let y : slot * symbols setup + x .offset ≡ symbol = ap (λ (p : Place). p .symbol) (q .place-is) in
+    let k : carrierOf (band setup) (x .used) ≡ column = one-column (centred (q .is-valid) .0) _ _ (ap (λ (p : Place). p .carrier) (q .place-is)) in
+    rw (← y, ← k, digits-mod slot o)
+
 -- so no two points stand at one place
 pub stands-alone : (setup : Setup) (v : Valid setup) (slot s m s′ m′ : ℕ) → s < subchannels setup → m < 48 → s′ < subchannels setup → m′ < 48
     → standsAt setup slot s m ≡ standsAt setup slot s′ m′ → (s ≡ s′) × (m ≡ m′)
@@ -159,8 +171,8 @@ module _ (setup : Setup) (v : Valid setup) (slot : ℕ) (hs : slot < 512) (n : �
   unfolding columnOf
   column-lt = mod-lt n size-pos
 
-  pub at-place : position setup (rowOf setup n) (columnOf setup n) ≡ n
-  unfolding position rowOf columnOf
+  pub at-place : columnPosition setup (rowOf setup n) (columnOf setup n) ≡ n
+  unfolding columnPosition rowOf columnOf
   at-place = div-add-mod' n (setup .size)
 
   pub point-stands : (mask a s m : ℕ) → contentAt setup mask slot n ≡ point a s m → Stands setup mask slot n s m
@@ -184,7 +196,7 @@ module _ (setup : Setup) (v : Valid setup) (slot : ℕ) (hs : slot < 512) (n : �
 
 -- the carrier of a point, as a number, is where the point stands
 carrier-stands : (setup : Setup) (slot s m : ℕ) → carrierNumber (setup .size) (band setup) (spotOf setup slot s m) ≡ standsAt setup slot s m
-unfolding standsAt usedPosition position
+unfolding standsAt usedPosition columnPosition
 carrier-stands setup slot s m = refl
 
 -- a subchannel's row, started at the place of its first point: what the copies ask of it, and what they come to

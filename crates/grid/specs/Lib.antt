@@ -1,4 +1,2 @@
 pub mod Row
 pub mod Grid
-pub mod Law
-pub mod Model

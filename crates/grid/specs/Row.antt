@@ -7,21 +7,21 @@ use Rattle.map.specs.declared.Setup.{Setup}
 use Rattle.map.specs.Mode.{band}
 
 -- where a column of a row stands in the grid, row r being symbol r of the slot
-unfoldable pub position : (setup : Setup) (row column : ℕ) → ℕ
-position setup row column = row * setup .size + column
+unfoldable pub columnPosition : (setup : Setup) (row column : ℕ) → ℕ
+columnPosition setup row column = row * setup .size + column
 
--- a carrier's
+-- where a carrier of a row stands in the grid
 abbrev pub carrierPosition : (setup : Setup) (row : ℕ) (carrier : ℤ) → ℕ
-carrierPosition setup row carrier = position setup row (onRow (setup .size) carrier)
+carrierPosition setup row carrier = columnPosition setup row (onRow (setup .size) carrier)
 
--- a used number's
+-- where a used number of a row stands in the grid
 unfoldable pub usedPosition : (setup : Setup) (row used : ℕ) → ℕ
-usedPosition setup row used = position setup row (carrierOf (band setup) used)
+usedPosition setup row used = columnPosition setup row (carrierOf (band setup) used)
 
 -- The reverse: the row of point n of the grid.
 unfoldable pub rowOf : (setup : Setup) (n : ℕ) → ℕ
 rowOf setup n = n / setup .size
 
--- The reverse: its column.
+-- The reverse: the column of point n of the grid.
 unfoldable pub columnOf : (setup : Setup) (n : ℕ) → ℕ
 columnOf setup n = n % setup .size

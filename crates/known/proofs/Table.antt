@@ -10,8 +10,8 @@ use Rattle.centre.specs.Centre.{fromDc, inRange, onRow}
 use Rattle.map.specs.Place.{usedCarrier, placeOf, locateOf, placeAt, contentOf, dataAt}
 use Rattle.collision.specs.Collision.{countOf, indexIn, columnIn, ofuscHit, amcHit, answerOf, ofuscOf, amcOf}
 use Rattle.mask.specs.Mask.{isMask}
-use Rattle.plan.specs.Zone.{isZoneMode}
-use Rattle.plan.proofs.Points.{any-first-cell, first-refusals}
+use Rattle.plan.specs.Zone.{isZoneMode, each}
+use Rattle.plan.proofs.Points.{any-first-cell, first-refusals, amc-after-amc, others-after-amc, faults-in-order, mask-outside, masks-refused}
 use Rattle.base.specs.First.{firstOf}
 use Rattle.bursts.specs.Owner.{ownerAt, lookedAt, ownerOf}
 use Rattle.known.specs.Table.{Known, AnyCell, setFrom, groups, indices, bursts, corner, check, owner, owns, refusal}
@@ -57,7 +57,7 @@ unfolding isUpTo mode.width mode.cells mode.subchannels question.isFourSizes que
 zone-owner = (refl, refl, refl, refl, refl, refl)
 
 pub known : Known
-unfolding tabulate skip fromDc placeOf usedCarrier placeAt mode.shapeOf mode.width mode.cells mode.subchannels mode.symbols mode.band mode.spotOf question.isMode question.isFourSizes question.isSize question.isCell question.isSlot question.isSubchannel question.isIndex band.carrierOf bin.binPilotPlace bin.usedOfData dl.groupUsed dl.spotOf group.groupIn group.groupSize group.ofSize group.baseOf group.groupData cluster.unrenumber cluster.firstPilot cluster.secondPilot cluster.clusterPlace ul.spotOf tile.tileOf tile.placeSymbol tile.placeTile tile.placeCarrier ofusc.groupOf ofusc.term ofusc.mask ofusc.dataNumber field.modulus field.coefficient field.product field.remainder field.times field.power field.p1 field.p2 amc.off amc.zeroRule amc.elementOf amc.traffic amc.trafficNumber amc.dataNumber element.add element.times element.sequence
+unfolding each tabulate skip fromDc placeOf usedCarrier placeAt mode.shapeOf mode.width mode.cells mode.subchannels mode.symbols mode.band mode.spotOf question.isMode question.isFourSizes question.isSize question.isCell question.isSlot question.isSubchannel question.isIndex band.carrierOf bin.binPilotPlace bin.usedOfData dl.groupUsed dl.spotOf group.groupIn group.groupSize group.ofSize group.baseOf group.groupData cluster.unrenumber cluster.firstPilot cluster.secondPilot cluster.clusterPlace ul.spotOf tile.tileOf tile.placeSymbol tile.placeTile tile.placeCarrier ofusc.groupOf ofusc.term ofusc.mask ofusc.dataNumber field.modulus field.coefficient field.product field.remainder field.times field.power field.p1 field.p2 amc.off amc.zeroRule amc.elementOf amc.traffic amc.trafficNumber amc.dataNumber element.add element.times element.sequence
 known =
     record {
       line-1 = (refl, refl);
@@ -71,7 +71,12 @@ known =
       line-9 = refl;
       line-10 = any-cell;
       line-11 = (any-first-cell 0 (omega arith), first-refusals .0);
-      line-11-twin = any-first-cell 5 (omega arith);
+      line-11-twin = any-first-cell;
+      line-11-masks = masks-refused;
+      amc-after-amc = λ m n h h′. amc-after-amc m n (h .0) (h .1) (h′ .0) (h′ .1);
+      others-after-amc = λ m h. others-after-amc m (h .0) (h .1);
+      faults-in-order = faults-in-order;
+      mask-outside-mode-0 = mask-outside;
       amc-6x1 = refl;
       amc-2x3 = (refl, refl);
       amc-3x2 = refl;

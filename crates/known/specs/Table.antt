@@ -2,8 +2,9 @@
 use mathlib.Core.Path.{_≡_}
 use mathlib.Core.Bool.{Bool, true, false}
 use mathlib.Core.List.{List, [], _∷_}
-use Prim.Native.Nat.{ℕ, suc, _<_}
+use Prim.Native.Nat.{ℕ, suc, _<_, _≤_}
 use lib.IntN.{ℤ, pos, negℤ}
+use lib.ListN.{length}
 use Rattle.base.specs.Answer.{Answer, accepted, refused}
 use Rattle.base.specs.Tabulate.{tabulate}
 use Rattle.pusc_ul.specs.Tile.{tileOf}
@@ -11,18 +12,22 @@ use Rattle.map.specs.Mode.{setupWith}
 use Rattle.map.specs.Place.{Place, Content, guard, dc, pilot, point, placeOf, locateOf}
 use Rattle.collision.specs.Collision.{ofuscOf, amcOf}
 use Rattle.plan.specs.declared.Zone.{Zone}
+use Rattle.plan.specs.declared.Plan.{Plan}
+use Rattle.plan.specs.Zone.{each}
 use Rattle.plan.specs.Read.{planWith, planOf}
 use Rattle.bursts.specs.declared.Owned.{Owned}
 use Rattle.bursts.specs.Burst.{checkOf}
 use Rattle.bursts.specs.Owner.{ownerOf}
 
--- a carrier below DC
+-- A carrier below DC.
 abbrev pub minus : (k : ℕ) → ℤ
 minus k = negℤ (pos k)
 
+-- A place that is accepted.
 abbrev pub at : (symbol : ℕ) (carrier : ℤ) → Answer Place
 at symbol carrier = accepted (record { symbol = symbol; carrier = carrier })
 
+-- Does a carrier hold data?
 abbrev pub isPoint : (answer : Answer Content) → Bool
 isPoint (accepted guard) = false
 isPoint (accepted dc) = false
@@ -30,48 +35,66 @@ isPoint (accepted pilot) = false
 isPoint (accepted (point slot subchannel index)) = true
 isPoint (refused number) = false
 
--- the tiles of line 9
+-- The tiles of line 9.
 abbrev pub tiles : List ℕ
 tiles = 1 ∷ 83 ∷ 166 ∷ 256 ∷ 324 ∷ 380 ∷ []
 
--- the numbers of the marks that are set, where the first mark has number k
+-- The numbers of the marks that are set, where the first mark has number k.
 unfoldable pub setFrom : (k : ℕ) (hits : List Bool) → List ℕ
 setFrom k [] = []
 setFrom k (true ∷ hits) = k ∷ setFrom (suc k) hits
 setFrom k (false ∷ hits) = setFrom (suc k) hits
 
--- the groups of line 5, and the indices of line 6
+-- The groups of line 5, and the indices of line 6.
 abbrev pub groups : List ℕ
 groups = 0 ∷ 1 ∷ 31 ∷ 32 ∷ []
 
 abbrev pub indices : List ℕ
 indices = 8 ∷ 24 ∷ 32 ∷ []
 
--- the zone of line 11 and its twin
+-- A zone of a plan.
 abbrev pub zone : (mode cell slots mask : ℕ) → Zone
 zone mode cell slots mask = record { mode = mode; cell = cell; slots = slots; mask = mask }
 
--- three bursts: subchannels 0 and 1 in slots 0 to 3, 2 and 3 in all six, 0 and 1 in slots 4 and 5
+-- A plan at 2048 in bytes, where each value of a zone takes one: how many zones, 80 10 (hex) for 2048, then mode, cell, slots and mask of each.
+abbrev pub bytes : (zones : List Zone) → List ℕ
+bytes zones = length zones ∷ 0x80 ∷ 0x10 ∷ each (λ z. z .mode ∷ z .cell ∷ z .slots ∷ z .mask ∷ []) zones
+
+-- What reading answers where a plan at 2048 of these zones is read.
+abbrev pub whole : (zones : List Zone) → Answer Plan
+whole zones = accepted (planWith (length zones) 2048 zones)
+
+-- Zones under cell 0: a first of mode 0 with one slot and every group lit, one of a mode with one slot, and a third.
+abbrev pub third : (before mode slots mask : ℕ) → List Zone
+third before mode slots mask = zone 0 0 1 0x3F ∷ zone before 0 1 0 ∷ zone mode 0 slots mask ∷ []
+
+-- The mode is one of AMC's.
+abbrev pub Amc : (mode : ℕ) → Type 0
+Amc mode = (3 ≤ mode) × (mode ≤ 6)
+
+-- Three bursts: subchannels 0 and 1 in slots 0 to 3, 2 and 3 in all six, 0 and 1 in slots 4 and 5.
 abbrev pub bursts : List ℕ
 bursts = 0 ∷ 2 ∷ 0 ∷ 4 ∷ 2 ∷ 2 ∷ 0 ∷ 6 ∷ 0 ∷ 2 ∷ 4 ∷ 2 ∷ []
 
--- the first of them, and another
+-- The first of the three bursts, and another.
 abbrev pub corner : (subchannel subchannels slot slots : ℕ) → List ℕ
 corner subchannel subchannels slot slots = 0 ∷ 2 ∷ 0 ∷ 4 ∷ subchannel ∷ subchannels ∷ slot ∷ slots ∷ []
 
+-- Every list of bursts here is for one zone: mode 2 at 256, cell 0, six slots.
 abbrev pub check : (numbers : List ℕ) → ℕ
 check numbers = checkOf 256 (zone 2 0 6 0) numbers
 
 abbrev pub owner : (slot subchannel : ℕ) → Owned
 owner slot subchannel = ownerOf 256 (zone 2 0 6 0) slot subchannel bursts
 
+-- What asking for an owner answers: an owner, or 64, and how many were looked at; or a refusal.
 abbrev pub owns : (owner looked : ℕ) → Owned
 owns owner looked = record { refusal = 0; owner = owner; looked = looked }
 
 abbrev pub refusal : (number : ℕ) → Owned
 refusal number = record { refusal = number; owner = 64; looked = 0 }
 
--- what a carrier holds under any PUSC downlink cell
+-- What a carrier holds under any PUSC downlink cell.
 pub record AnyCell (cell : ℕ) : Type 0 where
   pub data-in-symbol-0 : isPoint (locateOf (setupWith 0 2048 cell) 0 (minus 840)) ≡ true
   pub pilot-in-symbol-1 : locateOf (setupWith 0 2048 cell) 1 (minus 840) ≡ accepted pilot
@@ -101,8 +124,20 @@ pub record Known : Type 0 where
   pub line-10 : (cell : ℕ) → cell < 32 → AnyCell cell
   -- The plan 01 80 10 00 00 0C (hex) is read; with 02 for its mode, refusal 14. Document 02, wish 5: it gains 3F (hex) for mode 0, else 00.
   pub line-11 : (planOf (1 ∷ 0x80 ∷ 0x10 ∷ 0 ∷ 0 ∷ 0x0C ∷ 0x3F ∷ []) ≡ accepted (planWith 1 2048 (zone 0 0 12 63 ∷ []))) × (planOf (1 ∷ 0x80 ∷ 0x10 ∷ 2 ∷ 0 ∷ 0x0C ∷ 0 ∷ []) ≡ refused 14)
-  -- Document 02, wish 1: its twin with cell 5, by wish 5 01 80 10 00 05 0C 3F (hex), is read.
-  pub line-11-twin : planOf (1 ∷ 0x80 ∷ 0x10 ∷ 0 ∷ 5 ∷ 0x0C ∷ 0x3F ∷ []) ≡ accepted (planWith 1 2048 (zone 0 5 12 63 ∷ []))
+  -- Document 02, wish 1: its twin with cell 5, by wish 5 01 80 10 00 05 0C 3F (hex), is read; and so is the line with every cell of mode 0, 0 to 31.
+  pub line-11-twin : (cell : ℕ) → cell < 32 → planOf (1 ∷ 0x80 ∷ 0x10 ∷ 0 ∷ cell ∷ 0x0C ∷ 0x3F ∷ []) ≡ accepted (planWith 1 2048 (zone 0 cell 12 63 ∷ []))
+  -- Document 02, wish 5: line 11 with a mask out of its range. 3F (hex) in mode 2 meets 17, not 14; 00 and 40 in mode 0 meet it too; where there are no slots either, 13 comes before 17; without its mask the line ends within a zone.
+  pub line-11-masks : (planOf (1 ∷ 0x80 ∷ 0x10 ∷ 2 ∷ 0 ∷ 0x0C ∷ 0x3F ∷ []) ≡ refused 17) × (planOf (1 ∷ 0x80 ∷ 0x10 ∷ 0 ∷ 0 ∷ 0x0C ∷ 0 ∷ []) ≡ refused 17)
+      × (planOf (1 ∷ 0x80 ∷ 0x10 ∷ 0 ∷ 0 ∷ 0x0C ∷ 0x40 ∷ []) ≡ refused 17) × (planOf (1 ∷ 0x80 ∷ 0x10 ∷ 0 ∷ 0 ∷ 0 ∷ 0 ∷ []) ≡ refused 13)
+      × (planOf (1 ∷ 0x80 ∷ 0x10 ∷ 0 ∷ 0 ∷ 0x0C ∷ []) ≡ refused 10)
+  -- Not starred: plans at 2048, worked out by hand. Document 02, wish 2: after a zone of any of modes 3 to 6 one of any of these is read, and one of mode 0 or 2 meets 14.
+  pub amc-after-amc : (m n : ℕ) → Amc m → Amc n → planOf (bytes (third m n 1 0)) ≡ whole (third m n 1 0)
+  pub others-after-amc : (m : ℕ) → Amc m → (planOf (bytes (third m 0 1 0x3F)) ≡ refused 14) × (planOf (bytes (third m 2 1 0)) ≡ refused 14)
+  -- Document 02, wish 5: of a zone's faults 13 (no slots) is met before 17 (a mask out of its range), and 17 before 14 (its place). First a zone of mode 2 that opens the plan, then one of mode 0 after mode 3, each with one fault less from plan to plan.
+  pub faults-in-order : (planOf (bytes (zone 2 0 0 1 ∷ [])) ≡ refused 13) × (planOf (bytes (zone 2 0 1 1 ∷ [])) ≡ refused 17) × (planOf (bytes (zone 2 0 1 0 ∷ [])) ≡ refused 14)
+      × (planOf (bytes (third 3 0 0 0)) ≡ refused 13) × (planOf (bytes (third 3 0 1 0)) ≡ refused 17) × (planOf (bytes (third 3 0 1 0x3F)) ≡ refused 14)
+  -- A mask other than 0 (here of one byte) meets 17 in every other mode.
+  pub mask-outside-mode-0 : (mode mask : ℕ) → 2 ≤ mode → mode ≤ 6 → 0 < mask → mask < 128 → planOf (bytes (zone 0 0 1 0x3F ∷ zone mode 0 1 mask ∷ [])) ≡ refused 17
   -- Not starred: points of AMC's shapes, worked out by hand from document 02, wish 2. Cell 0 has E = P, so its index 2 is at v = 33 and its index 41 at v = 47; cell 629 has its index 14 under the zero rule, at v = 12.
   pub amc-6x1 : placeOf (setupWith 3 256 0) 0 3 2 ≡ at 0 (pos 93)
   pub amc-2x3 : (placeOf (setupWith 4 256 0) 0 5 2 ≡ at 2 (minus 17)) × (placeOf (setupWith 4 2048 629) 511 95 14 ≡ at 1533 (pos 861))

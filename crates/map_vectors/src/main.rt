@@ -3,7 +3,7 @@
 //     p mode size cell slot subchannel index n    n points from this index on: symbol.carrier
 //     l mode size cell symbol carrier n           n carriers from this one on: guard, dc, pilot
 //                                                 or slot.subchannel.index
-//     m mode size cell symbol carrier n           the same, from minus this carrier on
+//     m mode size cell symbol carrier n           n carriers from minus this one on, as with l
 //
 // Each line is written back with its answers behind a colon. The input and what must come out are
 // made by tests/vectors.py.
@@ -11,6 +11,7 @@ use map::Located;
 use map::Placed;
 use map::Setup;
 use vector_lines::fields;
+use vector_lines::line_end;
 use vector_lines::print;
 use vector_lines::print_number;
 ghost use Prim.Native.Nat.{_<_};
@@ -34,7 +35,7 @@ fn answer_line(input: &[u8], at: usize) -> usize
     requires { ⌜ at < length (now input) ⌝ }
     ensures { λ r. ⌜ at < r ⌝ }
 {
-    let end = text::line_end(input, at);
+    let end = line_end(input, at);
     print(&input[at..end]);
     print(b":");
     answer(input[at], fields(input, at + 1));
@@ -80,7 +81,7 @@ fn points(setup: Setup, slot: usize, subchannel: usize, first: usize, n: usize) 
     }
 }
 
-// n carriers from the first on, as far as 32 bits hold them.
+// Answers n carriers from the first on, as far as 32 bits hold them.
 fn carriers(setup: Setup, symbol: usize, first: i32, n: usize) {
     let mut carrier = first;
     let mut i = 0;

@@ -5,10 +5,10 @@ use Prim.Native.Nat.{ℕ, _+_, _*_, _<_, _≤_}
 use native.Mathlib.Omega.{arith}
 use lib.Arith.{digits-div}
 use lib.IntN.{ℤ}
-use lib.Dec.{eqb}
-use borrow.Author.Tests.{eqb-true, eq-eqb, ne-eqb}
+use lib.Dec.{eqb, ltb}
+use borrow.Author.Tests.{eqb-true, eq-eqb, ne-eqb, ltb-true, ltb-false}
 use Rattle.base.specs.Choice.{isUpTo}
-use Rattle.base.specs.Rank.{rank}
+use Rattle.base.specs.Rank.{rank, RankLaw}
 use Rattle.base.proofs.Test.{cases, up-to}
 use Rattle.base.proofs.Rank.{rank-law, rank-most, rank-all, rank-as}
 use Rattle.carriers.specs.Band.{carrierOf, usedOf}
@@ -29,7 +29,7 @@ use Rattle.map.proofs.Choice.{amc-tests}
 use Rattle.map.proofs.ByMode.{few}
 use Rattle.map.proofs.Slot.{slot-law, band-law, centred}
 use Rattle.map.proofs.Law.{placing}
-use Rattle.mask.specs.Mask.{isMask, isLit, isUsedLit, litContent, litSubchannels, allLit}
+use Rattle.mask.specs.Mask.{isMask, isLit, isUsedLit, litContent, litSubchannels, litRank, ofLitRank, allLit}
 use Rattle.mask.specs.Law.{MaskLaw}
 
 -- A POINT'S USED NUMBER IS LIT EXACTLY WHEN ITS SUBCHANNEL IS, by its spot.
@@ -89,12 +89,35 @@ all-passes mode = cases (eqb mode 0) (λ e. rw e) (λ e. rw e)
 all-ranks : (setup : Setup) (n : ℕ) → rank (isLit setup (allLit (setup .mode))) n ≡ n
 all-ranks setup n = rank-all (isLit setup (allLit (setup .mode))) n (λ s h. all-lit setup s)
 
+-- the lit subchannels by their ranks
+module _ (setup : Setup) (mask : ℕ) where
+  ranks : RankLaw (isLit setup mask) (subchannels setup)
+  ranks = rank-law (isLit setup mask) (subchannels setup)
+
+  -- of two ranks the lower has the lower subchannel: from any other order of the two subchannels the ranks had another
+  of-rank-rises : (q r : ℕ) → q < r → r < litSubchannels setup mask → ofLitRank setup mask q < ofLitRank setup mask r
+  of-rank-rises q r h l =
+      let low = ofLitRank setup mask q in
+      let high = ofLitRank setup mask r in
+      let ranked = ranks .forth q (omega arith) in
+      let ranked′ = ranks .forth r l in
+      cases (ltb low high)
+      (ltb-true low high)
+      (λ f. cases (ltb high low)
+      (λ t. absurd (omega (arith, ranked, ranked′, rank-law (isLit setup mask) low .rank-lt high (ltb-true high low t) (ranks .unrank-passes r l))))
+      (λ g. let same : low ≡ high = omega (arith, ltb-false low high f, ltb-false high low g) in absurd (omega (arith, ranked, ranked′, ap (litRank setup mask) same))))
+
 pub mask-law : MaskLaw
 mask-law =
     record {
       data-lit = data-lit;
       cluster-lit = cluster-lit;
       ranks = λ setup mask. rank-law (isLit setup mask);
+      of-rank-lt = λ setup mask. ranks setup mask .unrank-lt;
+      of-rank-lit = λ setup mask. ranks setup mask .unrank-passes;
+      of-rank-rises = of-rank-rises;
+      rank-of-rank = λ setup mask. ranks setup mask .forth;
+      of-rank-back = λ setup mask. ranks setup mask .back;
       all-passes = all-passes;
       all-lit = all-lit;
       all-used-lit = all-used-lit;

@@ -10,7 +10,7 @@ use Rattle.map.specs.declared.Setup.{Setup}
 use Rattle.map.specs.Mode.{setupWith, subchannels, band}
 use Rattle.map.specs.Place.{usedCarrier, contentOf}
 use Rattle.map.specs.Law.{PlacedAt}
-use Rattle.mask.specs.Mask.{isMask, isLit, isUsedLit, litContent, litSubchannels, litRank, allLit}
+use Rattle.mask.specs.Mask.{isMask, isLit, isUsedLit, litContent, litSubchannels, litRank, ofLitRank, allLit}
 
 pub record MaskLaw : Type 0 where
   -- A data carrier is lit exactly when its subchannel is.
@@ -21,6 +21,12 @@ pub record MaskLaw : Type 0 where
       → isUsedLit (setupWith 0 2048 cell) mask (p .0 * 14 + place) ≡ hasGroup mask (groupIn clusterStarts (renumber cell p .0))
   -- The lit ones among the first n subchannels, and the ranks below their count, are the same, one for one; so with one n after another in rising order. Of all subchannels the count is `litSubchannels`.
   pub ranks : (setup : Setup) (mask n : ℕ) → RankLaw (isLit setup mask) n
+  -- So `ofLitRank` gives for each rank below the count a subchannel of the mode that is lit, and higher ones for higher ranks; and it and `litRank` undo each other.
+  pub of-rank-lt : (setup : Setup) (mask r : ℕ) → r < litSubchannels setup mask → ofLitRank setup mask r < subchannels setup
+  pub of-rank-lit : (setup : Setup) (mask r : ℕ) → r < litSubchannels setup mask → isLit setup mask (ofLitRank setup mask r) ≡ true
+  pub of-rank-rises : (setup : Setup) (mask q r : ℕ) → q < r → r < litSubchannels setup mask → ofLitRank setup mask q < ofLitRank setup mask r
+  pub rank-of-rank : (setup : Setup) (mask r : ℕ) → r < litSubchannels setup mask → litRank setup mask (ofLitRank setup mask r) ≡ r
+  pub of-rank-back : (setup : Setup) (mask s : ℕ) → s < subchannels setup → isLit setup mask s ≡ true → ofLitRank setup mask (litRank setup mask s) ≡ s
   -- The mask that lights all is a mask, and lights all; so each column holds what it did before there were masks, and a subchannel's rank is its number.
   pub all-passes : (mode : ℕ) → isMask mode (allLit mode) ≡ true
   pub all-lit : (setup : Setup) (s : ℕ) → isLit setup (allLit (setup .mode)) s ≡ true

@@ -1,4 +1,4 @@
--- Document 02, wish 5: a three-sector site lights a part of the six major groups. A mask, bit g for group g.
+-- Document 02, wish 5: a three-sector site lights a part of the six major groups. A mask has bit g for group g.
 use mathlib.Core.Bool.{Bool, true}
 use Prim.Native.Nat.{ℕ}
 use lib.Dec.{eqb}
@@ -38,6 +38,6 @@ litRank setup mask subchannel = rank (isLit setup mask) subchannel
 abbrev pub ofLitRank : (setup : Setup) (mask r : ℕ) → ℕ
 ofLitRank setup mask r = unrank (isLit setup mask) (subchannels setup) r
 
--- the mask that lights all
+-- The mask that lights all.
 unfoldable pub allLit : (mode : ℕ) → ℕ
 allLit mode = pick (eqb mode 0) 63 0

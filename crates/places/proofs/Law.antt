@@ -2,10 +2,7 @@
 use mathlib.Core.Path.{_≡_, refl, sym, ap, _∙_}
 use mathlib.Core.List.{List}
 use mathlib.Core.Logic.{_⊎_, ⊎-elim}
-use Prim.Native.Nat.{ℕ, _+_, _*_, _/_, _%_, _<_}
-use native.Mathlib.Nat.{add-assoc, add-mul, mul-assoc, mul-right-comm, div-add-mod', mul-add-mod-self-right}
-use native.Mathlib.Omega.{arith}
-use lib.Arith.{digits-mod}
+use Prim.Native.Nat.{ℕ, _%_, _<_}
 use lib.ListN.{length}
 use lib.Ieee.{Float}
 use borrow.Author.Tests.{lt-ltb, ltb-true, eq-eqb}
@@ -14,23 +11,23 @@ use Rattle.base.specs.Steps.{entry}
 use Rattle.base.proofs.Chain.{numbered, no-question, question, number-yes, number-is}
 use Rattle.base.specs.Tabulate.{tabulate}
 use Rattle.base.proofs.Tabulate.{length-tabulate, getD-tabulate, tabulated, entry-of}
-use Rattle.carriers.specs.Band.{carrierOf}
 use Rattle.carriers.specs.Bin.{binPilotPlace, usedOfData}
 use Rattle.map.specs.declared.Setup.{Setup}
-use Rattle.map.specs.Mode.{subchannels, symbols, band, spotOf}
+use Rattle.map.specs.Mode.{subchannels, symbols, spotOf}
 use Rattle.map.specs.Question.{isMode, isSize, isCell, isSlot, isSubchannel, isIndex}
-use Rattle.map.specs.Place.{Place, usedCarrier, placeAt, placeOf}
+use Rattle.map.specs.Place.{placeAt, placeOf}
 use Rattle.map.specs.Model.{Valid}
 use Rattle.map.proofs.Accept.{valid}
-use Rattle.map.proofs.Slot.{slot-law, centred}
+use Rattle.map.proofs.Alike.{Alike, alike-mod-3, alike-by-threes}
 use Rattle.map.proofs.Law.{placing}
 use Rattle.points.specs.Points.{pointAt}
 use Rattle.lengths.specs.Length.{gridPoints}
-use Rattle.grid.specs.Row.{position, usedPosition, carrierPosition}
-use Rattle.grid.specs.Grid.{relaid, standsAt, layOf}
-use Rattle.grid.specs.Law.{Leaves}
-use Rattle.grid.proofs.Slot.{stands-lt, lit-holds}
-use Rattle.grid.proofs.Law.{lay-fits, lay-at}
+use Rattle.grid.specs.Row.{columnPosition}
+use Rattle.grid.specs.Grid.{standsAt}
+use Rattle.lay.specs.Lay.{relaid, layOf}
+use Rattle.grid.specs.Grid.{Leaves, PlacedIn}
+use Rattle.grid.proofs.Slot.{stands-lt, lit-holds, placed-there}
+use Rattle.lay.proofs.Left.{lay-fits, lay-at}
 use Rattle.places.specs.declared.PlaceRow.{PlaceRow}
 use Rattle.places.specs.Places.{askPlaces, placeRow, placesOf}
 use Rattle.places.specs.Law.{PlaceLaw}
@@ -48,18 +45,6 @@ long-of place (refused k) = length-tabulate 48 _
 same-row : (f g : ℕ → ℕ) → ((m : ℕ) → f m ≡ g m) → (answer : Answer (Unit {0})) → placeRow f answer ≡ placeRow g answer
 same-row f g e (accepted tt) = ap (λ (x : List ℕ). record { refusal = 0; places = x }) (tabulated 0 (tabulate 48 f) 48 g (length-tabulate 48 f) (λ m h. getD-tabulate 48 f m 0 h ∙ e m))
 same-row f g e (refused k) = refl
-
--- the number of a symbol mod 3, by its slot mod 3, and where a slot has three or six
-mod-3 : (a k o : ℕ) → (a * k + o) % 3 ≡ (a % 3 * k + o) % 3
-mod-3 a k o = ap (λ (x : ℕ). (x * k + o) % 3) (sym (div-add-mod' a 3)) ∙ ap (λ (x : ℕ). x % 3) parts ∙ mul-add-mod-self-right (a / 3 * k) 3 (a % 3 * k + o)
-  where
-    parts : (a / 3 * 3 + a % 3) * k + o ≡ a / 3 * k * 3 + (a % 3 * k + o)
-    parts = rw (add-mul (a / 3 * 3) (a % 3) k, mul-right-comm (a / 3) 3 k) (add-assoc _ _ _)
-
-by-threes : (a k o : ℕ) → k % 3 ≡ 0 → (a * k + o) % 3 ≡ o % 3
-by-threes a k o z =
-    let threes : k ≡ k / 3 * 3 = omega arith in
-    ap (λ (x : ℕ). (a * x + o) % 3) threes ∙ ap (λ (x : ℕ). (x + o) % 3) (sym (mul-assoc a (k / 3) 3)) ∙ mul-add-mod-self-right (a * (k / 3)) 3 o
 
 module _ (setup : Setup) (slot s : ℕ) where
   abbrev asked : Answer (Unit {0})
@@ -95,21 +80,16 @@ module _ (setup : Setup) (slot s : ℕ) where
     unfolding placesOf
     same-places e = ap (placeRow (standsAt setup slot s)) same-asked ∙ same-row (standsAt setup slot s) (standsAt setup other s) e (askPlaces setup other s (accepted tt))
 
-    by-pilots : ((o : ℕ) → (slot * symbols setup + o) % 3 ≡ (other * symbols setup + o) % 3) → placesOf setup slot s ≡ placesOf setup other s
+    by-pilots : Alike setup slot other → placesOf setup slot s ≡ placesOf setup other s
     unfolding standsAt spotOf usedOfData binPilotPlace
     by-pilots e = same-places (λ m. simp e)
-
-    same-mod-3 : slot % 3 ≡ other % 3 → placesOf setup slot s ≡ placesOf setup other s
-    same-mod-3 e = by-pilots (λ o. mod-3 slot (symbols setup) o ∙ ap (λ (r : ℕ). (r * symbols setup + o) % 3) e ∙ sym (mod-3 other (symbols setup) o))
 
     in-every-slot : setup .mode ≡ 0 → (m : ℕ) → standsAt setup slot s m ≡ standsAt setup other s m
     unfolding standsAt spotOf
     in-every-slot z m = rw z
 
     same-always : (setup .mode ≡ 0) ⊎ (symbols setup % 3 ≡ 0) → placesOf setup slot s ≡ placesOf setup other s
-    same-always h =
-        ⊎-elim (λ z. same-places (in-every-slot z))
-        (λ z. by-pilots (λ o. by-threes slot (symbols setup) o z ∙ sym (by-threes other (symbols setup) o z))) h
+    same-always h = ⊎-elim (λ z. same-places (in-every-slot z)) (λ z. by-pilots (alike-by-threes setup slot other z)) h
 
   module _ (v : Valid setup) (hs : slot < 512) (l : s < subchannels setup) where
     at : (index : ℕ) → index < 48 → entry row index ≡ standsAt setup slot s index
@@ -126,14 +106,10 @@ module _ (setup : Setup) (slot s : ℕ) where
       let l = ltb-true s (subchannels setup) (number-yes (isSubchannel setup s) 4 _ (q₄ .1) .0) in
       rw (at v (ltb-true slot 512 (q₄ .0)) l index h) (stands-lt setup v slot s index l h)
 
-  is-placed : (index : ℕ) (place : Place) → placeOf setup slot s index ≡ accepted place → entry row index ≡ carrierPosition setup (place .symbol % symbols setup) (place .carrier)
-  unfolding standsAt usedPosition placeAt usedCarrier
-  is-placed index place e =
+  is-placed : (index symbol column : ℕ) → PlacedIn setup slot s index symbol column → entry row index ≡ columnPosition setup (symbol % symbols setup) column
+  is-placed index symbol column e =
       let q = placing setup slot s index e in
-      let x = spotOf setup slot s index in
-      let o = slot-law (q .is-valid) slot .lies s index (q .subchannel-lt) (q .index-lt) .offset-lt in
-      rw (← q .place-is, digits-mod slot o, centred (q .is-valid) .0 .back (carrierOf (band setup) (x .used)))
-      (at (q .is-valid) (q .slot-lt) (q .subchannel-lt) index (q .index-lt))
+      at (q .is-valid) (q .slot-lt) (q .subchannel-lt) index (q .index-lt) ∙ sym (placed-there setup slot s index symbol column e)
 
   laid-there : (mask : ℕ) (points grid next : List Float) → Leaves (layOf setup mask slot s points grid) next
       → (index : ℕ) → index < 48 → pointAt next (entry row index) ≡ pointAt points index
@@ -152,7 +128,7 @@ place-law setup slot s =
       is-placed = is-placed setup slot s;
       in-grid = in-grid setup slot s;
       refused-alike = refused-alike setup slot s;
-      same-mod-3 = same-mod-3 setup slot s;
+      same-mod-3 = λ other hs ho e. by-pilots setup slot s other hs ho (alike-mod-3 setup slot other e);
       same-always = same-always setup slot s;
       laid-there = laid-there setup slot s;
     }

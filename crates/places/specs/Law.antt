@@ -5,25 +5,25 @@ use mathlib.Core.Logic.{_⊎_}
 use Prim.Native.Nat.{ℕ, _%_, _<_}
 use lib.ListN.{length}
 use lib.Ieee.{Float}
-use Rattle.base.specs.Answer.{accepted, refusalOf}
+use Rattle.base.specs.Answer.{refusalOf}
 use Rattle.base.specs.Steps.{entry}
 use Rattle.map.specs.declared.Setup.{Setup}
 use Rattle.map.specs.Mode.{symbols}
-use Rattle.map.specs.Place.{Place, placeOf}
+use Rattle.map.specs.Place.{placeOf}
 use Rattle.points.specs.Points.{pointAt}
 use Rattle.lengths.specs.Length.{gridPoints}
-use Rattle.grid.specs.Row.{carrierPosition}
-use Rattle.grid.specs.Grid.{layOf}
-use Rattle.grid.specs.Law.{Leaves}
+use Rattle.grid.specs.Row.{columnPosition}
+use Rattle.lay.specs.Lay.{layOf}
+use Rattle.grid.specs.Grid.{Leaves, PlacedIn}
 use Rattle.places.specs.Places.{placesOf}
 
 pub record PlaceLaw (setup : Setup) (slot subchannel : ℕ) : Type 0 where
   -- A row has an entry for each index, whatever is asked.
   pub row-long : length (placesOf setup slot subchannel .places) ≡ 48
-  -- Each entry is where `place` puts that index: its carrier, in the symbol's row of the grid.
-  pub is-placed : (index : ℕ) (place : Place) → placeOf setup slot subchannel index ≡ accepted place
-      → entry (placesOf setup slot subchannel .places) index ≡ carrierPosition setup (place .symbol % symbols setup) (place .carrier)
-  -- It lies in the grid.
+  -- Each entry is where `place` puts that index: the column of its carrier, in the symbol's row of the grid.
+  pub is-placed : (index symbol column : ℕ) → PlacedIn setup slot subchannel index symbol column
+      → entry (placesOf setup slot subchannel .places) index ≡ columnPosition setup (symbol % symbols setup) column
+  -- Each entry of an accepted row lies in the grid.
   pub in-grid : (index : ℕ) → placesOf setup slot subchannel .refusal ≡ 0 → index < 48 → entry (placesOf setup slot subchannel .places) index < gridPoints setup
   -- The row is refused where `place` is, with the same number.
   pub refused-alike : (index : ℕ) → index < 48 → placesOf setup slot subchannel .refusal ≡ refusalOf (placeOf setup slot subchannel index)

@@ -10,7 +10,7 @@ use Rattle.base.specs.Answer.{accepted, refused}
 use Rattle.text.specs.Text.{put, Put}
 use Rattle.text.proofs.Laws.{take-put}
 use Rattle.value.specs.Value.{encode}
-use Rattle.value.proofs.Laws.{size-1, size-two}
+use Rattle.value.proofs.Laws.{bytes-1, bytes-two}
 use Rattle.plan.specs.declared.Zone.{Zone}
 use Rattle.plan.specs.declared.Plan.{Plan}
 use Rattle.plan.specs.declared.Before.{Before}
@@ -30,10 +30,10 @@ pub record Six (z : Zone) : Type 0 where
 pub six : (z : Zone) → Small z → Six z
 six z s =
     record {
-      mode-one = omega (arith, size-1 (z .mode) (omega arith));
-      cell-two = size-two (z .cell) (omega arith);
-      slots-two = size-two (z .slots) (omega arith);
-      mask-one = omega (arith, size-1 (z .mask) (omega arith));
+      mode-one = omega (arith, bytes-1 (z .mode) (omega arith));
+      cell-two = bytes-two (z .cell) (omega arith);
+      slots-two = bytes-two (z .slots) (omega arith);
+      mask-one = omega (arith, bytes-1 (z .mask) (omega arith));
     }
 
 -- So the zones of a fit plan take 48, and the plan 51.
@@ -47,7 +47,7 @@ unfolding planBytes
 plan-51 p f =
     let c = count-most (p .count) (f .count-is) in
     let z = size-small (p .size) (f .size-is) in
-    simp length-append (omega (arith, zones-most (f .judged), length-take (p .count) (p .zones), size-1 (p .count) (omega arith), size-two (p .size) (omega arith)))
+    simp length-append (omega (arith, zones-most (f .judged), length-take (p .count) (p .zones), bytes-1 (p .count) (omega arith), bytes-two (p .size) (omega arith)))
 
 -- the answers of writing: a plan's bytes are made first, then copied
 module _ (p : Plan) (d : List ℕ) {number : ℕ} (e : number ≡ planRefusal p) where

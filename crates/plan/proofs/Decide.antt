@@ -11,7 +11,7 @@ use Rattle.base.specs.Answer.{Answer, accepted, refused, ask}
 use Rattle.base.proofs.Test.{cases}
 use Rattle.map.specs.Question.{isFourSizes}
 use Rattle.value.specs.Value.{Value, valueOf}
-use Rattle.value.proofs.Laws.{size-1, size-within, again, first-decide, at-most-three}
+use Rattle.value.proofs.Laws.{bytes-1, bytes-within, again, first-decide, at-most-three}
 use Rattle.plan.specs.declared.Zone.{Zone}
 use Rattle.plan.specs.declared.Before.{Before}
 use Rattle.plan.specs.declared.Before.the-variants.{First, After}
@@ -30,7 +30,7 @@ drop-take (suc n) (suc j) m [] e = sym (take-nil m)
 drop-take (suc n) (suc j) m (x ∷ s) e = drop-take n j m s (omega arith)
 
 -- after a value, so many bytes more as it needs
-then-more : {A : Type 0} (n : ℕ) (more : ℕ → ℕ) (next : ℕ → List ℕ → Answer A) → 3 ≤ n → ((s : List ℕ) (v : Value) → valueOf s ≡ accepted v → v .size + more (v .value) ≤ n)
+then-more : {A : Type 0} (n : ℕ) (more : ℕ → ℕ) (next : ℕ → List ℕ → Answer A) → 3 ≤ n → ((s : List ℕ) (v : Value) → valueOf s ≡ accepted v → v .bytes + more (v .value) ≤ n)
     → ((value : ℕ) → Decided (more value) (next value)) → Decided n (λ s. readValue s next)
 then-more n more next three most d j h s = ap (λ v. handOn v (take j s) next) (first-decide 3 j s (omega arith)) ∙ by (valueOf s) refl
   where
@@ -38,7 +38,7 @@ then-more n more next three most d j h s = ap (λ v. handOn v (take j s) next) (
     by (refused number) q = refl
     by (accepted v) q =
         let few = most s v q in
-        ap (next (v .value)) (drop-take (v .size) j (j - v .size) s (omega arith)) ∙ d (v .value) (j - v .size) (omega arith) (drop (v .size) s)
+        ap (next (v .value)) (drop-take (v .bytes) j (j - v .bytes) s (omega arith)) ∙ d (v .value) (j - v .bytes) (omega arith) (drop (v .bytes) s)
 
 value-decided : {A : Type 0} (k : ℕ) (next : ℕ → List ℕ → Answer A) → ((value : ℕ) → Decided k (next value)) → Decided (3 + k) (λ s. readValue s next)
 value-decided k next d = then-more (3 + k) (λ value. k) next (omega arith) (λ s v q. omega (arith, at-most-three s q)) d
@@ -69,8 +69,8 @@ finish-decided count size zones (suc j) h [] = refl
 finish-decided count size zones (suc j) h (x ∷ s) = rw (ne-eqb (length (x ∷ take j s)) 0 (λ z. omega arith), ne-eqb (length (x ∷ s)) 0 (λ z. omega arith))
 
 -- A count takes one byte, the size and four values of each of eight zones 99 at most, so 100 bytes and one more decide; a count above 8 has no zone read.
-count-byte : (s : List ℕ) {v : Value} → valueOf s ≡ accepted v → v .value ≤ 8 → v .size ≡ 1
-count-byte s {v} q h = omega (arith, size-1 (v .value) (omega arith), size-within 3 s q, simp (length-append, length-drop) at (again 3 s q .length-is))
+count-byte : (s : List ℕ) {v : Value} → valueOf s ≡ accepted v → v .value ≤ 8 → v .bytes ≡ 1
+count-byte s {v} q h = omega (arith, bytes-1 (v .value) (omega arith), bytes-within 3 s q, simp (length-append, length-drop) at (again 3 s q .length-is))
 
 abbrev afterCount : (count : ℕ) → ℕ
 afterCount count = pick (isCount count) 100 0
@@ -88,7 +88,7 @@ pub first-bytes : (k : ℕ) (s : List ℕ) → 101 ≤ k → planOf (take k s) �
 unfolding planOf
 first-bytes k s h = then-more 101 afterCount _ (omega arith) most count-decided k h s
   where
-    most : (s₁ : List ℕ) (v : Value) → valueOf s₁ ≡ accepted v → v .size + afterCount (v .value) ≤ 101
+    most : (s₁ : List ℕ) (v : Value) → valueOf s₁ ≡ accepted v → v .bytes + afterCount (v .value) ≤ 101
     most s₁ v q =
         cases (isCount (v .value))
         (λ e. rw e (omega (arith, count-byte s₁ q (count-most (v .value) e))))

@@ -1,16 +1,17 @@
 -- The plans that documents 01 and 02 name, and others that show which question comes first.
 use mathlib.Core.Path.{_≡_, refl}
 use mathlib.Core.List.{[], _∷_}
-use Prim.Native.Nat.{ℕ, _<_}
+use Prim.Native.Nat.{ℕ, zero, suc, _<_, _≤_}
 use native.Mathlib.Omega.{arith}
-use borrow.Author.Tests.{lt-ltb}
+use borrow.Author.Tests.{lt-ltb, ne-eqb}
 use Rattle.base.specs.Choice.{isUpTo}
-use Rattle.base.specs.Answer.{accepted, refused}
+use Rattle.base.specs.Answer.{Answer, accepted, refused}
 use Rattle.map.specs.Question.{isSize, isCell, isFourSizes}
 use Rattle.map.specs.Mode.{cells, width}
 use Rattle.mask.specs.Mask.{isMask}
 use Rattle.value.specs.Value.{valueIn}
 use Rattle.plan.specs.declared.Zone.{Zone}
+use Rattle.plan.specs.declared.Plan.{Plan}
 use Rattle.plan.specs.Zone.{isZoneMode, isOpening, isAmc, isFollowing, inPlaces}
 use Rattle.plan.specs.Read.{planWith, planOf, readZones}
 
@@ -38,6 +39,56 @@ pub first-refusals :
     × (planOf (1 ∷ 0x80 ∷ 0x08 ∷ 1 ∷ 0 ∷ 1 ∷ []) ≡ refused 10)
 unfolding planOf readZones valueIn isZoneMode isUpTo isMask isOpening isAmc isFollowing isSize isCell isFourSizes cells width
 first-refusals = (refl, refl, refl, refl, refl, refl, refl, refl, refl)
+
+-- a mode from 2 to 6, and one of AMC's, by cases
+by-mode : (P : ℕ → Type 0) → P 2 → P 3 → P 4 → P 5 → P 6 → (mode : ℕ) → 2 ≤ mode → mode ≤ 6 → P mode
+by-mode P a b c d e zero h l = absurd (omega arith)
+by-mode P a b c d e (suc zero) h l = absurd (omega arith)
+by-mode P a b c d e (suc (suc zero)) h l = a
+by-mode P a b c d e (suc (suc (suc zero))) h l = b
+by-mode P a b c d e (suc (suc (suc (suc zero)))) h l = c
+by-mode P a b c d e (suc (suc (suc (suc (suc zero))))) h l = d
+by-mode P a b c d e (suc (suc (suc (suc (suc (suc zero)))))) h l = e
+by-mode P a b c d e (suc (suc (suc (suc (suc (suc (suc mode))))))) h l = absurd (omega arith)
+
+by-amc : (P : ℕ → Type 0) → P 3 → P 4 → P 5 → P 6 → (mode : ℕ) → 3 ≤ mode → mode ≤ 6 → P mode
+by-amc P b c d e mode h l = by-mode (λ m. 3 ≤ m → P m) (λ h. absurd (omega arith)) (λ h. b) (λ h. c) (λ h. d) (λ h. e) mode (omega arith) l h
+
+-- a plan at 2048 of three zones under cell 0: one of mode 0, one of another mode, and a third
+abbrev third : (before mode slots mask : ℕ) → Answer Plan
+third before mode slots mask = planOf (3 ∷ 0x80 ∷ 0x10 ∷ 0 ∷ 0 ∷ 1 ∷ 0x3F ∷ before ∷ 0 ∷ 1 ∷ 0 ∷ mode ∷ 0 ∷ slots ∷ mask ∷ [])
+
+-- Document 02, wish 2: after one of AMC's modes any of these is read,
+pub amc-after-amc : (m n : ℕ) → 3 ≤ m → m ≤ 6 → 3 ≤ n → n ≤ 6 → third m n 1 0 ≡ accepted (planWith 3 2048 (zone 0 0 1 63 ∷ zone m 0 1 0 ∷ zone n 0 1 0 ∷ []))
+unfolding planOf readZones valueIn isZoneMode isUpTo isMask isOpening isAmc isFollowing inPlaces isSize isCell isFourSizes cells width
+amc-after-amc m n h l =
+    by-amc (λ m. (n : ℕ) → 3 ≤ n → n ≤ 6 → third m n 1 0 ≡ accepted (planWith 3 2048 (zone 0 0 1 63 ∷ zone m 0 1 0 ∷ zone n 0 1 0 ∷ [])))
+    (by-amc _ refl refl refl refl) (by-amc _ refl refl refl refl) (by-amc _ refl refl refl refl) (by-amc _ refl refl refl refl) m h l n
+
+-- and modes 0 and 2 meet 14.
+pub others-after-amc : (m : ℕ) → 3 ≤ m → m ≤ 6 → (third m 0 1 63 ≡ refused 14) × (third m 2 1 0 ≡ refused 14)
+unfolding planOf readZones valueIn isZoneMode isUpTo isMask isOpening isAmc isFollowing isSize isCell isFourSizes cells width
+others-after-amc = by-amc (λ m. (third m 0 1 63 ≡ refused 14) × (third m 2 1 0 ≡ refused 14)) (refl, refl) (refl, refl) (refl, refl) (refl, refl)
+
+-- Document 02, wish 5: 17 after 13. A zone out of place, of mode 2 that opens the plan and of mode 0 after AMC, with no slots or one, and with a mask out of its range or in it.
+pub faults-in-order :
+    (planOf (1 ∷ 0x80 ∷ 0x10 ∷ 2 ∷ 0 ∷ 0 ∷ 1 ∷ []) ≡ refused 13)
+    × (planOf (1 ∷ 0x80 ∷ 0x10 ∷ 2 ∷ 0 ∷ 1 ∷ 1 ∷ []) ≡ refused 17)
+    × (planOf (1 ∷ 0x80 ∷ 0x10 ∷ 2 ∷ 0 ∷ 1 ∷ 0 ∷ []) ≡ refused 14)
+    × (third 3 0 0 0 ≡ refused 13)
+    × (third 3 0 1 0 ≡ refused 17)
+    × (third 3 0 1 63 ≡ refused 14)
+unfolding planOf readZones valueIn isZoneMode isUpTo isMask isOpening isAmc isFollowing isSize isCell isFourSizes cells width
+faults-in-order = (refl, refl, refl, refl, refl, refl)
+
+-- A mask other than 0 outside mode 0 meets 17.
+pub mask-outside : (mode mask : ℕ) → 2 ≤ mode → mode ≤ 6 → 0 < mask → mask < 128 → planOf (2 ∷ 0x80 ∷ 0x10 ∷ 0 ∷ 0 ∷ 1 ∷ 0x3F ∷ mode ∷ 0 ∷ 1 ∷ mask ∷ []) ≡ refused 17
+unfolding planOf readZones valueIn isZoneMode isUpTo isMask isOpening isAmc isFollowing isSize isCell isFourSizes cells width
+mask-outside mode mask h l some small =
+    let byte = lt-ltb mask 128 small in
+    let not-0 = ne-eqb mask 0 (λ e. omega arith) in
+    by-mode (λ m. planOf (2 ∷ 0x80 ∷ 0x10 ∷ 0 ∷ 0 ∷ 1 ∷ 0x3F ∷ m ∷ 0 ∷ 1 ∷ mask ∷ []) ≡ refused 17)
+    (rw (byte, not-0)) (rw (byte, not-0)) (rw (byte, not-0)) (rw (byte, not-0)) (rw (byte, not-0)) mode h l
 
 -- Document 02, wish 5: the starred plan line with a mask out of its range. 3F in mode 2 meets 17, not 14; 00 and 40 in mode 0 meet it too; where there are no slots either, 13 comes before 17; without its mask the line ends within a zone.
 pub masks-refused :

@@ -19,7 +19,7 @@ use Rattle.plan.specs.declared.Before.{Before}
 use Rattle.plan.specs.declared.Before.the-variants.{First, After}
 use Rattle.plan.specs.Zone.{askZone, isCount, inPlaces, each}
 use Rattle.plan.specs.Read.{handOn, readValue, readZone, readZones, planWith, finish, planOf}
-use Rattle.plan.specs.Write.{usedZones, askPlan, zoneBytes, planBytes, Outcome, over, outcome, writeOf}
+use Rattle.plan.specs.Write.{usedZones, askPlan, zoneBytes, planBytes, AfterWrite, over, afterWrite, writeOf}
 use Rattle.plan.specs.Law.{Eight}
 use Rattle.plan.specs.Model.{Small}
 use Rattle.plan.proofs.Places.{take-places, drop-places, places-of, places-length}
@@ -37,7 +37,7 @@ value-of : {A : Type 0} (s : List ℕ) (next : ℕ → List ℕ → Answer A) {a
 value-of s next {a} e = by (valueOf s) refl e
   where
     by : (v : Answer Value) → valueOf s ≡ v → handOn v s next ≡ accepted a → Value-of s next a
-    by (accepted v) q e′ = record { value = v .value; after = drop (v .size) s; bytes = again 3 s q; go-on = e′ }
+    by (accepted v) q e′ = record { value = v .value; after = drop (v .bytes) s; bytes = again 3 s q; go-on = e′ }
     by (refused k) q e′ = absurd (let z : _≡_ {A = ℕ} 0 1 = cc in omega arith)
 
 of-value : {A : Type 0} (x : ℕ) (s : List ℕ) (next : ℕ → List ℕ → Answer A) → x < 2097152 → readValue (encode x ++ s) next ≡ next x s
@@ -183,16 +183,16 @@ laid p d after n e = by (askPlan p write) refl e
     write : Answer (List ℕ)
     write = ask (leb (length (planBytes p)) (length d)) 16 (accepted (planBytes p))
 
-    by : (a : Answer (List ℕ)) → askPlan p write ≡ a → outcome a d ≡ record { answer = accepted n; dest = after } → Laid p n after
-    by (refused k) q e′ = absurd (let o = ap (λ (o : Outcome). o .answer) e′ in let z : _≡_ {A = ℕ} 0 1 = cc in omega arith)
+    by : (a : Answer (List ℕ)) → askPlan p write ≡ a → afterWrite a d ≡ record { answer = accepted n; dest = after } → Laid p n after
+    by (refused k) q e′ = absurd (let o = ap (λ (o : AfterWrite). o .answer) e′ in let z : _≡_ {A = ℕ} 0 1 = cc in omega arith)
     by (accepted bytes) q e′ =
         let h = plan-yes p write q in
         let is = same-accepted (ask-yes (leb (length (planBytes p)) (length d)) 16 _ (h .1) .1) in
-        let long = same-accepted (ap (λ (o : Outcome). o .answer) e′) in
+        let long = same-accepted (ap (λ (o : AfterWrite). o .answer) e′) in
         record {
           fit = h .0;
           number = rw is (sym long);
-          front = rw (← long, ← ap (λ (o : Outcome). o .dest) e′, is) (take-append-seam bytes (drop (length bytes) d));
+          front = rw (← long, ← ap (λ (o : AfterWrite). o .dest) e′, is) (take-append-seam bytes (drop (length bytes) d));
         }
 
 -- A written plan read again is the same plan.

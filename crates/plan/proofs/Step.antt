@@ -12,7 +12,7 @@ use Rattle.base.proofs.Chain.{numbered, yes-all, no-first}
 use Rattle.value.specs.declared.Found.{Found as ValueFound}
 use Rattle.value.specs.declared.Found.the-variants.{Value}
 use Rattle.value.specs.Value.{found, valueOf}
-use Rattle.value.proofs.Laws.{size-within}
+use Rattle.value.proofs.Laws.{bytes-within}
 use Rattle.plan.specs.declared.Zone.{Zone}
 use Rattle.plan.specs.declared.Plan.{Plan}
 use Rattle.plan.specs.declared.ZoneFound.{ZoneFound}
@@ -27,7 +27,7 @@ use Rattle.plan.proofs.Number.{zone-numbered}
 
 -- what `value::read` found lies within the bytes
 pub value-within : (s : List ℕ) {r : ValueFound} {x n : ℕ} → found r ≡ valueOf s → r ≡ Value x n → n ≤ length s
-value-within s e q = size-within 3 s (sym e ∙ ap found q)
+value-within s e q = bytes-within 3 s (sym e ∙ ap found q)
 
 -- the zones from a place on, to the end
 abbrev zonesAt : (s : List ℕ) (at count size : ℕ) → Answer Plan

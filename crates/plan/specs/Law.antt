@@ -9,7 +9,7 @@ use Rattle.plan.specs.declared.Plan.{Plan}
 use Rattle.plan.specs.Read.{planOf}
 use Rattle.plan.specs.Write.{over, writeOf}
 
--- a plan's zones are an array of eight places
+-- A plan's zones are an array of eight places.
 abbrev pub Eight : (plan : Plan) → Type 0
 Eight plan = length (plan .zones) ≡ 8
 
@@ -20,9 +20,9 @@ pub record PlanLaw : Type 0 where
   -- A written plan read again is the same plan.
   pub same-plan : (plan : Plan) (dest after : List ℕ) (n : ℕ) → Eight plan → writeOf plan dest ≡ record { answer = accepted n; dest = after }
       → planOf (take n after) ≡ accepted plan
-  -- So no two accepted byte strings are one plan,
+  -- No two accepted byte strings are one plan.
   pub one-string : (s t : List ℕ) (plan : Plan) → Bytes s → Bytes t → planOf s ≡ accepted plan → planOf t ≡ accepted plan → s ≡ t
-  -- and no two plans one byte string.
+  -- No two plans are one byte string.
   pub one-plan : (p q : Plan) (d₁ d₂ after₁ after₂ : List ℕ) (n₁ n₂ : ℕ) → Eight p → Eight q
       → writeOf p d₁ ≡ record { answer = accepted n₁; dest = after₁ } → writeOf q d₂ ≡ record { answer = accepted n₂; dest = after₂ }
       → take n₁ after₁ ≡ take n₂ after₂ → p ≡ q
@@ -30,5 +30,5 @@ pub record PlanLaw : Type 0 where
   pub at-most-51 : (s : List ℕ) (plan : Plan) → planOf s ≡ accepted plan → length s ≤ 51
   -- Reading looks at 102 bytes at most: they decide the answer, whatever follows them.
   pub first-102-decide : (s : List ℕ) → planOf (take 102 s) ≡ planOf s
-  -- And so do the first 128 bytes.
+  -- The first 128 bytes, which the program `zones` reads, decide it too.
   pub first-128-decide : (s : List ℕ) → planOf (take 128 s) ≡ planOf s

@@ -13,7 +13,7 @@ use Rattle.plan.specs.Zone.{askZone}
 use Rattle.plan.specs.Read.{readZone}
 use Rattle.plan.specs.Write.{askZones, askPlan}
 
--- the number of the first question that is answered no, 0 where none is
+-- The number of the first question to a zone, to all zones and to a plan that is answered no, 0 where none is.
 unfoldable pub zoneRefusal : (size : ℕ) (before : Before) (zone : Zone) → ℕ
 zoneRefusal size before zone = refusalOf (askZone {A = Unit {0}} size before zone (accepted tt))
 
@@ -23,14 +23,14 @@ zonesRefusal size before zones = refusalOf (askZones {A = Unit {0}} size before 
 unfoldable pub planRefusal : (plan : Plan) → ℕ
 planRefusal plan = refusalOf (askPlan {A = Unit {0}} plan (accepted tt))
 
--- a zone whose values are in range at some size
+-- A zone whose values are in range at some size.
 pub record Small (zone : Zone) : Type 0 where
   pub mode-most : zone .mode < 7
   pub cell-most : zone .cell < 2352
   pub slots-most : zone .slots ≤ 512
   pub mask-most : zone .mask ≤ 63
 
--- what comes after an answer of `zone_at`, of the bytes that it was read from
+-- What reading goes on with after an answer of `zone_at`, of the bytes that the zone was read from.
 abbrev pub zoneFound : (bytes : List ℕ) (answer : ZoneFound) (next : Zone → List ℕ → Answer Plan) → Answer Plan
 zoneFound bytes (Found zone after) next = next zone (drop after bytes)
 zoneFound bytes (Refused number) next = refused number

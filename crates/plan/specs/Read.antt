@@ -17,13 +17,13 @@ use Rattle.plan.specs.Zone.{askZone, isCount, inPlaces}
 
 -- A value at the head of the bytes: it and the bytes after it are handed on. 10 and 11 are the value's questions.
 abbrev pub handOn : {A : Type 0} → (value : Answer Value) (bytes : List ℕ) (next : ℕ → List ℕ → Answer A) → Answer A
-handOn (accepted v) bytes next = next (v .value) (drop (v .size) bytes)
+handOn (accepted v) bytes next = next (v .value) (drop (v .bytes) bytes)
 handOn (refused number) bytes next = refused number
 
 abbrev pub readValue : {A : Type 0} → (bytes : List ℕ) (next : ℕ → List ℕ → Answer A) → Answer A
 readValue bytes next = handOn (valueOf bytes) bytes next
 
--- A zone: mode, cell, slots and mask.
+-- A zone at the head of the bytes has four values: mode, cell, slots and mask.
 abbrev pub readZone : {A : Type 0} → (bytes : List ℕ) (next : Zone → List ℕ → Answer A) → Answer A
 readZone bytes next =
     readValue bytes (λ mode s₁.
@@ -32,7 +32,7 @@ readZone bytes next =
     readValue s₃ (λ mask s₄.
     next (record { mode = mode; cell = cell; slots = slots; mask = mask }) s₄))))
 
--- So many zones, each judged after its four values.
+-- Zones are read one after the other, each judged after its four values.
 unfoldable pub readZones : {A : Type 0} → (count size : ℕ) (before : Before) (bytes : List ℕ) (next : List Zone → List ℕ → Answer A) → Answer A
 readZones zero size before bytes next = next [] bytes
 readZones (suc count) size before bytes next =

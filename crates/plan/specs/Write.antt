@@ -16,7 +16,7 @@ use Rattle.plan.specs.declared.Before.{Before}
 use Rattle.plan.specs.declared.Before.the-variants.{First, After}
 use Rattle.plan.specs.Zone.{askZone, isCount, each}
 
--- 12 (writing: and every place past it zero)
+-- 12, in writing: is every place past the count zero?
 unfoldable pub isUnused : (zone : Zone) → Bool
 isUnused zone = pick (eqb (zone .mode) 0) (pick (eqb (zone .cell) 0) (pick (eqb (zone .slots) 0) (eqb (zone .mask) 0) false) false) false
 
@@ -27,7 +27,7 @@ areUnused (zone ∷ zones) = pick (isUnused zone) (areUnused zones) false
 abbrev pub usedZones : (plan : Plan) → List Zone
 usedZones plan = take (plan .count) (plan .zones)
 
--- for each zone in turn 1, 2, 3, 13, 17, 14
+-- Each zone in turn is asked 1, 2, 3, 13, 17 and 14.
 unfoldable pub askZones : {A : Type 0} → (size : ℕ) (before : Before) (zones : List Zone) (rest : Answer A) → Answer A
 askZones size before [] rest = rest
 askZones size before (zone ∷ zones) rest = askZone size before zone (askZones size (After (zone .mode)) zones rest)
@@ -39,32 +39,32 @@ askPlan plan rest =
     (ask (isFourSizes (plan .size)) 2
     (askZones (plan .size) First (usedZones plan) rest)))
 
--- count of zones, size, then mode, cell, slots and mask of each
+-- The bytes of a plan are the count of zones, the size, then mode, cell, slots and mask of each zone.
 unfoldable pub zoneBytes : (zone : Zone) → List ℕ
 zoneBytes zone = encode (zone .mode) ++ (encode (zone .cell) ++ (encode (zone .slots) ++ encode (zone .mask)))
 
 unfoldable pub planBytes : (plan : Plan) → List ℕ
 planBytes plan = encode (plan .count) ++ (encode (plan .size) ++ each zoneBytes (usedZones plan))
 
--- what a call of `write` leaves: its answer and the destination
-pub record Outcome : Type 0 where
+-- What a call of `write` leaves: its answer and the destination.
+pub record AfterWrite : Type 0 where
   pub answer : Answer ℕ
   pub dest : List ℕ
 
--- The bytes at the destination's start; further bytes stay.
+-- The bytes stand at the destination's start, and its further bytes stay.
 abbrev pub over : (bytes dest : List ℕ) → List ℕ
 over bytes dest = bytes ++ drop (length bytes) dest
 
--- It gives the number of bytes written; on a refusal the destination keeps its contents.
-abbrev pub outcome : (answer : Answer (List ℕ)) (dest : List ℕ) → Outcome
-outcome (accepted bytes) dest = record { answer = accepted (length bytes); dest = over bytes dest }
-outcome (refused number) dest = record { answer = refused number; dest = dest }
+-- Writing gives the number of bytes written; on a refusal the destination keeps its contents.
+abbrev pub afterWrite : (answer : Answer (List ℕ)) (dest : List ℕ) → AfterWrite
+afterWrite (accepted bytes) dest = record { answer = accepted (length bytes); dest = over bytes dest }
+afterWrite (refused number) dest = record { answer = refused number; dest = dest }
 
 -- 16 Is the destination long enough?
-unfoldable pub writeOf : (plan : Plan) (dest : List ℕ) → Outcome
-writeOf plan dest = outcome (askPlan plan (ask (leb (length (planBytes plan)) (length dest)) 16 (accepted (planBytes plan)))) dest
+unfoldable pub writeOf : (plan : Plan) (dest : List ℕ) → AfterWrite
+writeOf plan dest = afterWrite (askPlan plan (ask (leb (length (planBytes plan)) (length dest)) 16 (accepted (planBytes plan)))) dest
 
--- what an answer of `write` says, with the destination that it leaves
-abbrev pub written : (answer : Written) (dest : List ℕ) → Outcome
+-- What an answer of `write` says, with the destination that it leaves.
+abbrev pub written : (answer : Written) (dest : List ℕ) → AfterWrite
 written (Bytes number) dest = record { answer = accepted number; dest = dest }
 written (Refused number) dest = record { answer = refused number; dest = dest }

@@ -16,7 +16,7 @@ use Rattle.plan.specs.declared.Before.the-variants.{First, After}
 unfoldable pub isZoneMode : (mode : ℕ) → Bool
 isZoneMode mode = pick (eqb mode 1) false (ltb mode 7)
 
--- 2 and 3 are the map's, of the zone's mode and cell and the plan's size.
+-- Questions 2 and 3 are the map's, of the zone's mode and cell and the plan's size.
 abbrev pub setupOf : (size : ℕ) (zone : Zone) → Setup
 setupOf size zone = record { mode = zone .mode; size = size; cell = zone .cell }
 
@@ -32,15 +32,15 @@ isSlots slots = isUpTo 512 slots
 unfoldable pub isOpening : (size : ℕ) (zone : Zone) → Bool
 isOpening size zone = pick (eqb size 2048) (eqb (zone .mode) 0) true
 
--- AMC, modes 3 to 6
+-- Is the mode one of AMC's, 3 to 6?
 unfoldable pub isAmc : (mode : ℕ) → Bool
 isAmc mode = pick (leb 3 mode) (ltb mode 7) false
 
--- 14 And at every size, does nothing but AMC follow AMC (document 01: mode 3; document 02, wish 2: any of 3 to 6)?
+-- 14 At every size, does nothing but AMC follow AMC (document 01: mode 3; document 02, wish 2: any of 3 to 6)?
 unfoldable pub isFollowing : (mode : ℕ) (zone : Zone) → Bool
 isFollowing mode zone = pick (isAmc mode) (isAmc (zone .mode)) true
 
--- a zone is the plan's first, or stands after one of a mode
+-- 14 goes by what stands before the zone: it is the plan's first, or comes after a zone of some mode.
 abbrev pub isOrder : (before : Before) (size : ℕ) (zone : Zone) → Bool
 isOrder First size zone = isOpening size zone
 isOrder (After mode) size zone = isFollowing mode zone
@@ -54,15 +54,15 @@ askFields size zone rest =
     (ask (isSlots (zone .slots)) 13
     (ask (isMask (zone .mode) (zone .mask)) 17 rest))))
 
--- the number of the first of them that is answered no, 0 where none is
+-- The number of the first question to a zone's own values that is answered no, 0 where none is.
 unfoldable pub fieldsRefusal : (size : ℕ) (zone : Zone) → ℕ
 fieldsRefusal size zone = refusalOf (askFields {A = Unit {0}} size zone (accepted tt))
 
--- In a plan its place comes after them.
+-- In a plan the question of a zone's place comes after those to its own values.
 abbrev pub askZone : {A : Type 0} → (size : ℕ) (before : Before) (zone : Zone) (rest : Answer A) → Answer A
 askZone size before zone rest = askFields size zone (ask (isOrder before size zone) 14 rest)
 
--- an unused place of a plan
+-- An unused place of a plan.
 abbrev pub unused : Zone
 unused = record { mode = 0; cell = 0; slots = 0; mask = 0 }
 
@@ -72,7 +72,7 @@ inPlaces zero zones = []
 inPlaces (suc places) [] = unused ∷ inPlaces places []
 inPlaces (suc places) (zone ∷ zones) = zone ∷ inPlaces places zones
 
--- what each zone gives, one behind the other
+-- What each zone gives, one behind the other.
 unfoldable pub each : (part : Zone → List ℕ) (zones : List Zone) → List ℕ
 each part [] = []
 each part (zone ∷ zones) = part zone ++ each part zones

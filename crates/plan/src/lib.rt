@@ -34,13 +34,13 @@ pub struct Plan {
     pub zones: [Zone; 8],
 }
 
-// The refusal, or 0 and the plan.
+// What reading a plan answers: the number of the refusal, or 0 and the plan.
 pub struct ReadPlan {
     pub refusal: u8,
     pub plan: Plan,
 }
 
-// How many bytes were written, or the refusal.
+// What writing a plan answers: how many bytes were written, or the number of the refusal.
 pub enum Written {
     Bytes(usize),
     Refused(u8),
@@ -52,13 +52,13 @@ pub enum Before {
     After(usize),
 }
 
-// A zone and the place after it, or the refusal.
+// A zone and the place after it, or the number of the refusal.
 pub enum ZoneFound {
     Found { zone: Zone, next: usize },
     Refused(u8),
 }
 
-// Is it one of AMC's modes?
+// Is a mode one of AMC's?
 fn is_amc(mode: usize) -> bool
     ensures { λ r. ⌜ r ≡ isAmc mode ⌝ }
 {
@@ -68,6 +68,7 @@ fn is_amc(mode: usize) -> bool
     mode < 7
 }
 
+// Does a zone stand in its place, the first or after one of a mode?
 fn is_order(size: usize, prior: Before, zone: Zone) -> bool
     ensures { λ r. ⌜ r ≡ isOrder prior size zone ⌝ }
 {
@@ -125,6 +126,7 @@ fn zone_refusal(size: usize, prior: Before, zone: Zone) -> u8
     14
 }
 
+// The answer of a refusal has no plan: count, size and zones are all zero.
 fn refused(number: u8) -> ReadPlan
     ensures { λ r. ⌜ r ≡ answered (no number) ⌝ }
 {
@@ -139,31 +141,34 @@ fn refused(number: u8) -> ReadPlan
 }
 
 // The zone whose first byte stands at a place: its values in a row.
-fn zone_at(bytes: &[u8], at: usize) -> ZoneFound
-    ensures { λ r. ⌜ ZoneAt (now (bytes .entry)) at r ⌝ }
+fn zone_at(s: &[u8], at: usize) -> ZoneFound
+    ensures { λ r. ⌜ ZoneAt (now (s .entry)) at r ⌝ }
 {
-    match value::read(bytes, at) {
+    match value::read(s, at) {
         Found::Refused(number) => ZoneFound::Refused(number),
-        Found::Value { value: mode, size } => {
-            let at = at + size;
-            match value::read(bytes, at) {
+        Found::Value { value: mode, bytes } => {
+            let at = at + bytes;
+            match value::read(s, at) {
                 Found::Refused(number) => ZoneFound::Refused(number),
-                Found::Value { value: cell, size } => {
-                    let at = at + size;
-                    match value::read(bytes, at) {
+                Found::Value { value: cell, bytes } => {
+                    let at = at + bytes;
+                    match value::read(s, at) {
                         Found::Refused(number) => ZoneFound::Refused(number),
-                        Found::Value { value: slots, size } => {
-                            let at = at + size;
-                            match value::read(bytes, at) {
+                        Found::Value {
+                            value: slots,
+                            bytes,
+                        } => {
+                            let at = at + bytes;
+                            match value::read(s, at) {
                                 Found::Refused(number) => ZoneFound::Refused(number),
-                                Found::Value { value: mask, size } => ZoneFound::Found {
+                                Found::Value { value: mask, bytes } => ZoneFound::Found {
                                     zone: Zone {
                                         mode: mode,
                                         cell: cell,
                                         slots: slots,
                                         mask: mask,
                                     },
-                                    next: at + size,
+                                    next: at + bytes,
                                 },
                             }
                         }
@@ -219,7 +224,7 @@ pub fn read(bytes: &[u8]) -> ReadPlan
         Found::Refused(number) => refused(number),
         Found::Value {
             value: count,
-            size: at,
+            bytes: at,
         } => {
             if !base::is_up_to(8, count) {
                 return refused(12);
@@ -228,7 +233,7 @@ pub fn read(bytes: &[u8]) -> ReadPlan
                 Found::Refused(number) => refused(number),
                 Found::Value {
                     value: size,
-                    size: n,
+                    bytes: n,
                 } => {
                     if !map::is_four_sizes(size) {
                         return refused(2);
@@ -240,6 +245,7 @@ pub fn read(bytes: &[u8]) -> ReadPlan
     }
 }
 
+// Is a place of a plan unused, all zero?
 fn is_unused(zone: Zone) -> bool
     ensures { λ r. ⌜ r ≡ isUnused zone ⌝ }
 {
@@ -305,10 +311,10 @@ fn put_zone(dest: &mut [u8], at: usize, zone: Zone) -> usize
     requires { ⌜ Small zone × (at + 6 ≤ length (now dest)) ⌝ }
     ensures { λ r. ⌜ Put (now (dest .entry)) at (zoneBytes zone) r (now (dest .exit)) × (r ≤ at + 6) ⌝ }
 {
-    let cell = value::write(dest, at, zone.mode);
-    let slots = value::write(dest, cell, zone.cell);
-    let mask = value::write(dest, slots, zone.slots);
-    value::write(dest, mask, zone.mask)
+    let after_mode = value::write(dest, at, zone.mode);
+    let after_cell = value::write(dest, after_mode, zone.cell);
+    let after_slots = value::write(dest, after_cell, zone.slots);
+    value::write(dest, after_slots, zone.mask)
 }
 
 // Puts an accepted plan, 51 bytes at most; answers how many.
@@ -318,8 +324,8 @@ fn put_plan(dest: &mut [u8], plan: Plan) -> usize
 {
     let used = plan.count;
     let zones = plan.zones;
-    let size = value::write(dest, 0, used);
-    let mut at = value::write(dest, size, plan.size);
+    let after_count = value::write(dest, 0, used);
+    let mut at = value::write(dest, after_count, plan.size);
     let mut k = 0;
     while k < used {
         at = put_zone(dest, at, zones[k]);

@@ -21,7 +21,7 @@ use Rattle.plan.proofs.Places.{drop-places}
 use Rattle.plan.proofs.Judge.{unused-small, all-small, count-most, size-small}
 use Rattle.plan.proofs.Each.{each-none, each-more}
 use Rattle.plan.proofs.Round.{plan-of}
-use Rattle.plan_numbers.specs.Numbers.{fourOf, numbersOf, placeIn, placesOf}
+use Rattle.plan_numbers.specs.Numbers.{fourOf, numbersOf, placeIn, placesIn}
 use Rattle.plan_numbers.specs.Model.{AllSmall}
 
 four : (l : List ℕ) (i a b c d : ℕ) → i + 4 ≤ length l → take (i + 4) (set (set (set (set l i a) (i + 1) b) (i + 2) c) (i + 3) d) ≡ take i l ++ (a ∷ b ∷ c ∷ d ∷ [])
@@ -62,7 +62,7 @@ module _ {zones : List Zone} {numbers : List ℕ} {k : ℕ} (f : Row zones numbe
 -- While places are taken: the first k are.
 pub record Placing (numbers : List ℕ) (zones : List Zone) (k : ℕ) : Type 0 where
   pub room : length zones ≡ 8
-  pub done : take k zones ≡ take k (placesOf numbers)
+  pub done : take k zones ≡ take k (placesIn numbers)
 
 pub placing : (numbers : List ℕ) (zones : List Zone) → length zones ≡ 8 → Placing numbers zones 0
 placing numbers zones r = record { room = r; done = refl }
@@ -70,7 +70,7 @@ placing numbers zones r = record { room = r; done = refl }
 module _ {numbers : List ℕ} {zones : List Zone} {k : ℕ} (p : Placing numbers zones k) where
   pub placing-again : {m c n b : ℕ} → k < 8 → m ≡ getD numbers (4 * k) 0 → c ≡ getD numbers (4 * k + 1) 0 → n ≡ getD numbers (4 * k + 2) 0 → b ≡ getD numbers (4 * k + 3) 0
       → Placing numbers (set zones k (record { mode = m; cell = c; slots = n; mask = b })) (k + 1)
-  unfolding placesOf
+  unfolding placesIn
   placing-again {m} {c} {n} {b} h e₁ e₂ e₃ e₄ =
       let e : _≡_ {A = Zone} (record { mode = m; cell = c; slots = n; mask = b }) (placeIn numbers k) = cc in
       record {
@@ -83,9 +83,9 @@ module _ {numbers : List ℕ} {zones : List Zone} {k : ℕ} (p : Placing numbers
             ∙ sym (take-suc (tabulate 8 (placeIn numbers)) k unused (rw (length-tabulate 8 (placeIn numbers)) h)));
       }
 
-  pub placing-end : 8 ≤ k → zones ≡ placesOf numbers
-  unfolding placesOf
-  placing-end h = sym (take-all k zones (omega (arith, p .room))) ∙ p .done ∙ take-all k (placesOf numbers) (rw (length-tabulate 8 (placeIn numbers)) h)
+  pub placing-end : 8 ≤ k → zones ≡ placesIn numbers
+  unfolding placesIn
+  placing-end h = sym (take-all k zones (omega (arith, p .room))) ∙ p .done ∙ take-all k (placesIn numbers) (rw (length-tabulate 8 (placeIn numbers)) h)
 
 -- The numbers of a plan that was read are small, and those of a refusal are zero.
 pub record Read-small (p : Plan) : Type 0 where

@@ -6,6 +6,6 @@ use Rattle.plan.specs.declared.Zone.{Zone}
 use Rattle.plan.specs.Zone.{unused}
 use Rattle.plan.specs.Model.{Small}
 
--- places whose numbers fit into 32 bits
+-- Each of the places has numbers that fit into 32 bits.
 abbrev pub AllSmall : (zones : List Zone) → Type 0
 AllSmall zones = (k : ℕ) → Small (getD zones k unused)

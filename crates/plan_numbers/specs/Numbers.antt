@@ -7,14 +7,14 @@ use Rattle.plan.specs.declared.Zone.{Zone}
 use Rattle.plan.specs.declared.Plan.{Plan}
 use Rattle.plan.specs.Zone.{each}
 
--- mode, cell, slots and mask of each place
+-- A place of a plan as four numbers: mode, cell, slots and mask.
 abbrev pub fourOf : (zone : Zone) → List ℕ
 fourOf zone = zone .mode ∷ zone .cell ∷ zone .slots ∷ zone .mask ∷ []
 
 abbrev pub numbersOf : (zones : List Zone) → List ℕ
 numbersOf zones = each fourOf zones
 
--- the eight places that 32 numbers are
+-- The place of a plan that four of the numbers are, and the eight places that all 32 are.
 abbrev pub placeIn : (numbers : List ℕ) (place : ℕ) → Zone
 placeIn numbers place =
     record {
@@ -24,8 +24,8 @@ placeIn numbers place =
       mask = getD numbers (4 * place + 3) 0;
     }
 
-unfoldable pub placesOf : (numbers : List ℕ) → List Zone
-placesOf numbers = tabulate 8 (placeIn numbers)
+unfoldable pub placesIn : (numbers : List ℕ) → List Zone
+placesIn numbers = tabulate 8 (placeIn numbers)
 
 abbrev pub planIn : (count size : ℕ) (numbers : List ℕ) → Plan
-planIn count size numbers = record { count = count; size = size; zones = placesOf numbers }
+planIn count size numbers = record { count = count; size = size; zones = placesIn numbers }

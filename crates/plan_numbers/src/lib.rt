@@ -3,7 +3,7 @@ use plan::Plan;
 use plan::UNUSED;
 use plan::Zone;
 ghost use mathlib.Core.Path.{_≡_};
-ghost use Rattle.plan_numbers.specs.Numbers.{numbersOf, placesOf, planIn};
+ghost use Rattle.plan_numbers.specs.Numbers.{numbersOf, placesIn, planIn};
 ghost use Rattle.plan_numbers.specs.Model.{AllSmall};
 
 // Mode, cell, slots and mask of each place, as of a plan that was read.
@@ -32,7 +32,7 @@ fn wide(x: u32) -> usize
 
 // The eight places of 32 numbers.
 fn places(numbers: &[u32; 32]) -> [Zone; 8]
-    ensures { λ r. ⌜ r ≡ placesOf (now (numbers .entry)) ⌝ }
+    ensures { λ r. ⌜ r ≡ placesIn (now (numbers .entry)) ⌝ }
 {
     let mut zones = [UNUSED; 8];
     let mut k = 0;

@@ -9,30 +9,31 @@ use Rattle.plan.specs.declared.ReadPlan.{ReadPlan}
 use Rattle.plan.specs.Zone.{each}
 use Rattle.plan.specs.Write.{usedZones}
 
--- in ASCII
+-- The space and the line feed are ASCII's.
 abbrev pub space : ℕ
 space = 32
 
 abbrev pub lineFeed : ℕ
 lineFeed = 10
 
--- a number in base ten and one byte behind it
+-- A number in base ten and one byte behind it.
 abbrev pub field : (number mark : ℕ) → List ℕ
 field number mark = decimal number ++ (mark ∷ [])
 
+-- The line of a zone has its mode, cell, slots and mask.
 unfoldable pub lineOf : (zone : Zone) → List ℕ
 lineOf zone = field (zone .mode) space ++ (field (zone .cell) space ++ (field (zone .slots) space ++ field (zone .mask) lineFeed))
 
 abbrev pub linesOf : (zones : List Zone) → List ℕ
 linesOf zones = each lineOf zones
 
--- "refused " in ASCII
+-- The word of a refusal, "refused ", in ASCII.
 abbrev pub refusedWord : List ℕ
 refusedWord = 114 ∷ 101 ∷ 102 ∷ 117 ∷ 115 ∷ 101 ∷ 100 ∷ space ∷ []
 
 unfoldable pub refusalLine : (number : ℕ) → List ℕ
 refusalLine number = refusedWord ++ field number lineFeed
 
--- the text of an answer of `read`
+-- The text of an answer of `read`: a line for each zone, or the refusal's line.
 unfoldable pub textOf : (answer : ReadPlan) → List ℕ
 textOf answer = pick (eqb (answer .refusal) 0) (linesOf (usedZones (answer .plan))) (refusalLine (answer .refusal))

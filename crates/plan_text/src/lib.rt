@@ -8,7 +8,7 @@ ghost use Rattle.text.specs.Text.{Put};
 ghost use Rattle.plan.specs.Write.{usedZones};
 ghost use Rattle.plan_text.specs.Lines.{field, lineOf, linesOf, refusalLine, textOf};
 
-// Puts a number in base ten and one byte behind it; 21 bytes at most.
+// Puts a number in base ten and one byte behind it, 21 bytes at most.
 fn put_field(dest: &mut [u8], at: usize, x: usize, mark: u8) -> usize
     requires { ⌜ at + 21 ≤ length (now dest) ⌝ }
     ensures { λ r. ⌜ (Put (now (dest .entry)) at (field x mark) r (now (dest .exit))) × (r ≤ at + 21) ⌝ }
@@ -17,15 +17,15 @@ fn put_field(dest: &mut [u8], at: usize, x: usize, mark: u8) -> usize
     text::put_byte(dest, next, mark)
 }
 
-// Puts a zone's line; 84 bytes at most.
+// Puts the line of a zone, 84 bytes at most.
 fn put_line(dest: &mut [u8], at: usize, zone: Zone) -> usize
     requires { ⌜ at + 84 ≤ length (now dest) ⌝ }
     ensures { λ r. ⌜ (Put (now (dest .entry)) at (lineOf zone) r (now (dest .exit))) × (r ≤ at + 84) ⌝ }
 {
-    let cell = put_field(dest, at, zone.mode, b' ');
-    let slots = put_field(dest, cell, zone.cell, b' ');
-    let mask = put_field(dest, slots, zone.slots, b' ');
-    put_field(dest, mask, zone.mask, b'\n')
+    let after_mode = put_field(dest, at, zone.mode, b' ');
+    let after_cell = put_field(dest, after_mode, zone.cell, b' ');
+    let after_slots = put_field(dest, after_cell, zone.slots, b' ');
+    put_field(dest, after_slots, zone.mask, b'\n')
 }
 
 // Puts a line for each zone of the plan.
@@ -47,6 +47,7 @@ fn put_zones(dest: &mut [u8], plan: Plan) -> usize
     at
 }
 
+// Puts the line of a refusal.
 fn put_refusal(dest: &mut [u8], number: u8) -> usize
     requires { ⌜ 672 ≤ length (now dest) ⌝ }
     ensures { λ r. ⌜ Put (now (dest .entry)) 0 (refusalLine number) r (now (dest .exit)) ⌝ }

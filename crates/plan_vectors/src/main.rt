@@ -14,6 +14,7 @@ use plan::UNUSED;
 use plan::Written;
 use plan::Zone;
 use vector_lines::fields;
+use vector_lines::line_end;
 use vector_lines::print;
 use vector_lines::print_number;
 ghost use Prim.Native.Nat.{_<_, _≤_};
@@ -37,7 +38,7 @@ fn answer_line(input: &[u8], at: usize) -> usize
     requires { ⌜ at < length (now input) ⌝ }
     ensures { λ r. ⌜ at < r ⌝ }
 {
-    let end = text::line_end(input, at);
+    let end = line_end(input, at);
     print(&input[at..end]);
     print(b":");
     answer(input[at], fields(input, at + 1));

@@ -48,7 +48,7 @@ shiftOf setup s = byMode (setup .mode) 0 (13 * s % 48) (23 * s % 48) (setup .cel
 abbrev pub tileComb : (y : ℕ) → Comb
 tileComb y = record { first = 0; second = 3; step = 4; count = pick (eqb (y % 3) 1) 0 420 }
 
--- one pilot a bin
+-- the pilots of bins, one in each bin
 abbrev pub binComb : (setup : Setup) (y : ℕ) → Comb
 binComb setup y = record { first = binPilotPlace y; second = binPilotPlace y; step = 9; count = 6 * width setup }
 
@@ -119,7 +119,7 @@ pointsWithin b room = pick (ltb room (b .step)) (pointsBelow b room) (runPoints 
 unfoldable pub numberAt : (setup : Setup) (mask y used : ℕ) → ℕ
 numberAt setup mask y used = let a = addressOf setup y used in litRank setup mask (a .subchannel) * 48 + a .index
 
--- that of point j of run i
+-- the number of point j of run i of symbol y
 abbrev pub runNumber : (setup : Setup) (mask y i j : ℕ) → ℕ
 runNumber setup mask y i j = numberAt setup mask y (i * runStep setup + runPlace (runsOf setup y) j)
 
@@ -130,7 +130,7 @@ runStride setup = byMode (setup .mode) 12 1 8 8 0
 unfoldable pub pointStride : (setup : Setup) → ℕ
 pointStride setup = byMode (setup .mode) 1 420 1 1 0
 
--- so far as runs are lit
+-- The table has the numbers of all points on the lit runs among the first n of a row.
 abbrev pub NumbersBelow : (setup : Setup) (mask y n : ℕ) (numbers : List ℕ) → Type 0
 NumbersBelow setup mask y n numbers =
     (i j : ℕ) → i < n → j < runPoints (runsOf setup y) → isUsedLit setup mask (i * runStep setup) ≡ true

@@ -14,7 +14,7 @@ use Rattle.value.specs.Value.{Bytes, Value, more, valueIn, valueOf, enco
 
 -- A first byte that is the last one, and one that more follow, whose further groups are worth something or nothing.
 module _ (g a : ℕ) (s : List ℕ) where
-  pub last : a < 128 → valueIn (suc g) (a ∷ s) ≡ accepted (record { value = a; size = 1 })
+  pub last : a < 128 → valueIn (suc g) (a ∷ s) ≡ accepted (record { value = a; bytes = 1 })
   unfolding valueIn
   last l = rw (lt-ltb a 128 l)
 
@@ -23,10 +23,10 @@ module _ (g a : ℕ) (s : List ℕ) where
   follow m = rw (le-ltb a 128 m)
 
 module _ (a x n : ℕ) where
-  pub some : (x ≡ 0 → ⊥) → more a (accepted (record { value = x; size = n })) ≡ accepted (record { value = a % 128 + 128 * x; size = suc n })
+  pub some : (x ≡ 0 → ⊥) → more a (accepted (record { value = x; bytes = n })) ≡ accepted (record { value = a % 128 + 128 * x; bytes = suc n })
   some h = rw (lt-ltb 0 x (omega arith))
 
-  pub nil : x ≡ 0 → more a (accepted (record { value = x; size = n })) ≡ refused 11
+  pub nil : x ≡ 0 → more a (accepted (record { value = x; bytes = n })) ≡ refused 11
   nil h = rw (le-ltb 0 x (omega arith))
 
 -- the bytes of a value, by their number
@@ -47,7 +47,7 @@ module _ (x : ℕ) where
       div-div = omega arith
 
 -- A value that was written is read, with the number of its bytes, whatever bytes follow.
-pub read-written : (x : ℕ) (rest : List ℕ) → x < 2097152 → valueOf (encode x ++ rest) ≡ accepted (record { value = x; size = length (encode x) })
+pub read-written : (x : ℕ) (rest : List ℕ) → x < 2097152 → valueOf (encode x ++ rest) ≡ accepted (record { value = x; bytes = length (encode x) })
 read-written x rest h =
     cases (ltb x 128)
     (λ e. rw (encode-1 x (ltb-true x 128 e)) (last 2 x rest (ltb-true x 128 e)))
@@ -55,26 +55,26 @@ read-written x rest h =
     (λ e′. two (ltb-false x 128 e) (ltb-true x 16384 e′))
     (λ e′. three (ltb-false x 16384 e′)))
   where
-    two : 128 ≤ x → x < 16384 → valueOf (encode x ++ rest) ≡ accepted (record { value = x; size = length (encode x) })
+    two : 128 ≤ x → x < 16384 → valueOf (encode x ++ rest) ≡ accepted (record { value = x; bytes = length (encode x) })
     two m l =
         rw (encode-2 x m l, follow 2 (x % 128 + 128) (x / 128 ∷ rest) (omega arith), last 1 (x / 128) rest (omega arith))
-        (some (x % 128 + 128) (x / 128) 1 (λ z. omega arith) ∙ ap (λ y. accepted (record { value = y; size = 2 })) (omega arith))
+        (some (x % 128 + 128) (x / 128) 1 (λ z. omega arith) ∙ ap (λ y. accepted (record { value = y; bytes = 2 })) (omega arith))
 
-    three : 16384 ≤ x → valueOf (encode x ++ rest) ≡ accepted (record { value = x; size = length (encode x) })
+    three : 16384 ≤ x → valueOf (encode x ++ rest) ≡ accepted (record { value = x; bytes = length (encode x) })
     three m =
         rw (encode-3 x m h, follow 2 (x % 128 + 128) ((x / 128 % 128 + 128) ∷ x / 16384 ∷ rest) (omega arith), follow 1 (x / 128 % 128 + 128) (x / 16384 ∷ rest) (omega arith), last 0 (x / 16384) rest (omega arith), some (x / 128 % 128 + 128) (x / 16384) 1 (λ z. omega arith))
-        (some (x % 128 + 128) ((x / 128 % 128 + 128) % 128 + 128 * (x / 16384)) 2 (λ z. omega arith) ∙ ap (λ y. accepted (record { value = y; size = 3 })) (omega arith))
+        (some (x % 128 + 128) ((x / 128 % 128 + 128) % 128 + 128 * (x / 16384)) 2 (λ z. omega arith) ∙ ap (λ y. accepted (record { value = y; bytes = 3 })) (omega arith))
 
 -- how many bytes a value takes
 module _ (x : ℕ) where
-  pub size-1 : x < 128 → 1 ≡ length (encode x)
-  size-1 h = rw (encode-1 x h)
+  pub bytes-1 : x < 128 → 1 ≡ length (encode x)
+  bytes-1 h = rw (encode-1 x h)
 
-  size-2 : 128 ≤ x → x < 16384 → 2 ≡ length (encode x)
-  size-2 m h = rw (encode-2 x m h)
+  bytes-2 : 128 ≤ x → x < 16384 → 2 ≡ length (encode x)
+  bytes-2 m h = rw (encode-2 x m h)
 
-pub size-two : (x : ℕ) → x < 16384 → length (encode x) ≤ 2
-size-two x h = cases (ltb x 128) (λ e. omega (arith, size-1 x (ltb-true x 128 e))) (λ e. omega (arith, size-2 x (ltb-false x 128 e) h))
+pub bytes-two : (x : ℕ) → x < 16384 → length (encode x) ≤ 2
+bytes-two x h = cases (ltb x 128) (λ e. omega (arith, bytes-1 x (ltb-true x 128 e))) (λ e. omega (arith, bytes-2 x (ltb-false x 128 e) h))
 
 -- What was read is written again: as many bytes, and the same where they are bytes.
 pub record Again (written read : List ℕ) : Type 0 where
@@ -95,24 +95,24 @@ record Followed (a : ℕ) (rest : Answer Value) (v : Value) : Type 0 where
   further : Value
   rest-is : rest ≡ accepted further
   worth : 0 < further .value
-  value-is : v ≡ record { value = a % 128 + 128 * further .value; size = suc (further .size) }
+  value-is : v ≡ record { value = a % 128 + 128 * further .value; bytes = suc (further .bytes) }
 
 followed : (a : ℕ) (rest : Answer Value) {v : Value} → more a rest ≡ accepted v → Followed a rest v
 followed a (accepted w) e =
-    let yes′ = ask-yes (ltb 0 (w .value)) 11 (accepted (record { value = a % 128 + 128 * w .value; size = suc (w .size) })) e in
+    let yes′ = ask-yes (ltb 0 (w .value)) 11 (accepted (record { value = a % 128 + 128 * w .value; bytes = suc (w .bytes) })) e in
     record { further = w; rest-is = refl; worth = ltb-true 0 (w .value) (yes′ .0); value-is = sym (same-accepted (yes′ .1)) }
 followed a (refused k) e = absurd (let z : _≡_ {A = ℕ} 0 1 = cc in omega arith)
 
 -- A value that was read lies within the bytes.
-pub size-within : (g : ℕ) (s : List ℕ) {v : Value} → valueIn g s ≡ accepted v → v .size ≤ length s
+pub bytes-within : (g : ℕ) (s : List ℕ) {v : Value} → valueIn g s ≡ accepted v → v .bytes ≤ length s
 unfolding valueIn
-size-within zero s e = absurd (let z : _≡_ {A = ℕ} 0 1 = cc in omega arith)
-size-within (suc g) [] e = absurd (let z : _≡_ {A = ℕ} 0 1 = cc in omega arith)
-size-within (suc g) (a ∷ s) {v} e =
+bytes-within zero s e = absurd (let z : _≡_ {A = ℕ} 0 1 = cc in omega arith)
+bytes-within (suc g) [] e = absurd (let z : _≡_ {A = ℕ} 0 1 = cc in omega arith)
+bytes-within (suc g) (a ∷ s) {v} e =
     cases (ltb a 128)
     (λ l. let q = same-accepted (sym (last g a s (ltb-true a 128 l)) ∙ e) in rw (← q) (omega arith))
     (λ m. let f = followed a (valueIn g s) (sym (follow g a s (ltb-false a 128 m)) ∙ e) in
-    let h = size-within g s (f .rest-is) in
+    let h = bytes-within g s (f .rest-is) in
     rw (f .value-is) (omega arith))
 
 -- It is decided by as many bytes as it may have groups, and takes no more.
@@ -123,8 +123,8 @@ first-decide (suc g) zero s h = absurd (omega arith)
 first-decide (suc g) (suc k) [] h = refl
 first-decide (suc g) (suc k) (a ∷ s) h = rw (first-decide g k s (omega arith))
 
-pub at-most-three : (s : List ℕ) {v : Value} → valueOf s ≡ accepted v → v .size ≤ 3
-at-most-three s e = omega (arith, size-within 3 (take 3 s) (first-decide 3 3 s (omega arith) ∙ e), length-take 3 s)
+pub at-most-three : (s : List ℕ) {v : Value} → valueOf s ≡ accepted v → v .bytes ≤ 3
+at-most-three s e = omega (arith, bytes-within 3 (take 3 s) (first-decide 3 3 s (omega arith) ∙ e), length-take 3 s)
 
 -- A value that was read is written again.
 more-byte : (g a x : ℕ) → 0 < x → encodeIn (suc g) (a % 128 + 128 * x) ≡ (a % 128 + 128) ∷ encodeIn g x
@@ -137,7 +137,7 @@ more-byte g a x w = rw (le-ltb (a % 128 + 128 * x) 128 (omega arith), low, high)
     high : (a % 128 + 128 * x) / 128 ≡ x
     high = omega arith
 
-pub again : (g : ℕ) (s : List ℕ) {v : Value} → valueIn g s ≡ accepted v → Again (encodeIn g (v .value) ++ drop (v .size) s) s
+pub again : (g : ℕ) (s : List ℕ) {v : Value} → valueIn g s ≡ accepted v → Again (encodeIn g (v .value) ++ drop (v .bytes) s) s
 unfolding valueIn encodeIn
 again zero s e = absurd (let z : _≡_ {A = ℕ} 0 1 = cc in omega arith)
 again (suc g) [] e = absurd (let z : _≡_ {A = ℕ} 0 1 = cc in omega arith)

@@ -6,9 +6,9 @@ ghost use lib.ListN.{length, drop};
 ghost use Rattle.value.specs.Value.{found, valueOf, encode};
 ghost use Rattle.text.specs.Text.{Put};
 
-// A value and how many bytes it takes, or the refusal.
+// A value and how many bytes it takes, or the number of the refusal.
 pub enum Found {
-    Value { value: usize, size: usize },
+    Value { value: usize, bytes: usize },
     Refused(u8),
 }
 
@@ -21,7 +21,7 @@ pub fn read(s: &[u8], at: usize) -> Found
     }
     let a = wide(s[at]);
     if a < 128 {
-        return Found::Value { value: a, size: 1 };
+        return Found::Value { value: a, bytes: 1 };
     }
     if s.len() - at <= 1 {
         return Found::Refused(10);
@@ -33,7 +33,7 @@ pub fn read(s: &[u8], at: usize) -> Found
     if b < 128 {
         return Found::Value {
             value: a % 128 + 128 * b,
-            size: 2,
+            bytes: 2,
         };
     }
     if s.len() - at <= 2 {
@@ -46,7 +46,7 @@ pub fn read(s: &[u8], at: usize) -> Found
     if c < 128 {
         return Found::Value {
             value: a % 128 + 128 * (b % 128 + 128 * c),
-            size: 3,
+            bytes: 3,
         };
     }
     Found::Refused(11)

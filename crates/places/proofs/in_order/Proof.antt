@@ -1,6 +1,5 @@
 -- `places::in_order` meets its contract.
 use Prim.Native.Nat.{_-_, _<_}
-use native.Mathlib.Omega.{arith}
 use borrow.Author.Needs.{needs}
 use Rattle.base.proofs.Tabulate.{Written, written-none, written-next, written-all}
 use Rattle.points.specs.Model.{turned}

@@ -4,7 +4,7 @@ use Prim.Native.Nat.{_+_, _-_, _*_, _≤_}
 use native.Mathlib.Omega.{arith}
 use borrow.Author.Needs.{needs}
 use Rattle.text.proofs.Laws.{put-three}
-use Rattle.value.proofs.Laws.{size-1, size-two}
+use Rattle.value.proofs.Laws.{bytes-1, bytes-two}
 use Rattle.plan.specs.Write.{zoneBytes, planBytes}
 use Rattle.plan.proofs.Places.{length-mapped}
 use Rattle.plan.proofs.Judge.{fit-of, used-small, count-most, size-small}
@@ -13,16 +13,16 @@ use Rattle.plan.proofs.put_plan.Statement.{statement}
 use Rattle.plan.proofs.put_plan.Tie as tie
 
 abbrev Inv-loop : tie.InvT-loop
-Inv-loop dest₀ used zones size at₀ k₀ dest at k = Putting zoneBytes dest₀ used zones at₀ dest at k × (used ≤ 8) × (at₀ ≤ 3) × (at ≤ at₀ + 6 * k)
+Inv-loop dest₀ used zones after-count at₀ k₀ dest at k = Putting zoneBytes dest₀ used zones at₀ dest at k × (used ≤ 8) × (at₀ ≤ 3) × (at ≤ at₀ + 6 * k)
 
 abbrev μ-loop : tie.MeasureT-loop
-μ-loop dest₀ used zones size at₀ k₀ dest at k = used - k
+μ-loop dest₀ used zones after-count at₀ k₀ dest at k = used - k
 
 write-requires : tie.Need-write-requires Inv-loop μ-loop
 write-requires c κs =
     let start = c .before .before .before in
     let most = count-most _ (fit-of _ (start .pre .0) .count-is) in
-    (omega arith, omega (arith, start .pre .1, size-1 (start .args .plan .count) (omega arith)))
+    (omega arith, omega (arith, start .pre .1, bytes-1 (start .args .plan .count) (omega arith)))
 
 write-requires-2 : tie.Need-write-requires-2 Inv-loop μ-loop
 write-requires-2 c κs =
@@ -31,7 +31,7 @@ write-requires-2 c κs =
     let p = start .args .plan in
     let most = count-most _ (fit-of p (start .pre .0) .count-is) in
     let few = size-small _ (fit-of p (start .pre .0) .size-is) in
-    (omega arith, omega (arith, start .pre .1, first .ensures .next-is, first .kept .0, size-1 (p .count) (omega arith), size-two (p .size) (omega arith)))
+    (omega arith, omega (arith, start .pre .1, first .ensures .next-is, first .kept .0, bytes-1 (p .count) (omega arith), bytes-two (p .size) (omega arith)))
 
 loop-holds : tie.Need-loop-holds Inv-loop μ-loop
 loop-holds c =
@@ -41,7 +41,7 @@ loop-holds c =
     let p = start .args .plan in
     let most = count-most _ (fit-of p (start .pre .0) .count-is) in
     let few = size-small _ (fit-of p (start .pre .0) .size-is) in
-    (put-begin _ _ _ _ _ (search (length-mapped, needs) depth 8), most, omega (arith, first .ensures .next-is, second .ensures .next-is, size-1 (p .count) (omega arith), size-two (p .size) (omega arith)), omega arith)
+    (put-begin _ _ _ _ _ (search (length-mapped, needs) depth 8), most, omega (arith, first .ensures .next-is, second .ensures .next-is, bytes-1 (p .count) (omega arith), bytes-two (p .size) (omega arith)), omega arith)
 
 put-zone-requires : tie.Need-put-zone-requires Inv-loop μ-loop
 put-zone-requires c κs =

@@ -19,7 +19,7 @@ module _ (g : ℕ) (s : List ℕ) (at : ℕ) where
   unfolding valueIn
   none-at h = rw (drop-of-length-le s {i = at})
 
-  last-at : (a : ℕ) → a ≡ getD s at 0 → at < length s → a < 128 → valueIn (suc g) (drop at s) ≡ accepted (record { value = a; size = 1 })
+  last-at : (a : ℕ) → a ≡ getD s at 0 → at < length s → a < 128 → valueIn (suc g) (drop at s) ≡ accepted (record { value = a; bytes = 1 })
   last-at a e h l = rw (drop-cons s at 0, ← e) (last g a (drop (suc at) s) l)
 
 record Follows (s : List ℕ) (at a : ℕ) : Type 0 where
@@ -38,7 +38,7 @@ module _ {s : List ℕ} {at a : ℕ} (f : Follows s at a) where
   one-none : length s ≤ at + 1 → refused 10 ≡ valueOf (drop at s)
   one-none h = one (none-at 1 s (at + 1) h)
 
-  one-last : {b : ℕ} → b ≡ getD s (at + 1) 0 → at + 1 < length s → b < 128 → more a (accepted (record { value = b; size = 1 })) ≡ valueOf (drop at s)
+  one-last : {b : ℕ} → b ≡ getD s (at + 1) 0 → at + 1 < length s → b < 128 → more a (accepted (record { value = b; bytes = 1 })) ≡ valueOf (drop at s)
   one-last {b} e h l = one (last-at 1 s (at + 1) b e h l)
 
   -- two such bytes, and then a third too
@@ -52,7 +52,7 @@ module _ {s : List ℕ} {at a : ℕ} (f : Follows s at a) where
     two-none : length s ≤ at + 2 → refused 10 ≡ valueOf (drop at s)
     two-none h = two (none-at 0 s (at + 2) h)
 
-    two-last : {x : ℕ} → x ≡ getD s (at + 2) 0 → at + 2 < length s → x < 128 → more a (more b (accepted (record { value = x; size = 1 }))) ≡ valueOf (drop at s)
+    two-last : {x : ℕ} → x ≡ getD s (at + 2) 0 → at + 2 < length s → x < 128 → more a (more b (accepted (record { value = x; bytes = 1 }))) ≡ valueOf (drop at s)
     two-last {x} e h l = two (last-at 0 s (at + 2) x e h l)
 
     three : {x : ℕ} → Follows s (at + 2) x → refused 11 ≡ valueOf (drop at s)

@@ -1,0 +1,4 @@
+-- Laws of emptying.
+pub mod Walked
+pub mod Dropped
+pub mod First

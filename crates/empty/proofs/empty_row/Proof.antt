@@ -1,0 +1,110 @@
+-- `empty::empty_row` meets its contract.
+use mathlib.Core.Path.{_≡_, refl, ap, _∙_}
+use Prim.Native.Nat.{ℕ, _+_, _-_, _*_, _<_}
+use native.Mathlib.Omega.{arith}
+use borrow.Author.Needs.{needs}
+use Rattle.carriers.specs.declared.Band.{Band}
+use Rattle.carriers.specs.Band.{carrierOf}
+use Rattle.map.specs.Mode.{symbols}
+use Rattle.map.proofs.ByMode.{few, slot-few, row-few}
+use Rattle.rows.specs.declared.Runs.{Runs}
+use Rattle.rows.specs.Model.{runStep, runCount, runsOf}
+use Rattle.rows.proofs.Walk.{some-run}
+use Rattle.empty.specs.Model.{runStart}
+use Rattle.empty.proofs.Dropped.{RowTurn, row-first, row-start, row-next, row-done, row-over, run-used, start-small, start-is}
+use Rattle.empty.proofs.empty_row.Statement.{statement}
+use Rattle.empty.proofs.empty_row.Tie as tie
+
+abbrev Inv-loop : tie.InvT-loop
+Inv-loop setup mask slot row carriers lit runs places grid points₀ first shape all its-places strides numbers band i₀ points i = RowTurn setup mask slot carriers row grid points₀ points i
+
+abbrev μ-loop : tie.MeasureT-loop
+μ-loop setup mask slot row carriers lit runs places grid points₀ first shape all its-places strides numbers band i₀ points i = shape .count - i
+
+-- a row past the count
+returns : tie.Need-returns Inv-loop μ-loop
+returns c =
+    let start = c .before .before .before .before in
+    let past = c .if1 .taken in
+    row-over (row-start _ _ _ _ _ _ _) (start .pre .0) (start .pre .1 .0 .1) (some-run (start .pre .0)) (omega (arith, row-first (start .args .setup) (start .args .row)))
+
+-- the runs of the row's symbol
+shape-at : (c : tie.After-row-strides Inv-loop μ-loop) → let start = c .before .before .before .before .before .before .before .before .before in c .before .before .before .symbol-runs .result ≡ runsOf (start .args .setup) (start .args .slot * symbols (start .args .setup) + start .args .row)
+shape-at c =
+    let start = c .before .before .before .before .before .before .before .before .before in
+    c .before .before .before .symbol-runs .ensures ∙ ap (λ (n : ℕ). runsOf (start .args .setup) (start .args .slot * n + start .args .row)) (c .before .before .before .before .symbols .ensures)
+
+row-numbers-requires : tie.Need-row-numbers-requires Inv-loop μ-loop
+row-numbers-requires c κs =
+    let start = c .before .before .before .before .before .before .before .before .before in
+    (start .pre .0, ((start .pre .1 .0 .1, ap (λ (b : Runs). b .count) (shape-at c)), (start .pre .1 .1 .1, start .pre .1 .1 .2)))
+
+shape-is : (c : tie.At-loop Inv-loop μ-loop) → let start = c .before .before .before .before .before .before .before .before .before .before .before .before in c .before .before .before .before .before .before .symbol-runs .result ≡ runsOf (start .args .setup) (start .args .slot * symbols (start .args .setup) + start .args .row)
+shape-is c = shape-at (c .before .before .before)
+
+step-is : (c : tie.At-loop Inv-loop μ-loop) → c .before .before .before .before .before .before .symbol-runs .result .step ≡ runStep (c .before .before .before .before .before .before .before .before .before .before .before .before .args .setup)
+step-is c = ap (λ (b : Runs). b .step) (shape-is c)
+
+-- run i is one of them
+run-lt : (c : tie.Then2 Inv-loop μ-loop) → c .before .before .loop .i < runCount (c .before .before .before .before .before .before .before .before .before .before .before .before .before .before .args .setup)
+run-lt c = omega (arith, ap (λ (b : Runs). b .count) (shape-is (c .before .before)), c .if2 .taken)
+
+used-lt : (c : tie.Then2 Inv-loop μ-loop) → c .before .before .loop .i * c .before .before .before .before .before .before .before .before .symbol-runs .result .step < 1729
+used-lt c =
+    let start = c .before .before .before .before .before .before .before .before .before .before .before .before .before .before in
+    let f = few (start .pre .0) in
+    rw (step-is (c .before .before)) (omega (arith, run-used _ (start .pre .0) (start .args .row) _ (start .pre .1 .0 .1) (run-lt c), f .used-few))
+
+-- and starts where it is worked out to
+run-start : (c : tie.After-carrier Inv-loop μ-loop) → let start = c .before .before .before .before .before .before .before .before .before .before .before .before .before .before .before .before in start .args .row * start .args .setup .size + c .carrier .result ≡ runStart (start .args .setup) (start .args .row) (c .before .before .before .before .loop .i)
+run-start c =
+    let start = c .before .before .before .before .before .before .before .before .before .before .before .before .before .before .before .before in
+    start-is (start .args .setup) (start .args .row) _ _ _ _ refl (step-is (c .before .before .before .before)) (c .carrier .ensures ∙ ap (λ (x : Band). carrierOf x (c .before .before .before .before .loop .i * c .before .before .before .before .before .before .before .before .before .before .symbol-runs .result .step)) (c .before .before .before .before .before .band .ensures))
+
+small : (c : tie.After-carrier Inv-loop μ-loop) → let start = c .before .before .before .before .before .before .before .before .before .before .before .before .before .before .before .before in start .args .row * start .args .setup .size + c .carrier .result < 65536
+small c =
+    let start = c .before .before .before .before .before .before .before .before .before .before .before .before .before .before .before .before in
+    rw (run-start c) (start-small _ (start .pre .0) _ _ (start .pre .1 .0 .1) (run-lt (c .before .before)))
+
+carrier-requires : tie.Need-carrier-requires Inv-loop μ-loop
+carrier-requires c κs =
+    let start = c .before .before .before .before .before .before .before .before .before .before .before .before .before .before .before in
+    let f = few (start .pre .0) in
+    (rw (c .before .before .before .before .band .ensures) (omega arith), omega (arith, used-lt (c .before)))
+
+returns-2 : tie.Need-returns-2 Inv-loop μ-loop
+returns-2 c =
+    let start = c .before .before .before .before .before .before .before .before .before .before .before .before .before .before .before .before .before in
+    row-over (c .before .before .before .before .before .loop .inv) (start .pre .0) (start .pre .1 .0 .1) (run-lt (c .before .before .before)) (omega (arith, run-start (c .before), c .if3 .taken))
+
+drop-run-requires : tie.Need-drop-run-requires Inv-loop μ-loop
+drop-run-requires c κs =
+    let start = c .before .before .before .before .before .before .before .before .before .before .before .before .before .before .before .before .before .before .before .before in (
+      start .pre .0,
+      (
+        (start .pre .1 .0 .1, run-lt (c .before .before .before .before .before .before), run-start (c .before .before .before .before), omega (arith, c .before .before .before .if3 .left), c .before .before .before .before .before .before .before .before .loop .inv .long ∙ start .pre .1 .0 .2, start .pre .1 .0 .3),
+        (
+          (shape-is (c .before .before .before .before .before .before .before .before), c .before .before .before .before .before .before .before .before .before .before .before .before .before .run-points .ensures, c .before .before .before .before .before .before .before .before .before .before .before .before .run-places .ensures, start .pre .1 .1 .0),
+          (c .before .before .before .before .before .before .before .before .before .before .before .row-strides .ensures .0, c .before .before .before .before .before .before .before .before .before .before .before .row-strides .ensures .1, c .before .before .before .before .before .before .before .before .before .before .row-numbers .ensures),
+        ),
+      ),
+    )
+
+loop-again : tie.Need-loop-again Inv-loop μ-loop
+loop-again c =
+    let start = c .before .before .before .before .before .before .before .before .before .before .before .before .before .before .before .before .before .before .before .before .before .before .before in
+    row-next (c .before .before .before .before .before .before .before .before .before .before .before .loop .inv) (start .pre .0) (start .pre .1 .0 .1) (run-lt (c .before .before .before .before .before .before .before .before .before)) (start .pre .1 .0 .2) _ (c .before .before .drop-run .ensures)
+
+pub empty-row-spec : {M : Type 1} → statement M
+empty-row-spec =
+    tie.close
+    (tie.spec
+    Inv-loop μ-loop (λ c. omega (arith, row-few (c .before .before .before .pre .0) (c .before .before .before .args .row) (c .before .before .before .pre .1 .0 .1))) returns (λ c κs. search needs)
+    (λ c. omega (arith, slot-few (c .before .before .before .before .before .pre .0) _ _ (c .before .before .before .before .before .pre .1 .0 .0) (c .symbols .ensures)))
+    (λ c. omega (arith, slot-few (c .before .before .before .before .before .pre .0) _ _ (c .before .before .before .before .before .pre .1 .0 .0) (c .symbols .ensures), few (c .before .before .before .before .before .pre .0) .symbols-few, c .before .before .before .before .before .pre .1 .0 .1))
+    (λ c κs. search needs) (λ c κs. search needs) (λ c κs. search needs) (λ c κs. search needs) row-numbers-requires (λ c κs. search needs)
+    (λ c. row-start _ _ _ _ _ _ _) (λ c. omega (arith, used-lt (c .before))) carrier-requires (λ c. omega (arith, small c))
+    (λ c. c .before .before .before .before .before .loop .inv .long) returns-2 drop-run-requires (λ c. omega (arith, run-lt (c .before .before .before .before .before .before .before .before .before)))
+    (λ c. omega (arith, c .before .before .before .before .before .before .before .before .before .if2 .taken)) loop-again
+    (λ c. c .before .before .loop .inv .long)
+    (λ c. row-done (c .before .before .loop .inv) (c .before .before .before .before .before .before .before .before .before .before .before .before .before .before .pre .0) (c .before .before .before .before .before .before .before .before .before .before .before .before .before .before .pre .1 .0 .1) (omega (arith, ap (λ (b : Runs). b .count) (shape-is (c .before .before)), c .if2 .left))))

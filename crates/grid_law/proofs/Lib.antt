@@ -1,0 +1,2 @@
+-- The law of the grid.
+pub mod Law

@@ -1,0 +1,4 @@
+-- Laws of the ground.
+pub mod Pilots
+pub mod Left
+pub mod Alike

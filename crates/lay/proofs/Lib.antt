@@ -1,0 +1,3 @@
+-- Laws of a lay.
+pub mod Laid
+pub mod Left

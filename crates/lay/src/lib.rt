@@ -1,0 +1,27 @@
+// A subchannel's points laid on a slot's grid.
+use map::Setup;
+ghost use mathlib.Core.Path.{_≡_};
+ghost use Rattle.lay.specs.Lay.{layOf};
+
+// Lays a lit subchannel's 48 points on a slot's grid and leaves the rest of it; or the first refusal of 1, 2, 3, 17, 4, 5, 8,
+// 9.
+pub fn lay(
+    setup: Setup,
+    mask: usize,
+    slot: usize,
+    subchannel: usize,
+    points: &[f32],
+    grid: &mut [f32],
+) -> u8
+    ensures { λ r. ⌜ record { refusal = r; buffer = now (grid .exit) } ≡ layOf setup mask slot subchannel (now (points .entry)) (now (grid .entry)) ⌝ }
+{
+    let refusal = lengths::lay_refusal(setup, mask, slot, subchannel, points.len(), grid.len());
+    if refusal != 0 {
+        return refusal;
+    }
+    let table = rows::table(setup, slot);
+    let row = rows::carrier_row(setup, slot, subchannel, &table);
+    let by = rows::shift(setup, subchannel);
+    points::lay_row(&row, by, points, grid);
+    0
+}

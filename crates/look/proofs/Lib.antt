@@ -1,0 +1,2 @@
+-- Laws of a look.
+pub mod Looked

@@ -1,0 +1,39 @@
+-- `look::look` meets its contract.
+use mathlib.Core.Path.{refl}
+use native.Mathlib.Omega.{arith}
+use borrow.Author.Needs.{needs}
+use Rattle.map.proofs.Outcome.{size-few}
+use Rattle.look.proofs.Looked.{look-refused, look-asked, look-column, look-done}
+use Rattle.look.proofs.look.Statement.{statement}
+use Rattle.look.proofs.look.Tie as tie
+
+column-requires : tie.Need-column-requires
+column-requires c κs =
+    let grid = c .before .before .before .args .grid .now in
+    let a = look-asked _ _ _ _ _ refl grid _ (c .before .look-refusal .ensures) (c .if1 .left) in
+    (size-few (a .lit .valid), a .in-range)
+
+column-position-requires : tie.Need-column-position-requires
+column-position-requires c κs =
+    let grid = c .before .before .before .before .args .grid .now in
+    let a = look-asked _ _ _ _ _ refl grid _ (c .before .before .look-refusal .ensures) (c .before .if1 .left) in
+    (a .lit .valid, look-column _ _ _ _ _ refl grid _ (c .before .before .look-refusal .ensures) (c .before .if1 .left) _ (c .column .ensures))
+
+point-at-requires : tie.Need-point-at-requires
+point-at-requires c κs =
+    let grid = c .before .before .before .before .before .args .grid .now in
+    let a = look-asked _ _ _ _ _ refl grid _ (c .before .before .before .look-refusal .ensures) (c .before .before .if1 .left) in
+    omega (arith, a .grid-long, c .column-position .ensures .1)
+
+sight-requires : tie.Need-sight-requires
+sight-requires c κs =
+    let grid = c .before .before .before .before .before .before .args .grid .now in
+    let a = look-asked _ _ _ _ _ refl grid _ (c .before .before .before .before .look-refusal .ensures) (c .before .before .before .if1 .left) in
+    (a .lit .valid, (a .symbol-lt, look-column _ _ _ _ _ refl grid _ (c .before .before .before .before .look-refusal .ensures) (c .before .before .before .if1 .left) _ (c .before .before .column .ensures)))
+
+pub look-spec : {M : Type 1} → statement M
+look-spec =
+    tie.close
+    (tie.spec
+    (λ c κs. search needs) (λ c. search (look-refused, needs)) column-requires column-position-requires point-at-requires sight-requires
+    (λ c. search (look-done, needs)))

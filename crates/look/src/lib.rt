@@ -1,0 +1,86 @@
+// A look at one carrier of a slot's grid.
+use map::Located;
+use map::Setup;
+use points::Point;
+ghost use mathlib.Core.Path.{_≡_};
+ghost use Prim.Native.Nat.{_*_, _%_, _<_};
+ghost use Rattle.base.specs.Answer.{accepted};
+ghost use Rattle.map.specs.Mode.{symbols};
+ghost use Rattle.map.specs.Model.{Valid};
+ghost use Rattle.mask.specs.Mask.{litContent};
+ghost use Rattle.lengths.specs.Length.{gridPoints};
+ghost use Rattle.grid.specs.Row.{columnPosition};
+ghost use Rattle.look.specs.Look.{sight as sightOf, seen, lookOf};
+
+// What `look` finds on a carrier, or the first refusal.
+pub enum Seen {
+    Nothing,
+    Pilot(Point),
+    Data {
+        point: Point,
+        slot: usize,
+        subchannel: usize,
+        index: usize,
+    },
+    Refused(u8),
+}
+
+// What is seen in a column of an accepted symbol's row, with the point p there: data is lit by its subchannel, a pilot by its
+// used number.
+fn sight(setup: Setup, mask: usize, symbol: usize, column: usize, p: Point) -> Seen
+    requires { ⌜ Valid setup ⌝ }
+    requires { ⌜ (symbol < 512 * symbols setup) × (column < setup .size) ⌝ }
+    ensures { λ r. ⌜ seen r ≡ accepted (sightOf p (litContent setup mask symbol column)) ⌝ }
+{
+    match map::content(setup, symbol, column) {
+        Located::Guard => Seen::Nothing,
+        Located::Dc => Seen::Nothing,
+        Located::Pilot => {
+            let used = carriers::used(map::band(setup), column);
+            if mask::is_used_lit(setup, mask, used) {
+                Seen::Pilot(p)
+            } else {
+                Seen::Nothing
+            }
+        }
+        Located::Data {
+            slot,
+            subchannel,
+            index,
+        } => {
+            if mask::is_lit(setup, mask, subchannel) {
+                Seen::Data {
+                    point: p,
+                    slot,
+                    subchannel,
+                    index,
+                }
+            } else {
+                Seen::Nothing
+            }
+        }
+        Located::Refused(number) => Seen::Refused(number),
+    }
+}
+
+// Where a column of a zone's symbol stands in its slot's grid.
+fn column_position(setup: Setup, symbol: usize, column: usize) -> usize
+    requires { ⌜ Valid setup ⌝ }
+    requires { ⌜ column < setup .size ⌝ }
+    ensures { λ r. ⌜ (r ≡ columnPosition setup (symbol % symbols setup) column) × (r < gridPoints setup) ⌝ }
+{
+    map::offset_of(setup, symbol) * setup.size + column
+}
+
+// The point on a lit carrier of a zone's symbol, and whose it is; or the first refusal of 1, 2, 3, 17, 4, 7, 9.
+pub fn look(setup: Setup, mask: usize, symbol: usize, grid: &[f32], carrier: i32) -> Seen
+    ensures { λ r. ⌜ seen r ≡ lookOf setup mask symbol (now (grid .entry)) carrier ⌝ }
+{
+    let refusal = lengths::look_refusal(setup, mask, symbol, carrier, grid.len());
+    if refusal != 0 {
+        return Seen::Refused(refusal);
+    }
+    let column = centre::column(setup.size, carrier);
+    let p = points::point_at(grid, column_position(setup, symbol, column));
+    sight(setup, mask, symbol, column, p)
+}
