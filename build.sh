@@ -7,8 +7,8 @@
 #     ./build.sh            builds what is missing or old; status 0, or 2 where that fails
 #     ./build.sh --check    builds nothing; status 0 where all are current, 1 where they are not
 #
-# CC (which may be several words), CFLAGS and LDFLAGS are used where the shared library is linked; they are no part of
-# the hash.
+# CC and AR (which may be several words), CFLAGS and LDFLAGS are used where the libraries are made of the prover's; they are no
+# part of the hash.
 set -euf
 
 # A stream that is closed would become the next pipe or file that is opened.
@@ -30,7 +30,8 @@ version=$(sed -n 's/^#define BP_VERSION \([0-9][0-9]*\)$/\1/p' include/bellpulsa
 [ -n "$version" ] || { say "include/bellpulsar.h has no BP_VERSION"; exit 2; }
 shared=libbellpulsar.so.$version
 
-# The crates that the library is made from, each after those that it needs.
+# The crates that the library is made from, each after those that it needs: those of the C calls, whose names begin with
+# capi_, and all below them.
 crates=$(awk -F: '
     function visit(name, parts, n, i) {
         if (name in seen || !(name in needs)) return
@@ -40,8 +41,10 @@ crates=$(awk -F: '
         print name
     }
     { sub(/#.*/, ""); needs[$1] = $2 }
-    END { visit("capi") }' crates.txt)
-below=$(echo "$crates" | grep -vx capi)
+    /^capi_/ { calls[++count] = $1 }
+    END { for (k = 1; k <= count; k++) visit(calls[k]) }' crates.txt)
+calls=$(echo "$crates" | grep ^capi_)
+below=$(echo "$crates" | grep -v ^capi_)
 sources=$(for crate in $crates; do
     for part in src specs proofs; do
         [ ! -d "crates/$crate/$part" ] || echo "crates/$crate/$part"
@@ -82,15 +85,30 @@ now=$(content)
 total=$(echo "$crates" | wc -l)
 say "proving and building the engine, $total crates (about two minutes the first time)"
 
-# First all crates below capi, as many at a time as there are processors, then capi as a static library. The prover's
-# processes are a group of their own, in which a watcher reads from a pipe that only this script can write to. So where
-# this script ends, whatever ends it, the watcher reads the pipe's end and kills the group.
+# First all crates below the calls, then each crate of calls as a static library, both so many at a time as the prover takes
+# by itself. Two provers of static libraries write the same notes on what is below them, so each has a folder of its own,
+# with the tree's sources and what is proved of them. The prover's processes are a group of their own, in which a watcher
+# reads from a pipe that only this script can write to. So where this script ends, whatever ends it, the watcher reads the
+# pipe's end and kills the group.
+jobs=$(nproc)
+[ "$jobs" -le 4 ] || jobs=4
+jobs=${RT_JOBS:-$jobs}
+for crate in $calls; do
+    mkdir -p "$new/$crate/target"
+    ln -s "$PWD/crates.txt" "$PWD/crates" "$new/$crate"
+    ln -s "$PWD/target/rlib" "$PWD/target/stamp" "$new/$crate/target"
+done
 mkfifo "$new/alive" "$new/said"
 exec 7<>"$new/alive" 8<"$new/alive"
 exec 6>build/log
 setsid --wait sh -c '
     { read -r nothing <&8; kill -s KILL -- "-$$"; } >/dev/null 2>&1 9>&- &
-    rt check "$@" 8<&- && exec rt staticlib capi 8<&-' sh $below >"$new/said" 2>&1 6>&- 7>&- &
+    exec 8<&-
+    new=$1 calls=$2 jobs=$3
+    shift 3
+    rt check "$@" && printf "%s\n" $calls | xargs -P "$jobs" -I CRATE sh -c '\''
+        cd "$1/$2" && rt staticlib "$2" >log 2>&1 && echo "rt: $2 proved (static library)"'\'' sh "$new" CRATE
+    ' sh "$new" "$calls" "$jobs" $below >"$new/said" 2>&1 6>&- 7>&- &
 prover=$!
 proved=0
 while IFS= read -r line; do
@@ -98,17 +116,30 @@ while IFS= read -r line; do
     case $line in
     "rt: "*" proved ("*)
         proved=$((proved + 1)) crate=${line#rt: }
-        [ "$proved" -ge "$total" ] || say "${crate%% *} proved ($proved of $total)"
+        say "${crate%% *} proved ($proved of $total)"
         ;;
     esac
 done <"$new/said"
-if ! wait "$prover"; then
+ended=0
+wait "$prover" || ended=$?
+for crate in $calls; do
+    [ ! -e "$new/$crate/log" ] || cat "$new/$crate/log" >&6
+done
+if [ "$ended" -ne 0 ]; then
     cat build/log >&2 || :
     exit 2
 fi
-say "capi proved ($total of $total)"
 
-cp target/staticlib/libcapi.a "$new/libbellpulsar.a"
+# The archive of a crate has one object, in which its own calls alone are seen from outside.
+for crate in $calls; do
+    archive=$crate/target/staticlib/lib$crate.a
+    (cd "$new" && [ "$(${AR:-ar} t "$archive")" = "$crate.o" ] && ${AR:-ar} x "$archive") || {
+        say "$new/$archive is not made of $crate.o alone"
+        exit 2
+    }
+    set -- "$@" "$new/$crate.o"
+done
+${AR:-ar} rcsD "$new/libbellpulsar.a" "$@"
 ${CC:-cc} ${CFLAGS-} ${LDFLAGS-} -shared "-Wl,-soname,$shared" -o "$new/$shared" \
     -Wl,--whole-archive "$new/libbellpulsar.a" -Wl,--no-whole-archive
 mkdir "$new/link"

@@ -23,7 +23,7 @@ fn library() -> Result<PathBuf, String> {
     }
     // The crate may also have been copied into a project that has a build.sh of its own.
     let root = fs::canonicalize("..").map_err(|error| error.to_string())?;
-    if root.join("build.sh").is_file() && root.join("crates/capi").is_dir() {
+    if root.join("build.sh").is_file() && root.join("crates/capi_map").is_dir() {
         return built(&root);
     }
     installed()

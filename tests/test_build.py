@@ -5,6 +5,7 @@
 """
 
 import os
+import re
 import shutil
 import signal
 import subprocess
@@ -21,28 +22,38 @@ PLACED = "Place(symbol=0, carrier=-425)\n"
 VERSION = "#define BP_VERSION 4\n"
 SHARED = "libbellpulsar.so.4"
 
-# Each stub notes its process. The first proves at once: it says the crates that it was given one by one, then, at the static
-# library, where it notes its process, all of them again, as the prover does.
-PROVES = """\
+# Each stub notes its process. The first proves at once: it says the crates that it was given one by one, then, at each static
+# library, where it notes its process, all of them again, as the prover does. It fails where another one of its kind is at
+# work in the same folder, or where what it needs of the tree is not there.
+CHECKS = """\
 #!/bin/sh
+tree=$(dirname "$0")/..
 if [ "$1" = check ]; then
     shift
-    for crate in "$@"; do echo "rt: $crate proved (3 s)"; echo "$crate" >>checked; done
+    mkdir -p target/rlib target/stamp
+    for crate in "$@"; do echo "rt: $crate proved (3 s)"; echo "$crate" >>checked; : >"target/rlib/$crate"; done
     echo "rt: ok, $# crates proved"
     exit
 fi
-echo $$ >>calls
+"""
+PROVES = CHECKS + """\
+echo $$ >>"$tree/calls"
+[ "$1" = staticlib ] && mkdir target/log && grep -q "^$2:" crates.txt && [ -e "crates/$2/src/lib.rt" ] || exit 9
 sleep ${PROOF:-0}
-[ "$*" = "staticlib capi" ] || exit 9
-while read -r crate; do echo "rt: $crate proved (unchanged since it was last proved)" >&2; done <checked
-echo "fn capi::bp_place: proved"
-echo "logic=proved functions=14"
-mkdir -p target/staticlib && cp '%s' target/staticlib/libcapi.a
-echo done >>calls
+while read -r crate; do
+    [ -e "target/rlib/$crate" ] || exit 9
+    echo "rt: $crate proved (unchanged since it was last proved)" >&2
+done <"$tree/checked"
+echo "logic=proved functions=14 of $2"
+mkdir target/staticlib && cd target/staticlib && ar x '%s' "$2.o" && ar rcsD "lib$2.a" "$2.o" || exit 9
+echo done >>"$tree/calls"
 """ % LIBRARY
-# The second never ends by itself, nor does its child, whose process it notes too.
-ENDLESS = "#!/bin/sh\nsleep 600 & echo $! >>calls\necho $$ >>calls\nwait\n"
+# The next two never end by themselves, the one at the first crates and the other at the static libraries, nor does the child,
+# whose process they note too.
+ENDLESS = '#!/bin/sh\ntree=$(dirname "$0")/..\nsleep 600 & echo $! >>"$tree/calls"\necho $$ >>"$tree/calls"\nwait\n'
+ENDLESS_CALLS = CHECKS + ENDLESS
 FAILS = "#!/bin/sh\necho called >>calls\necho 'rt: map NOT PROVED' >&2\nexit 1\n"
+FAILS_CALLS = CHECKS + 'echo "rt: $2 NOT PROVED"\nexit 1\n'
 COMPILER = '#!/bin/sh\necho "$0" "$@" >>words\nexec cc "$@"\n'
 # Notes its words, and makes a program that does nothing; the preprocessor is the compiler's own.
 NO_COMPILER = """\
@@ -111,16 +122,25 @@ def small_tree(root):
                 file.write(crate)
 
 
-def reached(crate):
-    """The crates that one needs, itself among them, by crates.txt."""
+def crates():
+    """The crates that have the C calls, and all that these need, themselves among them, by crates.txt."""
     with open(os.path.join(ROOT, "crates.txt")) as file:
         needs = dict(line.strip().split(":") for line in file if line[0] != "#")
-    names = [crate]
+    calls = [name for name in needs if name.startswith("capi_")]
+    names = list(calls)
     for name in names:
         names += [need for need in needs[name].split() if need in needs and need not in names]
-    return names
+    return calls, names
 
 
+def declared():
+    """The functions that the header declares."""
+    with open(os.path.join(ROOT, "include", "bellpulsar.h")) as file:
+        return re.findall(r"^(?:uint32_t|size_t) (bp_\w+)\(", file.read(), re.MULTILINE)
+
+
+CALLS, CRATES = crates()
+NOTES = 2 * len(CALLS)  # what the stub notes in one build
 MODEL = tempfile.mkdtemp()  # the tree that every test copies
 
 
@@ -182,7 +202,7 @@ class Case(unittest.TestCase):
     def is_made_anew(self):
         self.stub("rt", PROVES)
         done = self.build()
-        self.assertEqual((done.returncode, len(self.calls())), (0, 2), done.stderr)
+        self.assertEqual((done.returncode, len(self.calls())), (0, NOTES), done.stderr)
         os.remove(self.path("calls"))
 
 
@@ -308,10 +328,10 @@ class Callers(Case):
         self.stub("rt", PROVES)
         shutil.rmtree(self.path("build"))
         done = self.run_in_tree("./bellpulsar", *ASKED)
-        self.assertEqual((done.stdout, done.returncode, len(self.calls())), (ANSWER, 0, 2))
+        self.assertEqual((done.stdout, done.returncode, len(self.calls())), (ANSWER, 0, NOTES))
         self.edit("crates", "map", "src", "lib.rt")
         done = self.run_in_tree("./bellpulsar", *ASKED)
-        self.assertEqual((done.stdout, done.returncode, len(self.calls())), (ANSWER, 0, 4))
+        self.assertEqual((done.stdout, done.returncode, len(self.calls())), (ANSWER, 0, 2 * NOTES))
         self.assertEqual(self.run_in_tree("./bellpulsar", *ASKED).stderr, "")
 
     def test_the_command_line_where_the_build_fails(self):
@@ -328,15 +348,26 @@ class Building(Case):
         done = self.build()
         self.assertEqual((done.stdout, done.returncode), ("", 0))
         shown = done.stderr.splitlines()
-        total = len(reached("capi"))
+        total = len(CRATES)
         self.assertRegex(shown[0], "^bellpulsar: proving and building the engine, %d crates" % total)
-        crates = [line.split()[1] for line in shown[1:]]
-        self.assertEqual((sorted(crates), crates[-1]), (sorted(reached("capi")), "capi"))
+        names = [line.split()[1] for line in shown[1:]]
+        self.assertEqual((sorted(names), sorted(names[-len(CALLS) :])), (sorted(CRATES), sorted(CALLS)))
         self.assertEqual(
-            shown[1:], ["bellpulsar: %s proved (%d of %d)" % (name, n, total) for n, name in enumerate(crates, 1)]
+            shown[1:], ["bellpulsar: %s proved (%d of %d)" % (name, n, total) for n, name in enumerate(names, 1)]
         )
         with open(self.path("build", "log")) as file:
-            self.assertIn("logic=proved functions=14\n", file)
+            lines = file.readlines()
+        for name in CALLS:
+            self.assertIn("logic=proved functions=14 of %s\n" % name, lines)
+
+    def test_the_library_has_each_call_once(self):
+        self.stub("rt", PROVES)
+        shutil.rmtree(self.path("build"))
+        self.assertEqual(self.build().returncode, 0)
+        for command in (["nm", "-g", self.path("build", "libbellpulsar.a")], ["nm", "-D", self.path("build", SHARED)]):
+            done = subprocess.run([*command, "--defined-only"], capture_output=True, text=True, check=True)
+            names = [line.split()[2] for line in done.stdout.splitlines() if " T " in line]
+            self.assertEqual(sorted(names), sorted(declared()), command)
 
     def test_a_proof_that_fails(self):
         self.edit("crates", "map", "src", "lib.rt")
@@ -347,6 +378,19 @@ class Building(Case):
             self.assertEqual(self.build("--check").returncode, 1)
         self.assertEqual(self.calls(), ["called"] * 2)
         self.assertEqual(self.run_in_tree("sh", "examples/c/run.sh", "point", *ASKED[1:]).returncode, 2)
+
+    def test_a_static_library_that_fails(self):
+        """Its proof, or what its archive is made of."""
+        alone = 'ar rcsD "lib$2.a" "$2.o"'
+        self.assertIn(alone, PROVES)
+        others = PROVES.replace(alone, 'cp "$2.o" more.o && %s more.o' % alone)
+        self.edit("crates", "map", "src", "lib.rt")
+        for prover, told in ((FAILS_CALLS, "rt: capi_map NOT PROVED\n"), (others, "is not made of capi_map.o alone\n")):
+            self.stub("rt", prover)
+            done = self.build()
+            self.assertEqual((done.stdout, done.returncode), ("", 2))
+            self.assertIn(told, done.stderr)
+            self.assertEqual(self.build("--check").returncode, 1)
 
     def test_a_compiler_that_fails(self):
         self.assertEqual(self.run_in_tree("sh", "examples/c/run.sh", "point", *ASKED[1:], CC="false").returncode, 2)
@@ -368,7 +412,7 @@ class Building(Case):
         options = {"env": dict(self.env, PROOF="0.3"), "stderr": subprocess.PIPE, "text": True}
         both = [subprocess.Popen(["./build.sh"], cwd=self.tree, **options) for _ in range(2)]
         told = [one.communicate(timeout=60)[1] for one in both]
-        self.assertEqual(([one.returncode for one in both], len(self.calls())), ([0, 0], 2), told)
+        self.assertEqual(([one.returncode for one in both], len(self.calls())), ([0, 0], NOTES), told)
         self.assertEqual(sum("waiting" in text for text in told), 1)
 
     def test_the_compiler_and_its_words(self):
@@ -409,12 +453,12 @@ class Building(Case):
 class Killed(Case):
     """Whoever is killed, no prover runs on, and the next build is not held up."""
 
-    def prover_ends(self, command, number):
-        self.stub("rt", ENDLESS)
+    def prover_ends(self, command, number, prover=ENDLESS, processes=2):
+        self.stub("rt", prover)
         self.edit("crates", "map", "src", "lib.rt")
         options = {"env": self.env, "stderr": subprocess.DEVNULL, "start_new_session": True}
         caller = subprocess.Popen(command, cwd=self.tree, preexec_fn=heed_signals, **options)
-        self.assertTrue(until(lambda: len(self.calls()) == 2))
+        self.assertTrue(until(lambda: len(self.calls()) == processes))
         processes = list(map(int, self.calls()))
         self.assertTrue(all(map(running, processes)))
         caller.send_signal(number)
@@ -426,6 +470,7 @@ class Killed(Case):
     def test_the_builder(self):
         for number in (signal.SIGINT, signal.SIGTERM, signal.SIGHUP, signal.SIGKILL):
             self.prover_ends([self.path("build.sh")], number)
+            self.prover_ends(["env", "RT_JOBS=2", self.path("build.sh")], number, ENDLESS_CALLS, 4)
 
     def test_the_command_line(self):
         for number in (signal.SIGINT, signal.SIGTERM, signal.SIGKILL):

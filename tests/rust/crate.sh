@@ -96,7 +96,7 @@ misses "no libbellpulsar.a is there"
 
 # And now a clone, whose build.sh is run again where the engine's source has changed, and only there.
 BELLPULSAR_LIB_DIR=
-mkdir -p "$temp/project/crates/capi" "$temp/project/include"
+mkdir -p "$temp/project/crates/capi_map" "$temp/project/include"
 touch "$temp/project/crates.txt" "$temp/project/include/bellpulsar.h"
 misses "a build that fails"
 misses "build.sh failed, as told above"
@@ -108,7 +108,7 @@ runs() {
 }
 runs 1
 runs 1
-touch "$temp/project/crates/capi/lib.rt"
+touch "$temp/project/crates/capi_map/lib.rt"
 runs 2
 
 echo "rust: the crate is $major.$minor.$patch; editions 2021 and 2024; its library by BELLPULSAR_LIB_DIR, build.sh and $said"

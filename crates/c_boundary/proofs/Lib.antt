@@ -1,0 +1,2 @@
+-- What a row comes to.
+pub mod Row

@@ -1,0 +1,2 @@
+-- Laws of the C calls over lists of bursts.
+pub mod Burst

@@ -1,0 +1,2 @@
+-- Laws of the C calls over collisions.
+pub mod Collision

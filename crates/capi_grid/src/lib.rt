@@ -1,0 +1,86 @@
+// The C calls that write a slot's grid, and those that empty it. Each returns 0, or document 01's refusal number; on a refusal nothing is written.
+use points::Point;
+ghost use mathlib.Core.Path.{_≡_};
+ghost use Rattle.map.specs.declared.Setup.{Setup};
+ghost use Rattle.ground.specs.Ground.{groundOf};
+ghost use Rattle.lay.specs.Lay.{layOf};
+ghost use Rattle.empty.specs.Empty.{emptyOf, emptyFirstOf};
+ghost use Rattle.capi_grid.specs.Grid.{pairPoint};
+
+#[no_mangle]
+pub extern "C" fn bp_ground(
+    mode: u32,
+    size: u32,
+    cell: u32,
+    mask: u32,
+    slot: u32,
+    pilot: &[f32; 2],
+    grid: &mut [f32],
+) -> u32
+    ensures { λ r. ⌜ record { refusal = r; buffer = now (grid .exit) } ≡ groundOf (record { mode = mode; size = size; cell = cell }) mask slot (pairPoint (now (pilot .entry))) (now (grid .entry)) ⌝ }
+{
+    let p = Point {
+        i: pilot[0],
+        q: pilot[1],
+    };
+    let of = c_boundary::setup(mode, size, cell);
+    let mask = mask as usize;
+    let number = ground::ground(of, mask, slot as usize, p, grid);
+    number as u32
+}
+
+#[no_mangle]
+pub extern "C" fn bp_lay(
+    mode: u32,
+    size: u32,
+    cell: u32,
+    mask: u32,
+    slot: u32,
+    subchannel: u32,
+    points: &[f32],
+    grid: &mut [f32],
+) -> u32
+    ensures { λ r. ⌜ record { refusal = r; buffer = now (grid .exit) } ≡ layOf (record { mode = mode; size = size; cell = cell }) mask slot subchannel (now (points .entry)) (now (grid .entry)) ⌝ }
+{
+    let of = c_boundary::setup(mode, size, cell);
+    let mask = mask as usize;
+    let number = lay::lay(of, mask, slot as usize, subchannel as usize, points, grid);
+    number as u32
+}
+
+#[no_mangle]
+pub extern "C" fn bp_empty(
+    mode: u32,
+    size: u32,
+    cell: u32,
+    mask: u32,
+    slot: u32,
+    grid: &[f32],
+    points: &mut [f32],
+) -> u32
+    ensures { λ r. ⌜ record { refusal = r; buffer = now (points .exit) } ≡ emptyOf (record { mode = mode; size = size; cell = cell }) mask slot (now (grid .entry)) (now (points .entry)) ⌝ }
+{
+    let of = c_boundary::setup(mode, size, cell);
+    let mask = mask as usize;
+    let number = empty::empty(of, mask, slot as usize, grid, points);
+    number as u32
+}
+
+#[no_mangle]
+pub extern "C" fn bp_empty_first(
+    mode: u32,
+    size: u32,
+    cell: u32,
+    mask: u32,
+    slot: u32,
+    carriers: u32,
+    grid: &[f32],
+    points: &mut [f32],
+) -> u32
+    ensures { λ r. ⌜ record { refusal = r; buffer = now (points .exit) } ≡ emptyFirstOf (record { mode = mode; size = size; cell = cell }) mask slot carriers (now (grid .entry)) (now (points .entry)) ⌝ }
+{
+    let of = c_boundary::setup(mode, size, cell);
+    let mask = mask as usize;
+    let number = empty::empty_first(of, mask, slot as usize, carriers as usize, grid, points);
+    number as u32
+}

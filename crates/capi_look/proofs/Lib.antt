@@ -1,0 +1,2 @@
+-- Laws of `bp_look`.
+pub mod Look

@@ -1,0 +1,2 @@
+-- Laws of the C calls over the map.
+pub mod Map

@@ -1,0 +1,18 @@
+-- `capi_map::bp_places` meets its contract.
+use mathlib.Core.Path.{_≡_}
+use borrow.Author.Needs.{needs}
+use Rattle.places.specs.Places.{placesOf}
+use Rattle.c_boundary.proofs.Row.{row-no, row-yes}
+use Rattle.capi_map.proofs.bp_places.Statement.{statement}
+use Rattle.capi_map.proofs.bp_places.Tie as tie
+
+asked : (c : tie.After-row) → let a = c .before .before .args in c .row .result ≡ placesOf (record { mode = a .mode; size = a .size; cell = a .cell }) (a .slot) (a .subchannel)
+asked c = rw (c .before .setup .ensures) at (c .row .ensures)
+
+pub bp-places-spec : {M : Type 1} → statement M
+bp-places-spec =
+    tie.close
+    (tie.spec
+    (λ c κs. search needs) (λ c κs. search needs) (λ c. search needs)
+    (λ c. rw (← asked (c .before)) (row-no _ _ _ (c .if1 .taken)))
+    (λ c. rw (← asked (c .before .before)) (row-yes _ _ _ (c .before .if1 .left))))

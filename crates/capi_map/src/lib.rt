@@ -1,0 +1,111 @@
+// The C calls over the map. Each returns 0, or document 01's refusal number; on a refusal nothing is written.
+use map::Located;
+use map::Placed;
+ghost use mathlib.Core.Path.{_≡_};
+ghost use Rattle.map.specs.declared.Setup.{Setup};
+ghost use Rattle.map.specs.Place.{placeOf, locateOf};
+ghost use Rattle.places.specs.Places.{placesOf};
+ghost use Rattle.c_boundary.specs.Row.{RowOut};
+ghost use Rattle.capi_map.specs.Map.{PlaceOut, placeOut, LocateOut, locateOut};
+ghost use Rattle.capi_map.specs.Places.{placesOut};
+
+#[no_mangle]
+pub extern "C" fn bp_place(
+    mode: u32,
+    size: u32,
+    cell: u32,
+    slot: u32,
+    subchannel: u32,
+    index: u32,
+    symbol: &mut u32,
+    carrier: &mut i32,
+) -> u32
+    ensures { λ r. ⌜ record { refusal = r; symbol = now (symbol .exit); carrier = now (carrier .exit) } ≡ placeOut (placeOf (record { mode = mode; size = size; cell = cell }) slot subchannel index) (now (symbol .entry)) (now (carrier .entry)) ⌝ }
+{
+    let answer = map::place(
+        c_boundary::setup(mode, size, cell),
+        slot as usize,
+        subchannel as usize,
+        index as usize,
+    );
+    match answer {
+        Placed::At {
+            symbol: y,
+            carrier: k,
+        } => {
+            *symbol = y as u32;
+            *carrier = k;
+            0
+        }
+        Placed::Refused(number) => number as u32,
+    }
+}
+
+#[no_mangle]
+pub extern "C" fn bp_locate(
+    mode: u32,
+    size: u32,
+    cell: u32,
+    symbol: u32,
+    carrier: i32,
+    kind: &mut u32,
+    slot: &mut u32,
+    subchannel: &mut u32,
+    index: &mut u32,
+) -> u32
+    ensures { λ r. ⌜ record { refusal = r; kind = now (kind .exit); slot = now (slot .exit); subchannel = now (subchannel .exit); index = now (index .exit) } ≡ locateOut (locateOf (record { mode = mode; size = size; cell = cell }) symbol carrier) (now (kind .entry)) (now (slot .entry)) (now (subchannel .entry)) (now (index .entry)) ⌝ }
+{
+    let answer = map::locate(
+        c_boundary::setup(mode, size, cell),
+        symbol as usize,
+        carrier,
+    );
+    match answer {
+        Located::Guard => {
+            *kind = 0;
+            0
+        }
+        Located::Dc => {
+            *kind = 1;
+            0
+        }
+        Located::Pilot => {
+            *kind = 2;
+            0
+        }
+        Located::Data {
+            slot: a,
+            subchannel: s,
+            index: m,
+        } => {
+            *kind = 3;
+            *slot = a as u32;
+            *subchannel = s as u32;
+            *index = m as u32;
+            0
+        }
+        Located::Refused(number) => number as u32,
+    }
+}
+
+#[no_mangle]
+pub extern "C" fn bp_places(
+    mode: u32,
+    size: u32,
+    cell: u32,
+    slot: u32,
+    subchannel: u32,
+    places: &mut [u32; 48],
+) -> u32
+    ensures { λ r. ⌜ record { refusal = r; row = now (places .exit) } ≡ placesOut (placesOf (record { mode = mode; size = size; cell = cell }) slot subchannel) (now (places .entry)) ⌝ }
+{
+    let of = c_boundary::setup(mode, size, cell);
+    let found = places::row(of, slot as usize, subchannel as usize);
+    let number = found.refusal;
+    if number != 0 {
+        return number as u32;
+    }
+    let row = found.places;
+    *places = row;
+    0
+}

@@ -1,0 +1,2 @@
+-- What a C call answers that is no refusal.
+pub mod Version

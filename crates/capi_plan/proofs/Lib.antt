@@ -1,0 +1,2 @@
+-- Laws of the C calls over zone plans.
+pub mod Plan
