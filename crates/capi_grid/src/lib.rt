@@ -1,11 +1,15 @@
-// The C calls that write a slot's grid, and those that empty it. Each returns 0, or document 01's refusal number; on a refusal nothing is written.
+// The C calls that write a slot's grid, those that empty it, and that which tells where a subchannel's points stand in it. Each
+// returns 0, or document 01's refusal number; on a refusal nothing is written.
 use points::Point;
 ghost use mathlib.Core.Path.{_≡_};
 ghost use Rattle.map.specs.declared.Setup.{Setup};
 ghost use Rattle.ground.specs.Ground.{groundOf};
 ghost use Rattle.lay.specs.Lay.{layOf};
 ghost use Rattle.empty.specs.Empty.{emptyOf, emptyFirstOf};
+ghost use Rattle.places.specs.Places.{placesOf};
+ghost use Rattle.c_boundary.specs.Row.{RowOut};
 ghost use Rattle.capi_grid.specs.Grid.{pairPoint};
+ghost use Rattle.capi_grid.specs.Places.{placesOut};
 
 #[no_mangle]
 pub extern "C" fn bp_ground(
@@ -83,4 +87,26 @@ pub extern "C" fn bp_empty_first(
     let mask = mask as usize;
     let number = empty::empty_first(of, mask, slot as usize, carriers as usize, grid, points);
     number as u32
+}
+
+#[no_mangle]
+pub extern "C" fn bp_places(
+    mode: u32,
+    size: u32,
+    cell: u32,
+    slot: u32,
+    subchannel: u32,
+    places: &mut [u32; 48],
+) -> u32
+    ensures { λ r. ⌜ record { refusal = r; row = now (places .exit) } ≡ placesOut (placesOf (record { mode = mode; size = size; cell = cell }) slot subchannel) (now (places .entry)) ⌝ }
+{
+    let of = c_boundary::setup(mode, size, cell);
+    let found = places::row(of, slot as usize, subchannel as usize);
+    let number = found.refusal;
+    if number != 0 {
+        return number as u32;
+    }
+    let row = found.places;
+    *places = row;
+    0
 }

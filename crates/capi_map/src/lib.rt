@@ -4,10 +4,7 @@ use map::Placed;
 ghost use mathlib.Core.Path.{_≡_};
 ghost use Rattle.map.specs.declared.Setup.{Setup};
 ghost use Rattle.map.specs.Place.{placeOf, locateOf};
-ghost use Rattle.places.specs.Places.{placesOf};
-ghost use Rattle.c_boundary.specs.Row.{RowOut};
 ghost use Rattle.capi_map.specs.Map.{PlaceOut, placeOut, LocateOut, locateOut};
-ghost use Rattle.capi_map.specs.Places.{placesOut};
 
 #[no_mangle]
 pub extern "C" fn bp_place(
@@ -86,26 +83,4 @@ pub extern "C" fn bp_locate(
         }
         Located::Refused(number) => number as u32,
     }
-}
-
-#[no_mangle]
-pub extern "C" fn bp_places(
-    mode: u32,
-    size: u32,
-    cell: u32,
-    slot: u32,
-    subchannel: u32,
-    places: &mut [u32; 48],
-) -> u32
-    ensures { λ r. ⌜ record { refusal = r; row = now (places .exit) } ≡ placesOut (placesOf (record { mode = mode; size = size; cell = cell }) slot subchannel) (now (places .entry)) ⌝ }
-{
-    let of = c_boundary::setup(mode, size, cell);
-    let found = places::row(of, slot as usize, subchannel as usize);
-    let number = found.refusal;
-    if number != 0 {
-        return number as u32;
-    }
-    let row = found.places;
-    *places = row;
-    0
 }
