@@ -13,13 +13,12 @@ use Rattle.base.specs.Rank.{rank}
 use Rattle.base.proofs.Test.{cases}
 use Rattle.base.proofs.Table.{all, all-at}
 use Rattle.base.proofs.Tabulate.{entry-of}
-use Rattle.pusc_dl.specs.Table.{renumbering}
 use Rattle.pusc_dl.specs.Cluster.{renumber}
 use Rattle.pusc_dl.specs.Group.{clusterStarts, subchannelStarts, groupIn, hasGroup}
 use Rattle.pusc_dl.specs.Map.{logicalOf, usedGroup}
 use Rattle.pusc_dl.specs.Model.{groupBits, clusterLit}
+use Rattle.pusc_dl.specs.declared.Logical.{Logical}
 use Rattle.pusc_dl.proofs.Group.{cluster-runs}
-use Rattle.pusc_dl.proofs.Tables.{r-perm}
 
 -- the lit subchannels: 12 for each even group, 8 for each odd one
 abbrev counted : ℕ → ℕ
@@ -39,16 +38,15 @@ bit-lit mask g h l =
     let f : ℕ → ℕ → Bool = λ m g. eqb (bit-in m (2 ^ g)) (pick (hasGroup m g) 1 0) in
     eqb→eq _ _ (all-at (f mask) 6 (all-at (λ m. all (f m) 6) 64 tt mask h) g l)
 
--- a cluster by the bit of its group, which stands in the table at its place in R
-pub cluster-lit : (bits : List ℕ) → bits ≡ groupBits → (cell mask p : ℕ) → mask < 64 → p < 120 → bit-in mask (entry bits (p + 13 * cell % 120)) ≡ clusterLit cell mask p
-unfolding clusterLit usedGroup logicalOf renumber
-cluster-lit bits e cell mask p h l =
-    let j = (p + 13 * cell % 120) % 120 in
-    let g = groupIn clusterStarts (entry renumbering j) in
-    let same : j ≡ (p * 14 / 14 + 13 * cell) % 120 = omega arith in
-    ap (bit-in mask) (entry-of bits 240 _ e (p + 13 * cell % 120) (omega arith))
-    ∙ bit-lit mask g h (cluster-runs .group-lt _ (r-perm .to-lt j (omega arith)))
-    ∙ ap (λ (i : ℕ). pick (hasGroup mask (groupIn clusterStarts (entry renumbering i))) 1 0) same
+-- a cluster by the bit of its group, which stands in the table at its logical number
+pub cluster-lit : (bits : List ℕ) → bits ≡ groupBits → (cell mask p : ℕ) (l : Logical) → mask < 64 → l ≡ renumber cell (record { 0 = p }) → l .0 < 120
+    → bit-in mask (entry bits (l .0)) ≡ clusterLit cell mask p
+unfolding clusterLit usedGroup logicalOf
+cluster-lit bits e cell mask p l h q lt =
+    let same : p ≡ p * 14 / 14 = omega arith in
+    ap (bit-in mask) (entry-of bits 120 _ e (l .0) lt)
+    ∙ bit-lit mask (groupIn clusterStarts (l .0)) h (cluster-runs .group-lt (l .0) lt)
+    ∙ ap (λ (l : Logical). pick (hasGroup mask (groupIn clusterStarts (l .0))) 1 0) (q ∙ ap (λ (x : ℕ). renumber cell (record { 0 = x })) same)
 
 -- 63 has every group
 pub all-groups : (starts : List ℕ) (x : ℕ) → hasGroup 63 (groupIn starts x) ≡ true

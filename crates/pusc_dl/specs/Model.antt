@@ -1,4 +1,6 @@
 -- How a row of spots, and the points of a cluster, are found fast. No reader needs this to know what the calls do.
+use mathlib.Core.Path.{_≡_}
+use mathlib.Core.Logic.{_⊎_}
 use mathlib.Core.List.{List, _++_}
 use Prim.Native.Nat.{ℕ, _+_, _-_, _*_, _/_, _%_, _^_}
 use lib.Dec.{ltb}
@@ -6,12 +8,16 @@ use Rattle.base.specs.Choice.{pick}
 use Rattle.base.specs.Steps.{entry, unrotate}
 use Rattle.base.specs.Tabulate.{tabulate}
 use Rattle.base.specs.Rank.{rank}
-use Rattle.pusc_dl.specs.Table.{renumbering, base12, base8}
+use Rattle.pusc_dl.specs.Table.{base12, base8}
 use Rattle.pusc_dl.specs.Cluster.{renumber, unrenumber, clusterPlace}
 use Rattle.pusc_dl.specs.Group.{clusterStarts, subchannelStarts, groupIn, groupSize, baseOf, baseInverse, groupData, groupSubchannel, groupIndex, hasGroup}
 use Rattle.pusc_dl.specs.Map.{groupUsed, usedGroup, addressOf}
 use Rattle.pusc_dl.specs.declared.Physical.{Physical}
 use Rattle.pusc_dl.specs.declared.Logical.{Logical}
+
+-- a table as a loop lends it: once, or twice over, so that the sum of two places needs no reduction
+abbrev pub OnceOrTwice : (table lent : List ℕ) → Type 0
+OnceOrTwice table lent = (lent ≡ table) ⊎ (lent ≡ table ++ table)
 
 -- the bases on past M, so that s + n needs no reduction
 abbrev pub base12Thrice : List ℕ
@@ -34,9 +40,9 @@ groupCluster cell g i =
 unfoldable pub groupSpot : (cell g s index : ℕ) → ℕ
 groupSpot cell g s index = index / 24 * 2048 + groupUsed cell (index / 24) g (groupData (groupSize g) cell s (index % 24))
 
--- R's places by the bit of the group of the logical cluster there, twice over
+-- the bit of the group of each logical cluster, by its number
 abbrev pub groupBits : List ℕ
-groupBits = tabulate 240 (λ j. 2 ^ groupIn clusterStarts (entry renumbering (j % 120)))
+groupBits = tabulate 120 (λ l. 2 ^ groupIn clusterStarts l)
 
 -- 1 where a mask lights physical cluster p, whose used numbers are 14p to 14p+13
 unfoldable pub clusterLit : (cell mask p : ℕ) → ℕ
@@ -63,16 +69,16 @@ abbrev pub groupRank : (mask g : ℕ) → ℕ
 groupRank mask g = subchannelRank mask (entry subchannelStarts g)
 
 -- a logical cluster as one number: the rank of its group's first subchannel, whether the group is an odd one, and the cluster's place in it
-unfoldable pub logicalEntry : (mask l : ℕ) → ℕ
+unfoldable pub logicalEntry : (mask : ℕ) (l : Logical) → ℕ
 logicalEntry mask l =
-    let g = groupIn clusterStarts l in
-    groupRank mask g * 64 + (g % 2 * 32 + (l - entry clusterStarts g))
+    let g = groupIn clusterStarts (l .0) in
+    groupRank mask g * 64 + (g % 2 * 32 + (l .0 - entry clusterStarts g))
 
 -- and physical cluster p
 unfoldable pub clusterEntry : (cell mask p : ℕ) → ℕ
 clusterEntry cell mask p =
     let physical : Physical = record { 0 = p } in
-    logicalEntry mask (renumber cell physical .0)
+    logicalEntry mask (renumber cell physical)
 
 -- the number of the point on data place r of physical cluster p, among those of the subchannels that a mask lights
 unfoldable pub clusterNumber : (cell mask offset p r : ℕ) → ℕ
