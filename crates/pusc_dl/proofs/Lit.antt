@@ -12,11 +12,10 @@ use Rattle.base.specs.Steps.{entry}
 use Rattle.base.specs.Rank.{rank}
 use Rattle.base.proofs.Test.{cases}
 use Rattle.base.proofs.Table.{all, all-at}
-use Rattle.base.proofs.Tabulate.{entry-of}
 use Rattle.pusc_dl.specs.Cluster.{renumber}
 use Rattle.pusc_dl.specs.Group.{clusterStarts, subchannelStarts, groupIn, hasGroup}
 use Rattle.pusc_dl.specs.Map.{logicalOf, usedGroup}
-use Rattle.pusc_dl.specs.Model.{groupBits, clusterLit}
+use Rattle.pusc_dl.specs.Model.{clusterLit}
 use Rattle.pusc_dl.specs.declared.Logical.{Logical}
 use Rattle.pusc_dl.proofs.Group.{cluster-runs}
 
@@ -38,13 +37,22 @@ bit-lit mask g h l =
     let f : ℕ → ℕ → Bool = λ m g. eqb (bit-in m (2 ^ g)) (pick (hasGroup m g) 1 0) in
     eqb→eq _ _ (all-at (f mask) 6 (all-at (λ m. all (f m) 6) 64 tt mask h) g l)
 
--- a cluster by the bit of its group, which stands in the table at its logical number
-pub cluster-lit : (bits : List ℕ) → bits ≡ groupBits → (cell mask p : ℕ) (l : Logical) → mask < 64 → l ≡ renumber cell (record { 0 = p }) → l .0 < 120
-    → bit-in mask (entry bits (l .0)) ≡ clusterLit cell mask p
+-- the bit of a logical cluster's group: 1 and the bits of the groups below sum up to it
+abbrev past : ℕ → ℕ → ℕ → ℕ
+past bound n x = pick (ltb n bound) 0 x
+
+pub group-bit : (l : ℕ) → l < 120 → 1 + past 24 l 1 + past 40 l 2 + past 64 l 4 + past 80 l 8 + past 104 l 16 ≡ 2 ^ groupIn clusterStarts l
+unfolding groupIn
+group-bit l h =
+    eqb→eq _ _ (all-at (λ l. eqb (1 + past 24 l 1 + past 40 l 2 + past 64 l 4 + past 80 l 8 + past 104 l 16) (2 ^ groupIn clusterStarts l)) 120 tt l h)
+
+-- a physical cluster by the bit of its group
+pub cluster-lit : (cell mask p bit : ℕ) (l : Logical) → mask < 64 → l ≡ renumber cell (record { 0 = p }) → l .0 < 120 → bit ≡ 2 ^ groupIn clusterStarts (l .0)
+    → bit-in mask bit ≡ clusterLit cell mask p
 unfolding clusterLit usedGroup logicalOf
-cluster-lit bits e cell mask p l h q lt =
+cluster-lit cell mask p bit l h q lt e =
     let same : p ≡ p * 14 / 14 = omega arith in
-    ap (bit-in mask) (entry-of bits 120 _ e (l .0) lt)
+    ap (bit-in mask) e
     ∙ bit-lit mask (groupIn clusterStarts (l .0)) h (cluster-runs .group-lt (l .0) lt)
     ∙ ap (λ (l : Logical). pick (hasGroup mask (groupIn clusterStarts (l .0))) 1 0) (q ∙ ap (λ (x : ℕ). renumber cell (record { 0 = x })) same)
 

@@ -30,7 +30,7 @@ base8FourTimes = base8 ++ (base8 ++ (base8 ++ base8))
 unfoldable pub turnedBase : (g cell i : ℕ) → ℕ
 turnedBase g cell i = (baseOf (groupSize g) (i % groupSize g) + cell) % groupSize g
 
--- the first used number of cluster i of group g
+-- the first used number of the cluster whose place in group g is i
 unfoldable pub groupCluster : (cell g i : ℕ) → ℕ
 groupCluster cell g i =
     let logical : Logical = record { 0 = entry clusterStarts g + i } in
@@ -39,10 +39,6 @@ groupCluster cell g i =
 -- the spot of point `index` of subchannel s, counted in group g, as a number
 unfoldable pub groupSpot : (cell g s index : ℕ) → ℕ
 groupSpot cell g s index = index / 24 * 2048 + groupUsed cell (index / 24) g (groupData (groupSize g) cell s (index % 24))
-
--- the bit of the group of each logical cluster, by its number
-abbrev pub groupBits : List ℕ
-groupBits = tabulate 120 (λ l. 2 ^ groupIn clusterStarts l)
 
 -- 1 where a mask lights physical cluster p, whose used numbers are 14p to 14p+13
 unfoldable pub clusterLit : (cell mask p : ℕ) → ℕ

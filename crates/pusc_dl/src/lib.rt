@@ -12,7 +12,9 @@ use carriers::Spot;
 ghost use mathlib.Core.Path.{_≡_};
 ghost use mathlib.Core.Bool.{true, false};
 ghost use mathlib.Core.List.{_++_};
-ghost use Prim.Native.Nat.{_+_, _*_, _/_, _%_, _<_};
+ghost use Prim.Native.Nat.{_+_, _*_, _/_, _%_, _^_, _<_, _≤_};
+ghost use lib.Dec.{ltb};
+ghost use Rattle.base.specs.Choice.{pick};
 ghost use Rattle.base.specs.Steps.{entry, unrotate as Unrotate};
 ghost use Rattle.base.specs.Tabulate.{tabulate};
 ghost use Rattle.base.specs.Rank.{rank};
@@ -365,130 +367,6 @@ const SUBCHANNEL_STARTS: [usize; 6] = [0, 12, 20, 32, 40, 52];
 // The bits of the groups below each.
 const LOWER_GROUPS: [usize; 6] = [0, 1, 3, 7, 15, 31];
 
-// The bit of the major group of each logical cluster.
-const GROUP_BITS: [u8; 120] = [
-    1,
-    1,
-    1,
-    1,
-    1,
-    1,
-    1,
-    1,
-    1,
-    1,
-    1,
-    1,
-    1,
-    1,
-    1,
-    1,
-    1,
-    1,
-    1,
-    1,
-    1,
-    1,
-    1,
-    1,
-    2,
-    2,
-    2,
-    2,
-    2,
-    2,
-    2,
-    2,
-    2,
-    2,
-    2,
-    2,
-    2,
-    2,
-    2,
-    2,
-    4,
-    4,
-    4,
-    4,
-    4,
-    4,
-    4,
-    4,
-    4,
-    4,
-    4,
-    4,
-    4,
-    4,
-    4,
-    4,
-    4,
-    4,
-    4,
-    4,
-    4,
-    4,
-    4,
-    4,
-    8,
-    8,
-    8,
-    8,
-    8,
-    8,
-    8,
-    8,
-    8,
-    8,
-    8,
-    8,
-    8,
-    8,
-    8,
-    8,
-    16,
-    16,
-    16,
-    16,
-    16,
-    16,
-    16,
-    16,
-    16,
-    16,
-    16,
-    16,
-    16,
-    16,
-    16,
-    16,
-    16,
-    16,
-    16,
-    16,
-    16,
-    16,
-    16,
-    16,
-    32,
-    32,
-    32,
-    32,
-    32,
-    32,
-    32,
-    32,
-    32,
-    32,
-    32,
-    32,
-    32,
-    32,
-    32,
-    32,
-];
-
 // The renumbering, by the caller's copy of R, once or twice over.
 fn renumber(table: &[u8], cell: usize, p: Physical) -> Logical
     requires { ⌜ OnceOrTwice renumbering (now table) × (cell < 32) × (p .0 < 120) ⌝ }
@@ -750,7 +628,7 @@ pub fn address(cell: usize, offset: usize, used: usize) -> Address
     }
 }
 
-// The first used number of each cluster of a group.
+// The first used number of each cluster of a group, by its place in the group.
 fn group_clusters(cell: usize, g: usize) -> [u16; 24]
     requires { ⌜ (cell < 32) × (g < 6) ⌝ }
     ensures { λ r. ⌜ Starts (2 * groupSize g) (groupCluster cell g) r ⌝ }
@@ -867,20 +745,41 @@ pub fn lit_subchannels(mask: usize) -> usize
     12 * even + 8 * odd
 }
 
+// x from a bound on, and 0 below it.
+fn past(bound: usize, n: usize, x: u8) -> u8
+    ensures { λ r. ⌜ r ≡ pick (ltb n bound) 0 x ⌝ }
+    ensures { λ r. ⌜ r ≤ x ⌝ }
+{
+    if n < bound { 0 } else { x }
+}
+
+// The bit of a logical cluster's group, without a branch: 1 and the bits of the groups below sum up to it.
+fn group_bit(logical: Logical) -> u8
+    requires { ⌜ logical .0 < 120 ⌝ }
+    ensures { λ r. ⌜ r ≡ 2 ^ groupIn clusterStarts (logical .0) ⌝ }
+{
+    let starts = CLUSTER_STARTS;
+    let l = logical.0;
+    1
+        + past(starts[1], l, 1)
+        + past(starts[2], l, 2)
+        + past(starts[3], l, 4)
+        + past(starts[4], l, 8)
+        + past(starts[5], l, 16)
+}
+
 // Which physical clusters a mask lights, 1 for each that it does.
 pub fn lit_clusters(cell: usize, mask: usize) -> [u8; 120]
     requires { ⌜ (cell < 32) × (mask < 64) ⌝ }
     ensures { λ r. ⌜ r ≡ tabulate 120 (clusterLit cell mask) ⌝ }
 {
     let table = renumbering_twice();
-    let bits = GROUP_BITS;
     let own = mask as u8;
     let mut lit = [0; 120];
     let mut p = 0;
     while p < 120 {
         let logical = renumber(&table, cell, Physical(p));
-        let l = logical.0;
-        lit[p] = (own & bits[l] != 0) as u8;
+        lit[p] = (own & group_bit(logical) != 0) as u8;
         p += 1;
     }
     lit
@@ -931,7 +830,7 @@ fn group_ranks(mask: usize) -> [u16; 6]
     ranks
 }
 
-// What a cluster's points need of it, by the ranks of the groups' first subchannels.
+// What a cluster's points need of it, its group and its place there, by the ranks of the groups' first subchannels.
 fn logical_entry(ranks: &[u16; 6], mask: usize, logical: Logical) -> u16
     requires { ⌜ (now ranks ≡ tabulate 6 (groupRank mask)) × (logical .0 < 120) ⌝ }
     ensures { λ r. ⌜ r ≡ logicalEntry mask logical ⌝ }
