@@ -9,15 +9,19 @@ use lib.Bits.{bitAnd}
 use mir.Val.{boolByte}
 use Rattle.base.specs.Choice.{pick}
 use Rattle.base.specs.Steps.{entry}
+use Rattle.base.specs.Tabulate.{tabulate}
 use Rattle.base.specs.Rank.{rank}
 use Rattle.base.proofs.Test.{cases}
 use Rattle.base.proofs.Table.{all, all-at}
+use Rattle.base.proofs.Tabulate.{entry-of}
 use Rattle.pusc_dl.specs.Cluster.{renumber}
 use Rattle.pusc_dl.specs.Group.{clusterStarts, subchannelStarts, groupIn, hasGroup}
 use Rattle.pusc_dl.specs.Map.{logicalOf, usedGroup}
-use Rattle.pusc_dl.specs.Model.{clusterLit}
+use Rattle.pusc_dl.specs.Model.{groupBit, clusterLit}
+use Rattle.pusc_dl.specs.declared.Physical.{Physical}
 use Rattle.pusc_dl.specs.declared.Logical.{Logical}
 use Rattle.pusc_dl.proofs.Group.{cluster-runs}
+use Rattle.pusc_dl.proofs.Law.{renumbering}
 
 -- the lit subchannels: 12 for each even group, 8 for each odd one
 abbrev counted : ℕ → ℕ
@@ -46,15 +50,23 @@ unfolding groupIn
 group-bit l h =
     eqb→eq _ _ (all-at (λ l. eqb (1 + past 24 l 1 + past 40 l 2 + past 64 l 4 + past 80 l 8 + past 104 l 16) (2 ^ groupIn clusterStarts l)) 120 tt l h)
 
--- a physical cluster by the bit of its group
-pub cluster-lit : (cell mask p bit : ℕ) (l : Logical) → mask < 64 → l ≡ renumber cell (record { 0 = p }) → l .0 < 120 → bit ≡ 2 ^ groupIn clusterStarts (l .0)
-    → bit-in mask bit ≡ clusterLit cell mask p
-unfolding clusterLit usedGroup logicalOf
-cluster-lit cell mask p bit l h q lt e =
+-- a physical cluster of any cell is numbered as another is in cell 0
+same-logical : (cell p : ℕ) → renumber 0 (record { 0 = (p + 13 * cell % 120) % 120 }) ≡ renumber cell (record { 0 = p })
+unfolding renumber
+same-logical cell p = let same : ((p + 13 * cell % 120) % 120 + 13 * 0) % 120 ≡ (p + 13 * cell) % 120 = omega arith in rw same
+
+-- so it is lit by the bit that stands there
+pub cluster-lit : (bits : List ℕ) → bits ≡ tabulate 240 groupBit → (cell mask p : ℕ) → mask < 64 → p < 120 → bit-in mask (entry bits (p + 13 * cell % 120)) ≡ clusterLit cell mask p
+unfolding groupBit clusterLit usedGroup logicalOf
+cluster-lit bits e cell mask p h l =
+    let j = p + 13 * cell % 120 in
+    let at : ℕ → Physical = λ x. record { 0 = x } in
+    let lit : Logical → ℕ = λ l. pick (hasGroup mask (groupIn clusterStarts (l .0))) 1 0 in
     let same : p ≡ p * 14 / 14 = omega arith in
-    ap (bit-in mask) e
-    ∙ bit-lit mask (groupIn clusterStarts (l .0)) h (cluster-runs .group-lt (l .0) lt)
-    ∙ ap (λ (l : Logical). pick (hasGroup mask (groupIn clusterStarts (l .0))) 1 0) (q ∙ ap (λ (x : ℕ). renumber cell (record { 0 = x })) same)
+    let logical = renumber 0 (at (j % 120)) in
+    ap (bit-in mask) (entry-of bits 240 groupBit e j (omega arith))
+    ∙ bit-lit mask (groupIn clusterStarts (logical .0)) h (cluster-runs .group-lt (logical .0) (renumbering .logical-lt 0 (at (j % 120)) (omega arith)))
+    ∙ ap lit (same-logical cell p ∙ ap (λ (x : ℕ). renumber cell (at x)) same)
 
 -- 63 has every group
 pub all-groups : (starts : List ℕ) (x : ℕ) → hasGroup 63 (groupIn starts x) ≡ true

@@ -1,8 +1,7 @@
--- R and the bases B are permutations, by one computed test for each direction; R as it is lent and a base go on past their end; and pilots go by the parity of the symbol.
+-- R and the bases B are permutations, by one computed test for each direction; a base goes on past M; and pilots go by the parity of the symbol.
 use mathlib.Core.Path.{_≡_, refl}
-use mathlib.Core.Logic.{⊎-elim}
-use mathlib.Core.List.{List, _++_}
-use Prim.Native.Nat.{ℕ, _+_, _*_, _%_, _<_, _≤_}
+use mathlib.Core.List.{List}
+use Prim.Native.Nat.{ℕ, _+_, _*_, _%_, _<_}
 use native.Mathlib.Nat.{mod-lt}
 use native.Mathlib.Omega.{arith}
 use lib.Dec.{T, eqb, eqb→eq, lit<}
@@ -13,7 +12,7 @@ use Rattle.base.proofs.Table.{all, all-at, table-perm}
 use Rattle.pusc_dl.specs.Table.{renumbering, renumberingInverse, base12, base12Inverse, base8, base8Inverse}
 use Rattle.pusc_dl.specs.Cluster.{isClusterPilot, firstPilot, secondPilot}
 use Rattle.pusc_dl.specs.Law.{Permutation, TableRules}
-use Rattle.pusc_dl.specs.Model.{OnceOrTwice, base12Thrice, base8FourTimes}
+use Rattle.pusc_dl.specs.Model.{base12Thrice, base8FourTimes}
 
 pub r-perm : Perm 120 (entry renumbering) (entry renumberingInverse)
 r-perm = table-perm 120 renumbering renumberingInverse refl refl tt tt
@@ -37,7 +36,7 @@ tables =
       base8 = rule 8 base8 base8Inverse refl b8-perm;
     }
 
--- a table on past its end M goes by i mod M
+-- a base on past M goes by i mod M
 pub record GoesOn (m n : ℕ) (long base : List ℕ) : Type 0 where
   pub is : (i : ℕ) → i < n → entry long i ≡ entry base (i % m)
   pub below : (i : ℕ) → i < n → entry long i < m
@@ -53,20 +52,6 @@ b12-goes-on = goes-on 12 36 base12Thrice base12 base12Inverse (lit< tt) tt b12-p
 
 pub b8-goes-on : GoesOn 8 32 base8FourTimes base8
 b8-goes-on = goes-on 8 32 base8FourTimes base8 base8Inverse (lit< tt) tt b8-perm
-
-twice-goes-on : GoesOn 120 240 (renumbering ++ renumbering) renumbering
-twice-goes-on = goes-on 120 240 (renumbering ++ renumbering) renumbering renumberingInverse (lit< tt) tt r-perm
-
--- R as a caller lends it, at a sum of two places
-pub record Lent (table : List ℕ) : Type 0 where
-  pub long : 120 ≤ length table
-  pub is : (x : ℕ) → x < 240 → entry table (x % length table) ≡ entry renumbering (x % 120)
-
-pub lent : (table : List ℕ) → OnceOrTwice renumbering table → Lent table
-lent table =
-    ⊎-elim
-    (λ e. rw e (record { long = omega arith; is = λ x h. refl }))
-    (λ e. rw e (record { long = omega arith; is = λ x h. let same : x % 240 ≡ x = omega arith in rw same (twice-goes-on .is x h) }))
 
 -- the starts of the six groups by their formula, a·g + b·(g mod 2), by one computed test for each list
 pub start-is : (starts : List ℕ) (a b : ℕ) → T (all (λ g. eqb (a * g + b * (g % 2)) (entry starts g)) 6) → (g : ℕ) → g < 6 → a * g + b * (g % 2) ≡ entry starts g

@@ -1,6 +1,4 @@
 -- How a row of spots, and the points of a cluster, are found fast. No reader needs this to know what the calls do.
-use mathlib.Core.Path.{_≡_}
-use mathlib.Core.Logic.{_⊎_}
 use mathlib.Core.List.{List, _++_}
 use Prim.Native.Nat.{ℕ, _+_, _-_, _*_, _/_, _%_, _^_}
 use lib.Dec.{ltb}
@@ -14,10 +12,6 @@ use Rattle.pusc_dl.specs.Group.{clusterStarts, subchannelStarts, groupIn
 use Rattle.pusc_dl.specs.Map.{groupUsed, usedGroup, addressOf}
 use Rattle.pusc_dl.specs.declared.Physical.{Physical}
 use Rattle.pusc_dl.specs.declared.Logical.{Logical}
-
--- a table as a loop lends it: once, or twice over, so that the sum of two places needs no reduction
-abbrev pub OnceOrTwice : (table lent : List ℕ) → Type 0
-OnceOrTwice table lent = (lent ≡ table) ⊎ (lent ≡ table ++ table)
 
 -- the bases on past M, so that s + n needs no reduction
 abbrev pub base12Thrice : List ℕ
@@ -39,6 +33,12 @@ groupCluster cell g i =
 -- the spot of point `index` of subchannel s, counted in group g, as a number
 unfoldable pub groupSpot : (cell g s index : ℕ) → ℕ
 groupSpot cell g s index = index / 24 * 2048 + groupUsed cell (index / 24) g (groupData (groupSize g) cell s (index % 24))
+
+-- the bit of the group of physical cluster p of cell 0, where p is counted on past 120
+unfoldable pub groupBit : (p : ℕ) → ℕ
+groupBit p =
+    let physical : Physical = record { 0 = p % 120 } in
+    2 ^ groupIn clusterStarts (renumber 0 physical .0)
 
 -- 1 where a mask lights physical cluster p, whose used numbers are 14p to 14p+13
 unfoldable pub clusterLit : (cell mask p : ℕ) → ℕ

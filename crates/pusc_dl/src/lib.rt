@@ -11,7 +11,6 @@ use carriers::Address;
 use carriers::Spot;
 ghost use mathlib.Core.Path.{_≡_};
 ghost use mathlib.Core.Bool.{true, false};
-ghost use mathlib.Core.List.{_++_};
 ghost use Prim.Native.Nat.{_+_, _*_, _/_, _%_, _^_, _<_, _≤_};
 ghost use lib.Dec.{ltb};
 ghost use Rattle.base.specs.Choice.{pick};
@@ -25,7 +24,7 @@ ghost use Rattle.pusc_dl.specs.Cluster as cluster;
 ghost use Rattle.pusc_dl.specs.Cluster.{firstPilot, secondPilot, isClusterPilot, clusterPlace, clusterData};
 ghost use Rattle.pusc_dl.specs.Group.{clusterStarts, subchannelStarts, groupIn, groupSize, ofSize, groupData, groupSubchannel, groupIndex, hasGroup};
 ghost use Rattle.pusc_dl.specs.Map.{groupUsed, usedGroup, usedData, spotOf, addressOf};
-ghost use Rattle.pusc_dl.specs.Model.{OnceOrTwice, base12Thrice, base8FourTimes, turnedBase, groupCluster, groupSpot, clusterLit, turnedInverse, inverseEntry, groupNumber, groupRank, logicalEntry, clusterEntry, clusterNumber};
+ghost use Rattle.pusc_dl.specs.Model.{base12Thrice, base8FourTimes, turnedBase, groupCluster, groupSpot, groupBit, clusterLit, turnedInverse, inverseEntry, groupNumber, groupRank, logicalEntry, clusterEntry, clusterNumber};
 
 // A cluster's number in the order of the carriers, and its number after the renumbering. They are never added or compared, and
 // `renumber` and `unrenumber` are the only passage between them.
@@ -367,12 +366,12 @@ const SUBCHANNEL_STARTS: [usize; 6] = [0, 12, 20, 32, 40, 52];
 // The bits of the groups below each.
 const LOWER_GROUPS: [usize; 6] = [0, 1, 3, 7, 15, 31];
 
-// The renumbering, by the caller's copy of R, once or twice over.
-fn renumber(table: &[u8], cell: usize, p: Physical) -> Logical
-    requires { ⌜ OnceOrTwice renumbering (now table) × (cell < 32) × (p .0 < 120) ⌝ }
+// The renumbering, by the caller's copy of R.
+fn renumber(table: &[u8; 120], cell: usize, p: Physical) -> Logical
+    requires { ⌜ (now table ≡ renumbering) × (cell < 32) × (p .0 < 120) ⌝ }
     ensures { λ r. ⌜ (r ≡ cluster.renumber cell p) × (r .0 < 120) ⌝ }
 {
-    let i = reduce(table.len(), p.0 + 13 * cell % 120);
+    let i = reduce(120, p.0 + 13 * cell % 120);
     Logical(wide(table[i]))
 }
 
@@ -383,21 +382,6 @@ fn unrenumber(inverse: &[u8; 120], cell: usize, l: Logical) -> Physical
 {
     let i = l.0;
     Physical(wide16(reduce16(120, inverse[i] as u16 + (120 - 13 * cell % 120) as u16)))
-}
-
-// R twice over, for a loop whose sums then need no reduction.
-fn renumbering_twice() -> [u8; 240]
-    ensures { λ r. ⌜ r ≡ renumbering ++ renumbering ⌝ }
-{
-    let once = RENUMBERING;
-    let mut twice = [0; 240];
-    let mut i = 0;
-    while i < 120 {
-        twice[i] = once[i];
-        twice[i + 120] = once[i];
-        i += 1;
-    }
-    twice
 }
 
 // The two pilots of a cluster.
@@ -768,18 +752,35 @@ fn group_bit(logical: Logical) -> u8
         + past(starts[5], l, 16)
 }
 
+// The bits of the groups of the physical clusters in cell 0, twice over so that no sum is reduced: cluster p of a cell has the
+// logical number of cluster (p + 13·cell) mod 120 of cell 0.
+fn group_bits() -> [u8; 240]
+    ensures { λ r. ⌜ r ≡ tabulate 240 groupBit ⌝ }
+{
+    let table = RENUMBERING;
+    let mut bits = [0; 240];
+    let mut p = 0;
+    while p < 120 {
+        let bit = group_bit(renumber(&table, 0, Physical(p)));
+        bits[p] = bit;
+        bits[p + 120] = bit;
+        p += 1;
+    }
+    bits
+}
+
 // Which physical clusters a mask lights, 1 for each that it does.
 pub fn lit_clusters(cell: usize, mask: usize) -> [u8; 120]
     requires { ⌜ (cell < 32) × (mask < 64) ⌝ }
     ensures { λ r. ⌜ r ≡ tabulate 120 (clusterLit cell mask) ⌝ }
 {
-    let table = renumbering_twice();
+    let bits = group_bits();
     let own = mask as u8;
+    let turn = 13 * cell % 120;
     let mut lit = [0; 120];
     let mut p = 0;
     while p < 120 {
-        let logical = renumber(&table, cell, Physical(p));
-        lit[p] = (own & group_bit(logical) != 0) as u8;
+        lit[p] = (own & bits[p + turn] != 0) as u8;
         p += 1;
     }
     lit

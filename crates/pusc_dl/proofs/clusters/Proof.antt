@@ -1,6 +1,5 @@
 -- `pusc_dl::clusters` meets its contract.
 use mathlib.Core.Path.{_≡_, refl, ap, _∙_}
-use mathlib.Core.Logic.{inl}
 use Prim.Native.Nat.{_-_}
 use native.Mathlib.Omega.{arith}
 use borrow.Author.Needs.{needs}
@@ -25,7 +24,7 @@ pub clusters-spec : {M : Type 1} → statement M
 clusters-spec =
     tie.close
     (tie.spec
-    Inv-loop μ-loop (λ c κs. search needs) (λ c. written-none 120 _) (λ c. search needs) (λ c κs. (inl refl, search needs, c .before .loop-test .taken))
+    Inv-loop μ-loop (λ c κs. search needs) (λ c. written-none 120 _) (λ c κs. (refl, search needs, c .before .loop-test .taken))
     (λ c κs. (c .before .before .before .before .before .group-ranks .ensures, c .before .renumber .ensures .1))
     (λ c. search needs) (λ c. search needs) (λ c. search needs) (λ c. search needs) loop-again
     (λ c. written-starts (c .before .loop .inv) 120 (c .loop-test .left)))
