@@ -583,7 +583,7 @@ struct Datum {
     number: usize,
 }
 
-// The reverse: the group data number of a used number that is no pilot.
+// The reverse: the group data number of a used number that is no pilot, by its cluster's place in the group.
 fn used_data(cell: usize, symbol: usize, used: usize) -> Datum
     requires { ⌜ (cell < 32) × (symbol < 2) × (used < 1680) × (isClusterPilot symbol used ≡ false) ⌝ }
     ensures { λ r. ⌜ (r .group ≡ usedGroup cell used) × (r .number ≡ usedData cell symbol used) ⌝ }
@@ -753,7 +753,7 @@ fn group_bit(logical: Logical) -> u8
 }
 
 // The bits of the groups of the physical clusters in cell 0, twice over so that no sum is reduced: cluster p of a cell has the
-// logical number of cluster (p + 13·cell) mod 120 of cell 0.
+// logical number of cluster (p + 13·cell) mod 120 of cell 0. Nothing here depends on a call, so the compiler works it all out.
 fn group_bits() -> [u8; 240]
     ensures { λ r. ⌜ r ≡ tabulate 240 groupBit ⌝ }
 {
