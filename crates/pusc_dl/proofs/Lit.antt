@@ -56,15 +56,15 @@ unfolding renumber
 same-logical cell p = let same : ((p + 13 * cell % 120) % 120 + 13 * 0) % 120 ≡ (p + 13 * cell) % 120 = omega arith in rw same
 
 -- so it is lit by the bit that stands there
-pub cluster-lit : (bits : List ℕ) → bits ≡ tabulate 240 groupBit → (cell mask p : ℕ) → mask < 64 → p < 120 → bit-in mask (entry bits (p + 13 * cell % 120)) ≡ clusterLit cell mask p
+pub cluster-lit : (once bits : List ℕ) → once ≡ tabulate 120 groupBit → bits ≡ tabulate 240 (λ j. entry once (j % 120)) → (cell mask p : ℕ) → mask < 64 → p < 120 → bit-in mask (entry bits (p + 13 * cell % 120)) ≡ clusterLit cell mask p
 unfolding groupBit clusterLit usedGroup logicalOf
-cluster-lit bits e cell mask p h l =
+cluster-lit once bits e e′ cell mask p h l =
     let j = p + 13 * cell % 120 in
     let at : ℕ → Physical = λ x. record { 0 = x } in
     let lit : Logical → ℕ = λ l. pick (hasGroup mask (groupIn clusterStarts (l .0))) 1 0 in
     let same : p ≡ p * 14 / 14 = omega arith in
     let logical = renumber 0 (at (j % 120)) in
-    ap (bit-in mask) (entry-of bits 240 groupBit e j (omega arith))
+    ap (bit-in mask) (entry-of bits 240 _ e′ j (omega arith) ∙ entry-of once 120 groupBit e (j % 120) (omega arith))
     ∙ bit-lit mask (groupIn clusterStarts (logical .0)) h (cluster-runs .group-lt (logical .0) (renumbering .logical-lt 0 (at (j % 120)) (omega arith)))
     ∙ ap lit (same-logical cell p ∙ ap (λ (x : ℕ). renumber cell (at x)) same)
 

@@ -34,10 +34,10 @@ groupCluster cell g i =
 unfoldable pub groupSpot : (cell g s index : ℕ) → ℕ
 groupSpot cell g s index = index / 24 * 2048 + groupUsed cell (index / 24) g (groupData (groupSize g) cell s (index % 24))
 
--- the bit of the group of physical cluster p of cell 0, where p is counted on past 120
+-- the bit of the group of physical cluster p of cell 0
 unfoldable pub groupBit : (p : ℕ) → ℕ
 groupBit p =
-    let physical : Physical = record { 0 = p % 120 } in
+    let physical : Physical = record { 0 = p } in
     2 ^ groupIn clusterStarts (renumber 0 physical .0)
 
 -- 1 where a mask lights physical cluster p, whose used numbers are 14p to 14p+13

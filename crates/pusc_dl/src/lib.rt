@@ -752,29 +752,42 @@ fn group_bit(logical: Logical) -> u8
         + past(starts[5], l, 16)
 }
 
-// The bits of the groups of the physical clusters in cell 0, twice over so that no sum is reduced: cluster p of a cell has the
-// logical number of cluster (p + 13·cell) mod 120 of cell 0. Nothing here depends on a call, so the compiler works it all out.
-fn group_bits() -> [u8; 240]
-    ensures { λ r. ⌜ r ≡ tabulate 240 groupBit ⌝ }
+// The bits of the groups of the physical clusters in cell 0. Nothing here depends on a call, so the compiler works it all out.
+fn group_bits() -> [u8; 120]
+    ensures { λ r. ⌜ r ≡ tabulate 120 groupBit ⌝ }
 {
     let table = RENUMBERING;
-    let mut bits = [0; 240];
+    let mut bits = [0; 120];
     let mut p = 0;
     while p < 120 {
-        let bit = group_bit(renumber(&table, 0, Physical(p)));
-        bits[p] = bit;
-        bits[p + 120] = bit;
+        bits[p] = group_bit(renumber(&table, 0, Physical(p)));
         p += 1;
     }
     bits
 }
 
-// Which physical clusters a mask lights, 1 for each that it does.
+// A row twice over, so that a sum of two places needs no reduction.
+fn twice(once: &[u8; 120]) -> [u8; 240]
+    ensures { λ r. ⌜ r ≡ tabulate 240 (λ j. entry (now (once .entry)) (j % 120)) ⌝ }
+{
+    let mut row = [0; 240];
+    let mut i = 0;
+    while i < 120 {
+        row[i] = once[i];
+        row[i + 120] = once[i];
+        i += 1;
+    }
+    row
+}
+
+// Which physical clusters a mask lights, 1 for each that it does: cluster p of a cell has the logical number of cluster
+// (p + 13·cell) mod 120 of cell 0.
 pub fn lit_clusters(cell: usize, mask: usize) -> [u8; 120]
     requires { ⌜ (cell < 32) × (mask < 64) ⌝ }
     ensures { λ r. ⌜ r ≡ tabulate 120 (clusterLit cell mask) ⌝ }
 {
-    let bits = group_bits();
+    let once = group_bits();
+    let bits = twice(&once);
     let own = mask as u8;
     let turn = 13 * cell % 120;
     let mut lit = [0; 120];

@@ -15,15 +15,16 @@ abbrev μ-loop : tie.MeasureT-loop
 
 loop-again : tie.Need-loop-again Inv-loop μ-loop
 loop-again c =
-    let made = c .before .before in
+    let doubled = c .before .before in
+    let made = doubled .before .before in
     let start = made .before in
     written-next (c .before .loop .inv) (c .loop-test .taken) _
-    (cluster-lit _ (made .group-bits .ensures) (start .args .cell) (start .args .mask) (c .before .loop .p) (start .pre .1) (c .loop-test .taken))
+    (cluster-lit _ _ (made .group-bits .ensures) (doubled .twice .ensures) (start .args .cell) (start .args .mask) (c .before .loop .p) (start .pre .1) (c .loop-test .taken))
 
 pub lit-clusters-spec : {M : Type 1} → statement M
 lit-clusters-spec =
     tie.close
     (tie.spec
-    Inv-loop μ-loop (λ c κs. search needs) (λ c. search needs) (λ c. search needs) (λ c. written-none 120 _) (λ c. search needs) (λ c. search needs)
+    Inv-loop μ-loop (λ c κs. search needs) (λ c κs. search needs) (λ c. search needs) (λ c. search needs) (λ c. written-none 120 _) (λ c. search needs) (λ c. search needs)
     (λ c. search needs) (λ c. search needs) (λ c. search needs) (λ c. search needs) loop-again
     (λ c. written-all (c .before .loop .inv) (c .loop-test .left)))
