@@ -21,6 +21,7 @@ use Rattle.pusc_dl.specs.Group.{clusterStarts, subchannelStarts, groupIn
 use Rattle.pusc_dl.specs.Map.{addressOf, logicalOf, usedGroup, usedData}
 use Rattle.pusc_dl.specs.Model.{turnedInverse, inverseEntry, groupNumber, subchannelRank, groupRank, logicalEntry, clusterEntry, clusterNumber}
 use Rattle.pusc_dl.specs.declared.Physical.{Physical}
+use Rattle.pusc_dl.specs.declared.Logical.{Logical}
 use Rattle.pusc_dl.proofs.Tables.{b12-perm, b8-perm}
 use Rattle.pusc_dl.proofs.Cluster.{OnPlace, on-place}
 use Rattle.pusc_dl.proofs.Group.{cluster-runs, subchannel-runs, subchannel-lt}
@@ -88,21 +89,22 @@ rank-small mask g h = omega (arith, rank-most (λ s. hasGroup mask (groupIn subc
 
 -- ---- a logical cluster: what is noted of it, and how it is read
 
-module _ (mask l : ℕ) (h : l < 120) where
+module _ (mask : ℕ) (l : Logical) (h : l .0 < 120) where
   abbrev g : ℕ
-  g = groupIn clusterStarts l
+  g = groupIn clusterStarts (l .0)
 
+  -- its place in the group
   abbrev i : ℕ
-  i = l - entry clusterStarts g
+  i = l .0 - entry clusterStarts g
 
   pub g-lt : g < 6
-  g-lt = cluster-runs .group-lt l h
+  g-lt = cluster-runs .group-lt (l .0) h
 
-  pub start-le : entry clusterStarts g ≤ l
-  start-le = cluster-runs .start-le l h
+  pub start-le : entry clusterStarts g ≤ l .0
+  start-le = cluster-runs .start-le (l .0) h
 
   place-lt : i < 2 * groupSize g
-  place-lt = cluster-runs .run-lt l h
+  place-lt = cluster-runs .run-lt (l .0) h
 
   -- twice the group's size, which is 12 or 8
   pub place-small : i < 24
@@ -133,10 +135,10 @@ module _ (cell mask offset p : ℕ) (ho : offset < 2) (hp : p < 120) where
   abbrev physical : Physical
   physical = record { 0 = p }
 
-  abbrev logical : ℕ
-  logical = renumber cell physical .0
+  abbrev logical : Logical
+  logical = renumber cell physical
 
-  logical-lt : logical < 120
+  logical-lt : logical .0 < 120
   logical-lt = renumbering .logical-lt cell physical hp
 
   abbrev group : ℕ
@@ -153,13 +155,13 @@ module _ (cell mask offset p : ℕ) (ho : offset < 2) (hp : p < 120) where
     at-place : OnPlace offset r
     at-place = on-place offset r ho hr
 
-    its-logical : logicalOf cell used .0 ≡ logical
+    its-logical : logicalOf cell used ≡ logical
     unfolding logicalOf
-    its-logical = ap (λ (x : ℕ). renumber cell (record { 0 = x }) .0) (digits-div p (at-place .place-lt))
+    its-logical = ap (λ (x : ℕ). renumber cell (record { 0 = x })) (digits-div p (at-place .place-lt))
 
     its-group : usedGroup cell used ≡ group
     unfolding usedGroup
-    its-group = ap (groupIn clusterStarts) its-logical
+    its-group = ap (λ (l : Logical). groupIn clusterStarts (l .0)) its-logical
 
     its-data : usedData cell offset used ≡ place * 12 + r
     unfolding usedData

@@ -8,13 +8,13 @@ use Rattle.base.specs.Steps.{rotate, entry}
 use Rattle.base.specs.Tabulate.{tabulate}
 use Rattle.base.specs.Model.{Starts}
 use Rattle.base.proofs.Tabulate.{entry-of}
-use Rattle.pusc_dl.specs.Cluster.{unrenumber, clusterPlace}
+use Rattle.pusc_dl.specs.Cluster.{clusterPlace}
 use Rattle.pusc_dl.specs.Group.{clusterStarts, groupSize, baseOf, groupData}
 use Rattle.pusc_dl.specs.Map.{groupUsed}
 use Rattle.pusc_dl.specs.Model.{turnedBase, groupCluster, groupSpot}
 use Rattle.pusc_dl.proofs.Tables.{GoesOn}
-use Rattle.pusc_dl.proofs.Cluster.{renumber-perm}
 use Rattle.pusc_dl.proofs.Group.{data-lt, cluster-runs}
+use Rattle.pusc_dl.proofs.Law.{renumbering}
 
 -- an entry of a base that goes on past M, turned by the cell
 pub base-turned : {m n : ℕ} {long base : List ℕ} → GoesOn m n long base → (g cell i x r : ℕ) → groupSize g ≡ m → ((j : ℕ) → baseOf m j ≡ entry base j) → i < n
@@ -47,8 +47,8 @@ module _ {cell : ℕ} {clusters bases : List ℕ} {g s k n : ℕ} (t : Turn cell
   cluster-is = t .starts (d / 12) run-lt
 
   pub cluster-lt : entry clusters (d / 12) < 1680
-  unfolding groupCluster unrenumber
-  cluster-lt = omega (arith, cluster-is, renumber-perm cell .from-lt (entry clusterStarts g + d / 12) (cluster-runs .number-lt g (d / 12) (t .group-lt) run-lt))
+  unfolding groupCluster
+  cluster-lt = omega (arith, cluster-is, renumbering .physical-lt cell (record { 0 = entry clusterStarts g + d / 12 }) (cluster-runs .number-lt g (d / 12) (t .group-lt) run-lt))
 
   -- its spot in symbol y of the slot
   pub spot : (y m : ℕ) → m / 24 ≡ y → m % 24 ≡ k → y * 2048 + (entry clusters (d / 12) + clusterPlace y (d % 12)) ≡ groupSpot cell g s m

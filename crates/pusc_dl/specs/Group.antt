@@ -7,9 +7,11 @@ use Rattle.base.specs.Choice.{pick}
 use Rattle.base.specs.Steps.{entry, unrotate}
 use Rattle.pusc_dl.specs.Table.{base12, base12Inverse, base8, base8Inverse}
 
+-- the first logical cluster of each group
 abbrev pub clusterStarts : List ℕ
 clusterStarts = 0 ∷ 24 ∷ 40 ∷ 64 ∷ 80 ∷ 104 ∷ []
 
+-- its first subchannel
 abbrev pub subchannelStarts : List ℕ
 subchannelStarts = 0 ∷ 12 ∷ 20 ∷ 32 ∷ 40 ∷ 52 ∷ []
 

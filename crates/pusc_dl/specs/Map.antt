@@ -33,7 +33,7 @@ logicalOf cell used =
 unfoldable pub usedGroup : (cell used : ℕ) → ℕ
 usedGroup cell used = groupIn clusterStarts (logicalOf cell used .0)
 
--- The reverse: its group data number in a symbol.
+-- The reverse: its group data number in a symbol. Its cluster's place in the group is the logical number less the group's first.
 unfoldable pub usedData : (cell symbol used : ℕ) → ℕ
 usedData cell symbol used = (logicalOf cell used .0 - entry clusterStarts (usedGroup cell used)) * 12 + clusterData symbol (used % 14)
 

@@ -6,7 +6,7 @@ use Rattle.base.specs.Choice.{pick}
 use Rattle.base.specs.Steps.{entry, unrotate}
 use Rattle.base.specs.Tabulate.{tabulate}
 use Rattle.base.specs.Rank.{rank}
-use Rattle.pusc_dl.specs.Table.{renumbering, base12, base8}
+use Rattle.pusc_dl.specs.Table.{base12, base8}
 use Rattle.pusc_dl.specs.Cluster.{renumber, unrenumber, clusterPlace}
 use Rattle.pusc_dl.specs.Group.{clusterStarts, subchannelStarts, groupIn, groupSize, baseOf, baseInverse, groupData, groupSubchannel, groupIndex, hasGroup}
 use Rattle.pusc_dl.specs.Map.{groupUsed, usedGroup, addressOf}
@@ -24,7 +24,7 @@ base8FourTimes = base8 ++ (base8 ++ (base8 ++ base8))
 unfoldable pub turnedBase : (g cell i : ℕ) → ℕ
 turnedBase g cell i = (baseOf (groupSize g) (i % groupSize g) + cell) % groupSize g
 
--- the first used number of cluster i of group g
+-- the first used number of the cluster whose place in group g is i
 unfoldable pub groupCluster : (cell g i : ℕ) → ℕ
 groupCluster cell g i =
     let logical : Logical = record { 0 = entry clusterStarts g + i } in
@@ -34,9 +34,11 @@ groupCluster cell g i =
 unfoldable pub groupSpot : (cell g s index : ℕ) → ℕ
 groupSpot cell g s index = index / 24 * 2048 + groupUsed cell (index / 24) g (groupData (groupSize g) cell s (index % 24))
 
--- R's places by the bit of the group of the logical cluster there, twice over
-abbrev pub groupBits : List ℕ
-groupBits = tabulate 240 (λ j. 2 ^ groupIn clusterStarts (entry renumbering (j % 120)))
+-- the bit of the group of physical cluster p of cell 0
+unfoldable pub groupBit : (p : ℕ) → ℕ
+groupBit p =
+    let physical : Physical = record { 0 = p } in
+    2 ^ groupIn clusterStarts (renumber 0 physical .0)
 
 -- 1 where a mask lights physical cluster p, whose used numbers are 14p to 14p+13
 unfoldable pub clusterLit : (cell mask p : ℕ) → ℕ
@@ -63,16 +65,16 @@ abbrev pub groupRank : (mask g : ℕ) → ℕ
 groupRank mask g = subchannelRank mask (entry subchannelStarts g)
 
 -- a logical cluster as one number: the rank of its group's first subchannel, whether the group is an odd one, and the cluster's place in it
-unfoldable pub logicalEntry : (mask l : ℕ) → ℕ
+unfoldable pub logicalEntry : (mask : ℕ) (l : Logical) → ℕ
 logicalEntry mask l =
-    let g = groupIn clusterStarts l in
-    groupRank mask g * 64 + (g % 2 * 32 + (l - entry clusterStarts g))
+    let g = groupIn clusterStarts (l .0) in
+    groupRank mask g * 64 + (g % 2 * 32 + (l .0 - entry clusterStarts g))
 
 -- and physical cluster p
 unfoldable pub clusterEntry : (cell mask p : ℕ) → ℕ
 clusterEntry cell mask p =
     let physical : Physical = record { 0 = p } in
-    logicalEntry mask (renumber cell physical .0)
+    logicalEntry mask (renumber cell physical)
 
 -- the number of the point on data place r of physical cluster p, among those of the subchannels that a mask lights
 unfoldable pub clusterNumber : (cell mask offset p r : ℕ) → ℕ

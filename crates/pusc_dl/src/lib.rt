@@ -11,20 +11,23 @@ use carriers::Address;
 use carriers::Spot;
 ghost use mathlib.Core.Path.{_≡_};
 ghost use mathlib.Core.Bool.{true, false};
-ghost use Prim.Native.Nat.{_+_, _*_, _/_, _%_, _<_};
+ghost use Prim.Native.Nat.{_+_, _*_, _/_, _%_, _^_, _<_, _≤_};
+ghost use lib.Dec.{ltb};
+ghost use Rattle.base.specs.Choice.{pick};
 ghost use Rattle.base.specs.Steps.{entry, unrotate as Unrotate};
 ghost use Rattle.base.specs.Tabulate.{tabulate};
 ghost use Rattle.base.specs.Rank.{rank};
 ghost use Rattle.base.specs.Model.{Starts};
 ghost use Rattle.carriers.specs.Model.{spotNumber};
-ghost use Rattle.pusc_dl.specs.Table.{base12Inverse, base8Inverse};
+ghost use Rattle.pusc_dl.specs.Table.{renumbering, renumberingInverse, base12Inverse, base8Inverse};
 ghost use Rattle.pusc_dl.specs.Cluster as cluster;
 ghost use Rattle.pusc_dl.specs.Cluster.{firstPilot, secondPilot, isClusterPilot, clusterPlace, clusterData};
 ghost use Rattle.pusc_dl.specs.Group.{clusterStarts, subchannelStarts, groupIn, groupSize, ofSize, groupData, groupSubchannel, groupIndex, hasGroup};
 ghost use Rattle.pusc_dl.specs.Map.{groupUsed, usedGroup, usedData, spotOf, addressOf};
-ghost use Rattle.pusc_dl.specs.Model.{base12Thrice, base8FourTimes, turnedBase, groupCluster, groupSpot, clusterLit, turnedInverse, inverseEntry, groupNumber, groupRank, logicalEntry, clusterEntry, clusterNumber};
+ghost use Rattle.pusc_dl.specs.Model.{base12Thrice, base8FourTimes, turnedBase, groupCluster, groupSpot, groupBit, clusterLit, turnedInverse, inverseEntry, groupNumber, groupRank, logicalEntry, clusterEntry, clusterNumber};
 
-// A cluster's number in the order of the carriers, and its number after the renumbering. They are never added or compared.
+// A cluster's number in the order of the carriers, and its number after the renumbering. They are never added or compared, and
+// `renumber` and `unrenumber` are the only passage between them.
 pub struct Physical(pub usize);
 
 pub struct Logical(pub usize);
@@ -363,266 +366,22 @@ const SUBCHANNEL_STARTS: [usize; 6] = [0, 12, 20, 32, 40, 52];
 // The bits of the groups below each.
 const LOWER_GROUPS: [usize; 6] = [0, 1, 3, 7, 15, 31];
 
-// The bit of each major group, by the places of R, twice over so that no sum is reduced.
-const GROUP_BITS: [u8; 240] = [
-    1,
-    32,
-    2,
-    16,
-    2,
-    16,
-    4,
-    32,
-    2,
-    32,
-    2,
-    16,
-    4,
-    8,
-    1,
-    8,
-    4,
-    32,
-    4,
-    32,
-    1,
-    32,
-    1,
-    32,
-    2,
-    16,
-    1,
-    32,
-    2,
-    32,
-    4,
-    8,
-    1,
-    16,
-    2,
-    8,
-    1,
-    4,
-    2,
-    8,
-    2,
-    16,
-    1,
-    16,
-    4,
-    32,
-    1,
-    8,
-    1,
-    8,
-    2,
-    8,
-    4,
-    4,
-    1,
-    16,
-    4,
-    8,
-    2,
-    4,
-    8,
-    4,
-    16,
-    1,
-    16,
-    4,
-    16,
-    4,
-    16,
-    4,
-    16,
-    2,
-    32,
-    1,
-    8,
-    1,
-    32,
-    4,
-    32,
-    4,
-    16,
-    4,
-    8,
-    4,
-    16,
-    2,
-    8,
-    4,
-    16,
-    4,
-    32,
-    1,
-    16,
-    2,
-    16,
-    1,
-    8,
-    1,
-    16,
-    1,
-    16,
-    2,
-    8,
-    4,
-    32,
-    4,
-    8,
-    1,
-    4,
-    1,
-    16,
-    1,
-    16,
-    1,
-    16,
-    2,
-    32,
-    1,
-    16,
-    1,
-    1,
-    32,
-    2,
-    16,
-    2,
-    16,
-    4,
-    32,
-    2,
-    32,
-    2,
-    16,
-    4,
-    8,
-    1,
-    8,
-    4,
-    32,
-    4,
-    32,
-    1,
-    32,
-    1,
-    32,
-    2,
-    16,
-    1,
-    32,
-    2,
-    32,
-    4,
-    8,
-    1,
-    16,
-    2,
-    8,
-    1,
-    4,
-    2,
-    8,
-    2,
-    16,
-    1,
-    16,
-    4,
-    32,
-    1,
-    8,
-    1,
-    8,
-    2,
-    8,
-    4,
-    4,
-    1,
-    16,
-    4,
-    8,
-    2,
-    4,
-    8,
-    4,
-    16,
-    1,
-    16,
-    4,
-    16,
-    4,
-    16,
-    4,
-    16,
-    2,
-    32,
-    1,
-    8,
-    1,
-    32,
-    4,
-    32,
-    4,
-    16,
-    4,
-    8,
-    4,
-    16,
-    2,
-    8,
-    4,
-    16,
-    4,
-    32,
-    1,
-    16,
-    2,
-    16,
-    1,
-    8,
-    1,
-    16,
-    1,
-    16,
-    2,
-    8,
-    4,
-    32,
-    4,
-    8,
-    1,
-    4,
-    1,
-    16,
-    1,
-    16,
-    1,
-    16,
-    2,
-    32,
-    1,
-    16,
-    1,
-];
-
-// The renumbering; with its inverse, below, the only passage between the two numbers of a cluster.
-fn renumber(cell: usize, p: Physical) -> Logical
-    requires { ⌜ (cell < 32) × (p .0 < 120) ⌝ }
+// The renumbering, by the caller's copy of R.
+fn renumber(table: &[u8; 120], cell: usize, p: Physical) -> Logical
+    requires { ⌜ (now table ≡ renumbering) × (cell < 32) × (p .0 < 120) ⌝ }
     ensures { λ r. ⌜ (r ≡ cluster.renumber cell p) × (r .0 < 120) ⌝ }
 {
-    let i = rotate(120, 13 * cell, p.0);
-    Logical(wide(RENUMBERING[i]))
+    let i = reduce(120, p.0 + 13 * cell % 120);
+    Logical(wide(table[i]))
 }
 
-// The reverse.
-fn unrenumber(cell: usize, l: Logical) -> Physical
-    requires { ⌜ (cell < 32) × (l .0 < 120) ⌝ }
+// The reverse, by the caller's copy of R's inverse.
+fn unrenumber(inverse: &[u8; 120], cell: usize, l: Logical) -> Physical
+    requires { ⌜ (now inverse ≡ renumberingInverse) × (cell < 32) × (l .0 < 120) ⌝ }
     ensures { λ r. ⌜ (r ≡ cluster.unrenumber cell l) × (r .0 < 120) ⌝ }
 {
     let i = l.0;
-    Physical(unrotate(120, 13 * cell, wide(RENUMBERING_INVERSE[i])))
+    Physical(wide16(reduce16(120, inverse[i] as u16 + (120 - 13 * cell % 120) as u16)))
 }
 
 // The two pilots of a cluster.
@@ -799,7 +558,7 @@ fn group_used(cell: usize, symbol: usize, g: usize, d: usize) -> usize
     ensures { λ r. ⌜ r ≡ groupUsed cell symbol g d ⌝ }
 {
     let logical = Logical(cluster_start(g) + d / 12);
-    let physical = unrenumber(cell, logical);
+    let physical = unrenumber(&RENUMBERING_INVERSE, cell, logical);
     physical.0 * 14 + cluster_place(symbol, d % 12)
 }
 
@@ -824,13 +583,13 @@ struct Datum {
     number: usize,
 }
 
-// The reverse: the group data number of a used number that is no pilot.
+// The reverse: the group data number of a used number that is no pilot, by its cluster's place in the group.
 fn used_data(cell: usize, symbol: usize, used: usize) -> Datum
     requires { ⌜ (cell < 32) × (symbol < 2) × (used < 1680) × (isClusterPilot symbol used ≡ false) ⌝ }
     ensures { λ r. ⌜ (r .group ≡ usedGroup cell used) × (r .number ≡ usedData cell symbol used) ⌝ }
     ensures { λ r. ⌜ (r .group < 6) × (r .number < 24 * groupSize (r .group)) ⌝ }
 {
-    let logical = renumber(cell, Physical(used / 14));
+    let logical = renumber(&RENUMBERING, cell, Physical(used / 14));
     let l = logical.0;
     let g = group_in(CLUSTER_STARTS, l);
     Datum {
@@ -853,7 +612,7 @@ pub fn address(cell: usize, offset: usize, used: usize) -> Address
     }
 }
 
-// The first used number of each cluster of a group.
+// The first used number of each cluster of a group, by its place in the group.
 fn group_clusters(cell: usize, g: usize) -> [u16; 24]
     requires { ⌜ (cell < 32) × (g < 6) ⌝ }
     ensures { λ r. ⌜ Starts (2 * groupSize g) (groupCluster cell g) r ⌝ }
@@ -861,11 +620,11 @@ fn group_clusters(cell: usize, g: usize) -> [u16; 24]
     let inverse = RENUMBERING_INVERSE;
     let start = cluster_start(g);
     let count = 2 * group_size(g);
-    let back = (120 - 13 * cell % 120) as u16;
     let mut clusters = [0; 24];
     let mut i = 0;
     while i < count {
-        clusters[i] = reduce16(120, inverse[start + i] as u16 + back) * 14;
+        let physical = unrenumber(&inverse, cell, Logical(start + i));
+        clusters[i] = (physical.0 * 14) as u16;
         i += 1;
     }
     clusters
@@ -956,7 +715,7 @@ pub fn is_used_lit(cell: usize, mask: usize, used: usize) -> bool
     requires { ⌜ (cell < 32) × (used < 1680) ⌝ }
     ensures { λ r. ⌜ r ≡ hasGroup mask (usedGroup cell used) ⌝ }
 {
-    let logical = renumber(cell, Physical(used / 14));
+    let logical = renumber(&RENUMBERING, cell, Physical(used / 14));
     has_group(mask, group_in(CLUSTER_STARTS, logical.0))
 }
 
@@ -970,12 +729,65 @@ pub fn lit_subchannels(mask: usize) -> usize
     12 * even + 8 * odd
 }
 
-// Which physical clusters a mask lights, 1 for each that it does.
+// x from a bound on, and 0 below it.
+fn past(bound: usize, n: usize, x: u8) -> u8
+    ensures { λ r. ⌜ r ≡ pick (ltb n bound) 0 x ⌝ }
+    ensures { λ r. ⌜ r ≤ x ⌝ }
+{
+    if n < bound { 0 } else { x }
+}
+
+// The bit of a logical cluster's group, without a branch: 1 and the bits of the groups below sum up to it.
+fn group_bit(logical: Logical) -> u8
+    requires { ⌜ logical .0 < 120 ⌝ }
+    ensures { λ r. ⌜ r ≡ 2 ^ groupIn clusterStarts (logical .0) ⌝ }
+{
+    let starts = CLUSTER_STARTS;
+    let l = logical.0;
+    1
+        + past(starts[1], l, 1)
+        + past(starts[2], l, 2)
+        + past(starts[3], l, 4)
+        + past(starts[4], l, 8)
+        + past(starts[5], l, 16)
+}
+
+// The bits of the groups of the physical clusters in cell 0. Nothing here depends on a call, so the compiler works it all out.
+fn group_bits() -> [u8; 120]
+    ensures { λ r. ⌜ r ≡ tabulate 120 groupBit ⌝ }
+{
+    let table = RENUMBERING;
+    let mut bits = [0; 120];
+    let mut p = 0;
+    while p < 120 {
+        bits[p] = group_bit(renumber(&table, 0, Physical(p)));
+        p += 1;
+    }
+    bits
+}
+
+// A row twice over, so that a sum of two places needs no reduction.
+fn twice(once: &[u8; 120]) -> [u8; 240]
+    ensures { λ r. ⌜ r ≡ tabulate 240 (λ j. entry (now (once .entry)) (j % 120)) ⌝ }
+{
+    let mut row = [0; 240];
+    let mut i = 0;
+    while i < 120 {
+        row[i] = once[i];
+        row[i + 120] = once[i];
+        i += 1;
+    }
+    row
+}
+
+// Which physical clusters a mask lights, 1 for each that it does: cluster p of a cell has the logical number of cluster
+// (p + 13·cell) mod 120 of cell 0.
 pub fn lit_clusters(cell: usize, mask: usize) -> [u8; 120]
     requires { ⌜ (cell < 32) × (mask < 64) ⌝ }
     ensures { λ r. ⌜ r ≡ tabulate 120 (clusterLit cell mask) ⌝ }
 {
-    let bits = GROUP_BITS;
+    let once = group_bits();
+    let bits = twice(&once);
     let own = mask as u8;
     let turn = 13 * cell % 120;
     let mut lit = [0; 120];
@@ -1032,11 +844,12 @@ fn group_ranks(mask: usize) -> [u16; 6]
     ranks
 }
 
-// What a cluster's points need of it, by the ranks of the groups' first subchannels.
-fn logical_entry(ranks: &[u16; 6], mask: usize, l: usize) -> u16
-    requires { ⌜ (now ranks ≡ tabulate 6 (groupRank mask)) × (l < 120) ⌝ }
-    ensures { λ r. ⌜ r ≡ logicalEntry mask l ⌝ }
+// What a cluster's points need of it, its group and its place there, by the ranks of the groups' first subchannels.
+fn logical_entry(ranks: &[u16; 6], mask: usize, logical: Logical) -> u16
+    requires { ⌜ (now ranks ≡ tabulate 6 (groupRank mask)) × (logical .0 < 120) ⌝ }
+    ensures { λ r. ⌜ r ≡ logicalEntry mask logical ⌝ }
 {
+    let l = logical.0;
     let g = group_in(CLUSTER_STARTS, l);
     ranks[g] * 64 + (g % 2 * 32 + (l - cluster_start(g))) as u16
 }
@@ -1046,14 +859,13 @@ pub fn clusters(cell: usize, mask: usize) -> [u16; 120]
     requires { ⌜ (cell < 32) × (mask < 64) ⌝ }
     ensures { λ r. ⌜ Starts 120 (clusterEntry cell mask) r ⌝ }
 {
-    let renumbering = RENUMBERING;
+    let table = RENUMBERING;
     let ranks = group_ranks(mask);
-    let turn = 13 * cell % 120;
     let mut clusters = [0; 120];
     let mut p = 0;
     while p < 120 {
-        let i = reduce(120, p + turn);
-        clusters[p] = logical_entry(&ranks, mask, wide(renumbering[i]));
+        let logical = renumber(&table, cell, Physical(p));
+        clusters[p] = logical_entry(&ranks, mask, logical);
         p += 1;
     }
     clusters

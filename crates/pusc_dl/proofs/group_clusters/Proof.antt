@@ -1,45 +1,39 @@
 -- `pusc_dl::group_clusters` meets its contract.
+use mathlib.Core.Path.{refl}
 use Prim.Native.Nat.{_+_, _-_, _<_}
 use native.Mathlib.Omega.{arith}
 use borrow.Author.Needs.{needs}
-use Rattle.base.specs.Steps.{entry}
 use Rattle.base.proofs.Tabulate.{Written, written-none, written-next, written-starts}
-use Rattle.pusc_dl.specs.Table.{renumberingInverse}
-use Rattle.pusc_dl.specs.Cluster.{unrenumber}
 use Rattle.pusc_dl.specs.Model.{groupCluster}
-use Rattle.pusc_dl.proofs.Tables.{r-perm}
 use Rattle.pusc_dl.proofs.Group.{cluster-runs}
 use Rattle.pusc_dl.proofs.group_clusters.Statement.{statement}
 use Rattle.pusc_dl.proofs.group_clusters.Tie as tie
 
 abbrev Inv-loop : tie.InvT-loop
-Inv-loop cell g inverse start count back clusters₀ i₀ clusters i = Written 24 (groupCluster cell g) clusters i
+Inv-loop cell g inverse start count clusters₀ i₀ clusters i = Written 24 (groupCluster cell g) clusters i
 
 abbrev μ-loop : tie.MeasureT-loop
-μ-loop cell g inverse start count back clusters₀ i₀ clusters i = count - i
+μ-loop cell g inverse start count clusters₀ i₀ clusters i = count - i
 
--- a cluster of the group, and its entry in R's inverse
+-- a logical cluster of the group
 number-lt : (c : tie.In-loop Inv-loop μ-loop) → c .before .before .before .cluster-start .result + c .before .loop .i < 120
 number-lt c =
     let h = c .loop-test .taken in
     rw (c .before .before .before .cluster-start .ensures)
     (cluster-runs .number-lt _ _ (c .before .before .before .before .pre .1) (rw (c .before .before .group-size .ensures .0) at h))
 
-entry-lt : (c : tie.In-loop Inv-loop μ-loop) → entry renumberingInverse (c .before .before .before .cluster-start .result + c .before .loop .i) < 120
-entry-lt c = r-perm .from-lt _ (number-lt c)
-
 loop-again : tie.Need-loop-again Inv-loop μ-loop
-unfolding groupCluster unrenumber
+unfolding groupCluster
 loop-again c =
-    written-next (c .before .before .loop .inv) (omega arith) _
-    (rw (c .reduce16 .ensures .0, c .before .before .before .before .cluster-start .ensures))
+    let at-loop = c .before .before .before .before in
+    written-next (at-loop .loop .inv) (omega arith) _
+    (rw (c .before .unrenumber .ensures .0, at-loop .before .before .cluster-start .ensures))
 
 pub group-clusters-spec : {M : Type 1} → statement M
 group-clusters-spec =
     tie.close
     (tie.spec
-    Inv-loop μ-loop (λ c κs. search needs) (λ c κs. search needs) (λ c. search needs) (λ c. search needs)
-    (λ c. search needs) (λ c. search needs) (λ c. written-none 24 _) (λ c. omega (arith, number-lt c))
-    (λ c. number-lt c) (λ c. omega (arith, entry-lt c)) (λ c. omega (arith, entry-lt c)) (λ c κs. omega (arith, entry-lt c))
-    (λ c. search needs) (λ c. search needs) (λ c. search needs) (λ c. search needs) (λ c. search needs) loop-again
+    Inv-loop μ-loop (λ c κs. search needs) (λ c κs. search needs) (λ c. search needs) (λ c. written-none 24 _)
+    (λ c. omega (arith, number-lt (c .before))) (λ c κs. (refl, search needs, number-lt (c .before))) (λ c. search needs) (λ c. search needs)
+    (λ c. search needs) (λ c. search needs) (λ c. search needs) (λ c. search needs) loop-again
     (λ c. written-starts (c .before .loop .inv) _ (rw (c .before .before .group-size .ensures .0) at (c .loop-test .left))))

@@ -1,4 +1,5 @@
 -- `pusc_dl::group_used` meets its contract.
+use mathlib.Core.Path.{refl}
 use Prim.Native.Nat.{_+_, _/_, _<_}
 use native.Mathlib.Omega.{arith}
 use borrow.Author.Needs.{needs}
@@ -15,6 +16,6 @@ unfolding groupUsed
 group-used-spec =
     tie.close
     (tie.spec
-    (λ c κs. search needs) (λ c. omega (arith, logical-lt c)) (λ c κs. (search needs, logical-lt c)) (λ c. search needs)
+    (λ c κs. search needs) (λ c. omega (arith, logical-lt c)) (λ c κs. (refl, search needs, logical-lt (c .before))) (λ c. search needs)
     (λ c κs. search needs) (λ c. search needs)
-    (λ c. rw (c .cluster-place .ensures .0, c .before .before .unrenumber .ensures .0, c .before .before .before .cluster-start .ensures)))
+    (λ c. rw (c .cluster-place .ensures .0, c .before .before .unrenumber .ensures .0, c .before .before .before .before .cluster-start .ensures)))

@@ -1,5 +1,5 @@
 -- `pusc_dl::is_used_lit` meets its contract.
-use mathlib.Core.Path.{ap, _∙_}
+use mathlib.Core.Path.{refl, ap, _∙_}
 use borrow.Author.Needs.{needs}
 use Rattle.pusc_dl.specs.Group.{clusterStarts, groupIn, hasGroup}
 use Rattle.pusc_dl.specs.Map.{logicalOf, usedGroup}
@@ -14,4 +14,4 @@ returns c =
     ∙ ap (hasGroup _) (c .before .group-in .ensures .0 ∙ ap (λ (l : Logical). groupIn clusterStarts (l .0)) (c .before .before .renumber .ensures .0))
 
 pub is-used-lit-spec : {M : Type 1} → statement M
-is-used-lit-spec = tie.close (tie.spec (λ c κs. search needs) (λ c κs. search needs) (λ c κs. search needs) returns)
+is-used-lit-spec = tie.close (tie.spec (λ c κs. (refl, search needs, search needs)) (λ c κs. search needs) (λ c κs. search needs) returns)

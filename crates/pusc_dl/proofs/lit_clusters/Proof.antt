@@ -1,10 +1,7 @@
 -- `pusc_dl::lit_clusters` meets its contract.
-use mathlib.Core.Path.{refl}
 use Prim.Native.Nat.{_-_}
 use borrow.Author.Needs.{needs}
 use Rattle.base.proofs.Tabulate.{Written, written-none, written-next, written-all}
-use Rattle.base.specs.Tabulate.{tabulate}
-use Rattle.pusc_dl.specs.Group.{groupIn}
 use Rattle.pusc_dl.specs.Model.{clusterLit}
 use Rattle.pusc_dl.proofs.Lit.{cluster-lit}
 use Rattle.pusc_dl.proofs.lit_clusters.Statement.{statement}
@@ -17,15 +14,17 @@ abbrev μ-loop : tie.MeasureT-loop
 μ-loop cell mask bits own turn lit₀ p₀ lit p = 120 - p
 
 loop-again : tie.Need-loop-again Inv-loop μ-loop
-unfolding tabulate groupIn
 loop-again c =
-    let start = c .before .before in
-    written-next (c .before .loop .inv) (c .loop-test .taken) _ (cluster-lit _ refl (start .args .cell) (start .args .mask) (c .before .loop .p) (start .pre .1) (c .loop-test .taken))
+    let doubled = c .before .before in
+    let made = doubled .before .before in
+    let start = made .before in
+    written-next (c .before .loop .inv) (c .loop-test .taken) _
+    (cluster-lit _ _ (made .group-bits .ensures) (doubled .twice .ensures) (start .args .cell) (start .args .mask) (c .before .loop .p) (start .pre .1) (c .loop-test .taken))
 
 pub lit-clusters-spec : {M : Type 1} → statement M
 lit-clusters-spec =
     tie.close
     (tie.spec
-    Inv-loop μ-loop (λ c. search needs) (λ c. search needs) (λ c. written-none 120 _) (λ c. search needs) (λ c. search needs)
+    Inv-loop μ-loop (λ c κs. search needs) (λ c κs. search needs) (λ c. search needs) (λ c. search needs) (λ c. written-none 120 _) (λ c. search needs) (λ c. search needs)
     (λ c. search needs) (λ c. search needs) (λ c. search needs) (λ c. search needs) loop-again
     (λ c. written-all (c .before .loop .inv) (c .loop-test .left)))

@@ -9,23 +9,24 @@ use Rattle.base.specs.Tabulate.{tabulate}
 use Rattle.base.proofs.Tabulate.{entry-of}
 use Rattle.pusc_dl.specs.Group.{clusterStarts, groupIn}
 use Rattle.pusc_dl.specs.Model.{groupRank, logicalEntry}
+use Rattle.pusc_dl.specs.declared.Logical.{Logical}
 use Rattle.pusc_dl.proofs.Points.{g-lt, start-le, place-small, rank-small}
 use Rattle.pusc_dl.proofs.logical_entry.Statement.{statement}
 use Rattle.pusc_dl.proofs.logical_entry.Tie as tie
 
 -- the rank of the cluster's group
-own-rank : (ranks : List ℕ) (mask l g : ℕ) → ranks ≡ tabulate 6 (groupRank mask) → l < 120 → g ≡ groupIn clusterStarts l → (entry ranks g ≡ groupRank mask g) × (entry ranks g < 60)
+own-rank : (ranks : List ℕ) (mask : ℕ) (l : Logical) (g : ℕ) → ranks ≡ tabulate 6 (groupRank mask) → l .0 < 120 → g ≡ groupIn clusterStarts (l .0) → (entry ranks g ≡ groupRank mask g) × (entry ranks g < 60)
 own-rank ranks mask l g e h q =
     let lt : g < 6 = rw q (g-lt mask l h) in
     let same = entry-of ranks 6 (groupRank mask) e g lt in
     (same, rw same (rank-small mask g lt))
 
 -- the cluster's place in it
-own-place : (mask l g start : ℕ) → l < 120 → g ≡ groupIn clusterStarts l → start ≡ entry clusterStarts g → (start ≤ l) × (l - start < 24)
+own-place : (mask : ℕ) (l : Logical) (g start : ℕ) → l .0 < 120 → g ≡ groupIn clusterStarts (l .0) → start ≡ entry clusterStarts g → (start ≤ l .0) × (l .0 - start < 24)
 own-place mask l g start h q e = rw (e, q) (start-le mask l h, place-small mask l h)
 
-entry-is : (ranks : List ℕ) (mask l g start : ℕ) → ranks ≡ tabulate 6 (groupRank mask) → l < 120 → g ≡ groupIn clusterStarts l → start ≡ entry clusterStarts g
-    → entry ranks g * 64 + (g % 2 * 32 + (l - start)) ≡ logicalEntry mask l
+entry-is : (ranks : List ℕ) (mask : ℕ) (l : Logical) (g start : ℕ) → ranks ≡ tabulate 6 (groupRank mask) → l .0 < 120 → g ≡ groupIn clusterStarts (l .0) → start ≡ entry clusterStarts g
+    → entry ranks g * 64 + (g % 2 * 32 + (l .0 - start)) ≡ logicalEntry mask l
 unfolding logicalEntry
 entry-is ranks mask l g start e h q es = rw (own-rank ranks mask l g e h q .0, es, q)
 

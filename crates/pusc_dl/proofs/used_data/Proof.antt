@@ -1,5 +1,5 @@
 -- `pusc_dl::used_data` meets its contract.
-use mathlib.Core.Path.{_≡_}
+use mathlib.Core.Path.{_≡_, refl}
 use mathlib.Core.Bool.{false}
 use Prim.Native.Nat.{ℕ, _*_, _<_}
 use borrow.Author.Needs.{needs}
@@ -27,8 +27,8 @@ pub used-data-spec : {M : Type 1} → statement M
 used-data-spec =
     tie.close
     (tie.spec
-    (λ c κs. search needs) (λ c κs. search needs) (λ c κs. search needs)
+    (λ c κs. (refl, search needs, search needs)) (λ c κs. search needs) (λ c κs. search needs)
     (λ c. rw (c .cluster-start .ensures, c .before .group-in .ensures .0) (cluster-runs .start-le _ (c .before .before .renumber .ensures .1)))
     (λ c. search needs)
-    (λ c κs. (search needs, search needs, rw pilot-place at (c .before .before .before .pre .3)))
+    (λ c κs. (search needs, search needs, rw pilot-place at (c .before .before .before .before .pre .3)))
     (λ c. search needs) returns)
