@@ -5,13 +5,12 @@ use Prim.Native.Nat.{ℕ, _+_, _*_, _%_, _<_}
 use native.Mathlib.Nat.{mod-lt}
 use native.Mathlib.Omega.{arith}
 use lib.Dec.{T, eqb, eqb→eq, lit<}
-use lib.ListN.{length}
 use Rattle.base.specs.Steps.{entry}
 use Rattle.base.proofs.Perm.{Perm}
-use Rattle.base.proofs.Table.{all, all-at, table-perm}
+use Rattle.base.proofs.Table.{all, all-at, table-perm, permutation}
 use Rattle.pusc_dl.specs.Table.{renumbering, renumberingInverse, base12, base12Inverse, base8, base8Inverse}
 use Rattle.pusc_dl.specs.Cluster.{isClusterPilot, firstPilot, secondPilot}
-use Rattle.pusc_dl.specs.Law.{Permutation, TableRules}
+use Rattle.pusc_dl.specs.Law.{TableRules}
 use Rattle.pusc_dl.specs.Model.{base12Thrice, base8FourTimes}
 
 pub r-perm : Perm 120 (entry renumbering) (entry renumberingInverse)
@@ -23,17 +22,13 @@ b12-perm = table-perm 12 base12 base12Inverse refl refl tt tt
 pub b8-perm : Perm 8 (entry base8) (entry base8Inverse)
 b8-perm = table-perm 8 base8 base8Inverse refl refl tt tt
 
-rule : (n : ℕ) (numbers inverse : List ℕ) → length numbers ≡ n → Perm n (entry numbers) (entry inverse) → Permutation n numbers inverse
-rule n numbers inverse long perm =
-    record { long = long; number-lt = perm .to-lt; place-lt = perm .from-lt; back = perm .back; forth = perm .forth }
-
 -- THE TABLES ARE PERMUTATIONS.
 pub tables : TableRules
 tables =
     record {
-      renumbering = rule 120 renumbering renumberingInverse refl r-perm;
-      base12 = rule 12 base12 base12Inverse refl b12-perm;
-      base8 = rule 8 base8 base8Inverse refl b8-perm;
+      renumbering = permutation refl r-perm;
+      base12 = permutation refl b12-perm;
+      base8 = permutation refl b8-perm;
     }
 
 -- a base on past M goes by i mod M

@@ -1,23 +1,11 @@
 -- What is claimed of the constant tables, and of the renumbering. The proofs are `tables` (proofs/Tables.antt) and `renumbering` (proofs/Law.antt).
 use mathlib.Core.Path.{_≡_}
-use mathlib.Core.List.{List}
 use Prim.Native.Nat.{ℕ, _<_}
-use lib.ListN.{length}
-use Rattle.base.specs.Steps.{entry}
+use Rattle.base.specs.Permutation.{Permutation}
 use Rattle.pusc_dl.specs.Table as table
 use Rattle.pusc_dl.specs.Cluster.{renumber, unrenumber}
 use Rattle.pusc_dl.specs.declared.Physical.{Physical}
 use Rattle.pusc_dl.specs.declared.Logical.{Logical}
-
--- A table is a permutation of 0..n-1, by its inverse, which tells where in it a number stands.
-pub record Permutation (n : ℕ) (numbers inverse : List ℕ) : Type 0 where
-  pub long : length numbers ≡ n
-  -- the entries of both are below n
-  pub number-lt : (i : ℕ) → i < n → entry numbers i < n
-  pub place-lt : (x : ℕ) → x < n → entry inverse x < n
-  -- there and back
-  pub back : (i : ℕ) → i < n → entry inverse (entry numbers i) ≡ i
-  pub forth : (x : ℕ) → x < n → entry numbers (entry inverse x) ≡ x
 
 -- Document 01, "Partial usage": R of 120 entries, and B of 12 and of 8.
 pub record TableRules : Type 0 where
@@ -27,9 +15,9 @@ pub record TableRules : Type 0 where
 
 -- Document 01's formula and its inverse, by which placing goes, undo each other, whatever the cell.
 pub record Renumbering : Type 0 where
-  -- 120 clusters either way
+  -- Both numbers of a cluster are below 120.
   pub logical-lt : (cell : ℕ) (p : Physical) → p .0 < 120 → renumber cell p .0 < 120
   pub physical-lt : (cell : ℕ) (l : Logical) → l .0 < 120 → unrenumber cell l .0 < 120
-  -- there and back
+  -- Each of the two undoes the other.
   pub back : (cell : ℕ) (p : Physical) → p .0 < 120 → unrenumber cell (renumber cell p) ≡ p
   pub forth : (cell : ℕ) (l : Logical) → l .0 < 120 → renumber cell (unrenumber cell l) ≡ l
