@@ -5,12 +5,12 @@ use Rattle.carriers.specs.declared.DataNumber.{DataNumber}
 use Rattle.carriers.specs.declared.Address.{Address}
 use Rattle.amc.specs.declared.Shape.{Shape}
 use Rattle.amc.specs.Map.{dataNumber, addressOf}
-use Rattle.amc.specs.Law.{JustOnePoint, AmcLaw}
+use Rattle.amc.specs.Law.{OnePoint, AmcLaw}
 use Rattle.amc.specs.Model.{IsShape}
 use Rattle.amc.proofs.Tables.{printed-list}
 use Rattle.amc.proofs.Law.{law}
 
-point-there : (shape : Shape) → IsShape shape → (n cell : ℕ) → cell < 2352 → (o d : ℕ) → o < shape .symbols → d < 48 * n → JustOnePoint shape n cell o d
+point-there : (shape : Shape) → IsShape shape → (n cell : ℕ) → cell < 2352 → (o d : ℕ) → o < shape .symbols → d < 48 * n → OnePoint shape n cell o d
 point-there shape six n cell range o d ho hd =
     let l = law shape six cell range n in
     let point = addressOf shape cell o d in
@@ -36,6 +36,6 @@ amc-law =
             offset-lt = l .offset-lt;
             number-lt = l .number-lt;
             back = l .back;
-            just-one-point = point-there shape six n cell range;
+            one-point = point-there shape six n cell range;
           };
     }

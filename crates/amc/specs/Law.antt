@@ -8,7 +8,7 @@ use Rattle.amc.specs.Element.{sequence}
 use Rattle.amc.specs.Map.{dataNumber, addressOf}
 
 -- one and only one subchannel and index of the slot is on a data number of a symbol of the slot, and the reverse gives it
-pub record JustOnePoint (shape : Shape) (n cell offset number : ℕ) : Type 0 where
+pub record OnePoint (shape : Shape) (n cell offset number : ℕ) : Type 0 where
   pub subchannel : ℕ
   pub index : ℕ
   pub subchannel-lt : subchannel < n * shape .symbols
@@ -25,7 +25,7 @@ pub record Partition (shape : Shape) (n cell : ℕ) : Type 0 where
   pub back : (s m : ℕ) → s < n * shape .symbols → m < 48
       → addressOf shape cell (dataNumber shape cell s m .offset) (dataNumber shape cell s m .number) ≡ record { subchannel = s; index = m }
   -- Each data number of each symbol of the slot has just one point.
-  pub just-one-point : (offset number : ℕ) → offset < shape .symbols → number < 48 * n → JustOnePoint shape n cell offset number
+  pub one-point : (offset number : ℕ) → offset < shape .symbols → number < 48 * n → OnePoint shape n cell offset number
 
 pub record AmcLaw : Type 0 where
   -- Document 01, "Adjacent mode": the 48-entry sequence P is document 004's, the powers of 22.

@@ -18,17 +18,18 @@ puscBand = record { left = 184; right = 183; dc = 1024; used = 1680; half = 840 
 abbrev pub noBand : Band
 noBand = record { left = 0; right = 0; dc = 0; used = 0; half = 0 }
 
--- The same sentences: carrier = 5N+u (184+u), and one more where u is 27N (840) or above.
+-- Document 01, "Carriers of modes 2 and 3" and "Partial usage": carrier = 5N+u (184+u), and one more where u is 27N (840) or above. It is the column on the symbol's row.
 unfoldable pub carrierOf : (b : Band) (used : ℕ) → ℕ
 carrierOf b used = b .left + skip (b .half) used
 
--- The reverse: the used number of a carrier that is no guard and not DC.
-unfoldable pub usedOf : (b : Band) (carrier : ℕ) → ℕ
-usedOf b carrier = unskip (b .half) (carrier - b .left)
+-- The reverse: the used number of a column that is no guard and not DC.
+unfoldable pub usedOf : (b : Band) (column : ℕ) → ℕ
+usedOf b column = unskip (b .half) (column - b .left)
 
--- The guards are the first `left` and the last `right` carriers of the symbol.
-unfoldable pub isGuard : (b : Band) (size carrier : ℕ) → Bool
-isGuard b size carrier = pick (ltb carrier (b .left)) true (leb (size - b .right) carrier)
+-- The guards are the first `left` and the last `right` columns of the symbol's row.
+unfoldable pub isGuard : (b : Band) (size column : ℕ) → Bool
+isGuard b size column = pick (ltb column (b .left)) true (leb (size - b .right) column)
 
-unfoldable pub isDc : (b : Band) (carrier : ℕ) → Bool
-isDc b carrier = eqb carrier (b .dc)
+-- DC is one column.
+unfoldable pub isDc : (b : Band) (column : ℕ) → Bool
+isDc b column = eqb column (b .dc)

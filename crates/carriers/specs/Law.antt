@@ -49,7 +49,7 @@ pub record SlotLaw (symbols subchannels used : ℕ) (isPilot : ℕ → ℕ → B
   pub forth : (o u : ℕ) → o < symbols → u < used → isPilot o u ≡ false
       → spot (address o u .subchannel) (address o u .index) ≡ record { offset = o; used = u }
 
--- The same for a mode over bins, in words of data numbers, so many in each symbol of the slot.
+-- The law of a slot in a mode over bins: its points, 48 for each subchannel, and its data numbers, so many in each symbol of the slot, are the same, one for one.
 pub record NumberLaw (symbols subchannels numbers : ℕ) (place : ℕ → ℕ → DataNumber) (address : ℕ → ℕ → Address) : Type 0 where
   pub offset-lt : (s m : ℕ) → s < subchannels → m < 48 → place s m .offset < symbols
   pub number-lt : (s m : ℕ) → s < subchannels → m < 48 → place s m .number < numbers

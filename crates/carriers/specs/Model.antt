@@ -11,11 +11,11 @@ use Rattle.carriers.specs.Band.{carrierOf}
 abbrev pub spotNumber : (x : Spot) → ℕ
 spotNumber x = x .offset * 2048 + x .used
 
--- the size for each symbol of the slot
+-- a spot's carrier as one number, which counts the size for each symbol of the slot
 abbrev pub carrierNumber : (size : ℕ) (b : Band) (x : Spot) → ℕ
 carrierNumber size b x = x .offset * size + carrierOf b (x .used)
 
--- from the one to the other, at size 2048, by sums of steps
+-- the carrier's number of a spot's number, at size 2048, by sums of steps
 unfoldable pub carrierStep : (b : Band) (x : ℕ) → ℕ
 carrierStep b x = x + b .left + pick (leb (b .half) (x % 2048)) 1 0
 

@@ -28,7 +28,7 @@ pub struct Spot {
     pub used: usize,
 }
 
-// The same in a mode over bins, pilots not counted: the symbol, counted in the slot, and the data number.
+// Where a point lies in a mode over bins, pilots not counted: the symbol, counted in the slot, and the data number.
 pub struct DataNumber {
     pub offset: usize,
     pub number: usize,

@@ -18,10 +18,10 @@ carrierPosition setup row carrier = columnPosition setup row (onRow (setup .size
 unfoldable pub usedPosition : (setup : Setup) (row used : ℕ) → ℕ
 usedPosition setup row used = columnPosition setup row (carrierOf (band setup) used)
 
--- The reverse: the row of point n of the grid.
+-- the row in which point n of the grid stands: `size` points a row, row after row
 unfoldable pub rowOf : (setup : Setup) (n : ℕ) → ℕ
 rowOf setup n = n / setup .size
 
--- The reverse: the column of point n of the grid.
+-- the column in which point n of the grid stands
 unfoldable pub columnOf : (setup : Setup) (n : ℕ) → ℕ
 columnOf setup n = n % setup .size

@@ -23,7 +23,7 @@ use Rattle.map.specs.Law.{Passes}
 use Rattle.map.specs.Place.{Place, Content, guard, dc, pilot, point, usedCarrier, placeAt, placeOf, contentOf}
 use Rattle.map.proofs.ByMode.{few}
 use Rattle.map.proofs.Slot.{slot-law, band-law, centred}
-use Rattle.map.proofs.Law.{setup-asked, placing, content-placed, dc-content, pilot-content}
+use Rattle.map.proofs.Law.{setup-asked, placing, place-accepts, content-placed, dc-content, pilot-content}
 use Rattle.mask.specs.Mask.{isMask, isLit, isUsedLit, litContent, litSubchannels, litRank, ofLitRank, allLit}
 use Rattle.mask.proofs.Law.{mask-law, point-lit}
 use Rattle.points.specs.declared.Point.{Point}
@@ -155,15 +155,22 @@ module _ (setup : Setup) (mask slot s : ℕ) (points grid next : List Float) (e 
       let q = point-stands setup (asked .fits .lit .valid) slot (asked .fits .slot-lt) n hn mask a t i c in
       rw (ne-eqb t s (λ e. miss i (q .index-lt) (rw (← e) (q .stands))))
 
-  touches-its-own : (n : ℕ) → n < gridPoints setup → ((index : ℕ) → index < 48 → standsAt setup slot s index ≡ n → ⊥) → pointAt next n ≡ pointAt grid n
-  touches-its-own n hn miss = lay-at setup mask slot s points grid next e n hn ∙ not-own n hn miss (contentAt setup mask slot n) refl
+  elsewhere-stays : (n : ℕ) → n < gridPoints setup → ((index : ℕ) → index < 48 → standsAt setup slot s index ≡ n → ⊥) → pointAt next n ≡ pointAt grid n
+  elsewhere-stays n hn miss = lay-at setup mask slot s points grid next e n hn ∙ not-own n hn miss (contentAt setup mask slot n) refl
+
+  touches-its-own : (n : ℕ) → n < gridPoints setup → ((index symbol column : ℕ) → PlacedIn setup slot s index symbol column → there setup symbol column ≡ n → ⊥) → pointAt next n ≡ pointAt grid n
+  unfolding placeAt usedCarrier
+  touches-its-own n hn miss =
+      elsewhere-stays n hn
+      (λ i h z. let q = place-accepts setup slot s i (asked .fits .lit .valid) (asked .fits .slot-lt) (asked .subchannel-lt) h in
+      miss i _ _ q (placed-there setup slot s i _ _ q ∙ z))
 
   other-stands : (t index symbol column : ℕ) → (t ≡ s → ⊥) → PlacedIn setup slot t index symbol column → pointAt next (there setup symbol column) ≡ pointAt grid (there setup symbol column)
   other-stands t index symbol column ne e =
       let q = placing setup slot t index e in
       let v = asked .fits .lit .valid in
       rw (placed-there setup slot t index symbol column e)
-      (touches-its-own (standsAt setup slot t index) (stands-lt setup v slot t index (q .subchannel-lt) (q .index-lt))
+      (elsewhere-stays (standsAt setup slot t index) (stands-lt setup v slot t index (q .subchannel-lt) (q .index-lt))
       (λ i h z. ne (sym (stands-alone setup v slot s i t index (asked .subchannel-lt) h (q .subchannel-lt) (q .index-lt) z .0))))
 
 -- ---- lays one after another

@@ -22,7 +22,7 @@ held setup mask p points (point slot subchannel index) = pointAt points (pointNu
 unfoldable pub filled : (setup : Setup) (mask slot : ℕ) (p : Point) (points : List Float) → List Float
 filled setup mask slot p points = floatsOf (gridPoints setup) (λ n. held setup mask p points (contentAt setup mask slot n))
 
--- The filled grid in document 01's own words, "Grids", which knows no mask: data, the pilot point on pilots, 0.0 elsewhere, of all points of the slot by subchannel and index. Where all is lit both moves together give it (`all-lit-filled`).
+-- The filled grid in document 01's own words, "Grids", which knows no mask: data, the pilot point on pilots, 0.0 elsewhere, of all points of the slot by subchannel and index. Where all is lit both moves together give it (`all-lit-filled`). It says what each place of the grid holds by what `locate` finds there; what each point's place holds, by placing alone, is `laid-in-part`.
 unfoldable pub heldAll : (p : Point) (points : List Float) (content : Content) → Point
 heldAll p points guard = zeroPoint
 heldAll p points dc = zeroPoint

@@ -19,7 +19,7 @@ use Rattle.points.specs.declared.Point.{Point}
 use Rattle.points.specs.Points.{zeroPoint, pointAt, floatsOf}
 use Rattle.lengths.specs.Length.{gridPoints, pointsLength, litPointsLength, gridLength}
 use Rattle.grid.specs.Row.{columnPosition}
-use Rattle.grid.specs.Grid.{Leaves, pointNumber, standsAt, standing, PlacedIn}
+use Rattle.grid.specs.Grid.{Leaves, pointNumber, standing, PlacedIn}
 use Rattle.ground.specs.Ground.{groundOf}
 use Rattle.lay.specs.Lay.{layOf}
 use Rattle.empty.specs.Empty.{emptyOf, emptyFirstOf}
@@ -47,7 +47,7 @@ pub data LastLay (s : ℕ) (points : List Float) : (lays : List Lay) → Type 0 
   here : {rest : List Lay} → Never s rest → LastLay s points (record { subchannel = s; points = points } ∷ rest)
   later : {first : Lay} {rest : List Lay} → LastLay s points rest → LastLay s points (first ∷ rest)
 
--- lit subchannel s's own among the points of all lit subchannels of a slot
+-- the points of lit subchannel s among those of all lit subchannels of a slot
 unfoldable pub ownPoints : (setup : Setup) (mask : ℕ) (points : List Float) (s : ℕ) → List Float
 ownPoints setup mask points s = floatsOf 48 (λ index. pointAt points (pointNumber (litRank setup mask s) index))
 
@@ -96,7 +96,8 @@ pub record GridLaw : Type 0 where
       → lookOf setup mask (place .symbol) next (place .carrier) ≡ accepted (data-with (pointAt points index) slot s index)
   -- A lay changes no float but its own 96: what stands anywhere else, pilots, guards, DC and the points of other subchannels, stays.
   pub lay-touches-its-own : (setup : Setup) (mask slot s : ℕ) (points grid next : List Float) → Leaves (layOf setup mask slot s points grid) next
-      → (n : ℕ) → n < gridPoints setup → ((index : ℕ) → index < 48 → standsAt setup slot s index ≡ n → ⊥) → pointAt next n ≡ pointAt grid n
+      → (n : ℕ) → n < gridPoints setup → ((index symbol column : ℕ) → PlacedIn setup slot s index symbol column → columnPosition setup (symbol % symbols setup) column ≡ n → ⊥)
+      → pointAt next n ≡ pointAt grid n
   -- So a lay of another subchannel changes none of a subchannel's points, laid before or not, lit or not.
   pub others-stay : (setup : Setup) (mask slot s : ℕ) (points grid next : List Float) → Leaves (layOf setup mask slot s points grid) next
       → (other index symbol column : ℕ) → (other ≡ s → ⊥) → PlacedIn setup slot other index symbol column → standing setup next symbol column ≡ standing setup grid symbol column

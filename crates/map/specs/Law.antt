@@ -27,7 +27,7 @@ pub record HoldsData (setup : Setup) (symbol : ℕ) (carrier : ℤ) : Type 0 whe
   pub carrier-is : usedCarrier setup used ≡ carrier
   pub no-pilot : isPilot setup symbol used ≡ false
 
--- one and only one subchannel and index of the slot is placed there, and `locate` gives it
+-- One and only one subchannel and index of the slot is placed in the symbol on the carrier, and `locate` gives it.
 pub record JustOnePoint (setup : Setup) (slot symbol : ℕ) (carrier : ℤ) : Type 0 where
   pub subchannel : ℕ
   pub index : ℕ
@@ -53,9 +53,9 @@ pub record MapLaw : Type 0 where
   -- A pilot's carrier holds the pilot.
   pub pilot-found : (setup : Setup) (symbol used : ℕ) → Passes setup → symbol < 512 * symbols setup → used < band setup .used → isPilot setup symbol used ≡ true
       → locateOf setup symbol (usedCarrier setup used) ≡ accepted pilot
-  -- Document 02, wish 3: carriers rise with their used numbers,
+  -- Carriers rise with their used numbers.
   pub carriers-rise : (setup : Setup) (used next : ℕ) → Passes setup → used < next → usedCarrier setup used <ℤ usedCarrier setup next
-  -- and DC is at 0, in every mode.
+  -- Document 02, wish 3: DC is at 0, in every mode.
   pub dc-at-0 : (setup : Setup) (symbol : ℕ) → Passes setup → symbol < 512 * symbols setup → locateOf setup symbol (pos 0) ≡ accepted dc
   -- Fields in range, and the carrier of every column, are accepted, so that none of this is empty.
   pub place-accepts : (setup : Setup) (slot subchannel index : ℕ) → Passes setup → slot < 512 → subchannel < subchannels setup → index < 48

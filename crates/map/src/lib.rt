@@ -147,7 +147,7 @@ fn slot_of(setup: Setup, symbol: usize) -> usize
     symbol / 6
 }
 
-// Its offset in that slot.
+// The offset of a zone's symbol in its slot.
 pub fn offset_of(setup: Setup, symbol: usize) -> usize
     requires { ⌜ Valid setup ⌝ }
     ensures { λ r. ⌜ r ≡ symbol % Symbols setup ⌝ }

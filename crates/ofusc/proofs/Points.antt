@@ -12,7 +12,7 @@ use Rattle.base.proofs.Test.{cases}
 use Rattle.carriers.specs.Model.{addressNumber}
 use Rattle.ofusc.specs.Width.{Width, n4, n8, n16, n32}
 use Rattle.ofusc.specs.Map.{cellTerm, addressOf}
-use Rattle.ofusc.specs.Model.{cellNumber, pointNumber}
+use Rattle.ofusc.specs.Model.{cellNumber, pointInGroup}
 use Rattle.ofusc.proofs.Sequence.{pos, size, cell-term-lt}
 use Rattle.ofusc.proofs.Law.{subchannel-lt}
 
@@ -55,7 +55,7 @@ module _ {n : ℕ} (w : Width n) (cell : ℕ) where
   pub record Found (i j k fixed : ℕ) : Type 0 where
     pub group-few : k < 48
     pub subchannel-few : bitXor (i * 8 + j) fixed < 32
-    pub number : pointNumber (bitXor (i * 8 + j) fixed) k ≡ addressNumber (addressOf n cell (i * 8 + j))
+    pub number : pointInGroup (bitXor (i * 8 + j) fixed) k ≡ addressNumber (addressOf n cell (i * 8 + j))
 
   picked : (b : Bool) (k l x y : ℕ) → x ≡ cellNumber n cell k → y ≡ cellNumber n cell l → pick b x y ≡ cellNumber n cell (pick b k l)
   picked true k l x y ex ey = ex
@@ -63,7 +63,7 @@ module _ {n : ℕ} (w : Width n) (cell : ℕ) where
 
   pub found : (i j k l x y : ℕ) → i < 6 * n → j < 8 → k ≡ i * 8 / n → l ≡ (i * 8 + 4) / n → x ≡ cellNumber n cell k → y ≡ cellNumber n cell l
       → Found i j (pick (ltb j 4) k l) (pick (ltb j 4) x y)
-  unfolding pointNumber addressOf
+  unfolding pointInGroup addressOf
   found i j k l x y hi hj ek el ex ey =
       let d = i * 8 + j in
       let group : pick (ltb j 4) k l ≡ d / n = rw (ek, el) (sym (half-group w i j hj)) in

@@ -13,5 +13,5 @@ unfoldable pub groupNumber : (n cell s k : ℕ) → ℕ
 groupNumber n cell s k = k * n + bitXor s (cellTerm n cell k)
 
 -- the number of the point of subchannel s in group k
-unfoldable pub pointNumber : (s k : ℕ) → ℕ
-pointNumber s k = s * 48 + unrotate 48 (23 * s) k
+unfoldable pub pointInGroup : (s k : ℕ) → ℕ
+pointInGroup s k = s * 48 + unrotate 48 (23 * s) k

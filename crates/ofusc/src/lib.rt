@@ -14,7 +14,7 @@ ghost use Rattle.base.specs.Model.{Starts};
 ghost use Rattle.carriers.specs.Model.{addressNumber};
 ghost use Rattle.ofusc.specs.Width.{Width};
 ghost use Rattle.ofusc.specs.Map.{groupOf, term as Term, cellTerm, dataNumber, addressOf};
-ghost use Rattle.ofusc.specs.Model.{cellNumber, groupNumber, pointNumber};
+ghost use Rattle.ofusc.specs.Model.{cellNumber, groupNumber, pointInGroup};
 
 // The basic permutation sequences of document 002, table 6. The row of N, which has N-1 entries, starts at place N.
 const SEQUENCE_1: [u8; 63] = [
@@ -172,7 +172,7 @@ struct ByWidth {
     remainder: usize,
 }
 
-// Both by a constant at each width.
+// A number's quotient and remainder by the width, each by a constant.
 fn parts(n: usize, x: usize) -> ByWidth
     requires { ⌜ Width n ⌝ }
     ensures { λ r. ⌜ (r .quotient ≡ x / n) × (r .remainder ≡ x % n) ⌝ }
@@ -281,7 +281,7 @@ fn first_groups(n: usize, cell: usize) -> [u16; 48]
     table
 }
 
-// The same in each group, once for all subchannels: what the cell adds comes again after N-1 groups.
+// The data number of subchannel 0 in each group: what the cell adds comes again after N-1 groups.
 pub fn table(n: usize, cell: usize) -> [u16; 48]
     requires { ⌜ Width n ⌝ }
     requires { ⌜ cell < n * n ⌝ }
@@ -326,7 +326,7 @@ fn by_half(j: usize, first: u16, last: u16) -> u16
 // (k+25s) mod 48, since 25 and 23 make 48.
 fn point(fixed: u16, k: u16, d: u16) -> u16
     requires { ⌜ (bitXor d fixed < 32) × (k < 48) ⌝ }
-    ensures { λ r. ⌜ r ≡ pointNumber (bitXor d fixed) k ⌝ }
+    ensures { λ r. ⌜ r ≡ pointInGroup (bitXor d fixed) k ⌝ }
 {
     let s = d ^ fixed;
     s * 48 + (k + 25 * s) % 48

@@ -19,7 +19,7 @@ use Rattle.base.proofs.Rank.{rank-run, rank-most}
 use Rattle.pusc_dl.specs.Cluster.{renumber, clusterPlace}
 use Rattle.pusc_dl.specs.Group.{clusterStarts, subchannelStarts, groupIn, groupSize, ofSize, baseInverse, groupSubchannel, groupIndex, hasGroup}
 use Rattle.pusc_dl.specs.Map.{addressOf, logicalOf, usedGroup, usedData}
-use Rattle.pusc_dl.specs.Model.{turnedInverse, inverseEntry, groupNumber, subchannelRank, groupRank, logicalEntry, clusterEntry, clusterNumber}
+use Rattle.pusc_dl.specs.Model.{turnedInverse, inverseEntry, pointOfData, subchannelRank, groupRank, logicalEntry, clusterEntry, clusterNumber}
 use Rattle.pusc_dl.specs.declared.Physical.{Physical}
 use Rattle.pusc_dl.specs.declared.Logical.{Logical}
 use Rattle.pusc_dl.proofs.Tables.{b12-perm, b8-perm}
@@ -58,8 +58,8 @@ module _ (cell : ℕ) (row : List ℕ) (t : Starts 48 (inverseEntry cell) row) (
 
 -- the point of data number d, by its quotient and the entry of its remainder
 pub number-of : (size cell first n d x b r : ℕ) → n ≡ d / size → x % size ≡ d % size → b ≡ turnedInverse size cell x
-    → r ≡ first + (unrotate size n b * 48 + unrotate 24 (13 * unrotate size n b) n) → r ≡ first + groupNumber size cell d
-unfolding turnedInverse groupNumber groupSubchannel groupIndex
+    → r ≡ first + (unrotate size n b * 48 + unrotate 24 (13 * unrotate size n b) n) → r ≡ first + pointOfData size cell d
+unfolding turnedInverse pointOfData groupSubchannel groupIndex
 number-of size cell first n d x b r en ex eb er = er ∙ rw (eb, ex, en)
 
 -- ---- the ranks of the groups' first subchannels, over all masks
@@ -182,8 +182,8 @@ module _ (cell mask offset p : ℕ) (ho : offset < 2) (hp : p < 120) where
         rank-run (λ x. hasGroup mask (groupIn subchannelStarts x)) (entry subchannelStarts group) s
         (λ k h. ap (hasGroup mask) (subchannel-runs .group-of group k (g-lt mask logical logical-lt) (omega (arith, s-lt))) ∙ group-lit)
 
-    cluster-number : groupRank mask group * 48 + offset * 24 + groupNumber (groupSize group) cell (place * 12 + r) ≡ clusterNumber cell mask offset p r
-    unfolding clusterNumber addressOf groupNumber
+    cluster-number : groupRank mask group * 48 + offset * 24 + pointOfData (groupSize group) cell (place * 12 + r) ≡ clusterNumber cell mask offset p r
+    unfolding clusterNumber addressOf pointOfData
     cluster-number = rw (its-group, its-data, its-rank-on) (omega arith)
 
   -- as they are worked out from what is noted
@@ -203,18 +203,18 @@ module _ (cell mask offset p : ℕ) (ho : offset < 2) (hp : p < 120) where
         rw (its-place mask logical logical-lt e noted)
         (place-odd mask logical logical-lt (λ z. ne (its-parity mask logical logical-lt e noted ∙ z)))
 
-    numbers-of : (size : ℕ) → groupSize group ≡ size → (row : List ℕ) → row ≡ tabulate 12 (λ r. e / 64 * 48 + offset * 24 + groupNumber size cell (e % 32 * 12 + r))
+    numbers-of : (size : ℕ) → groupSize group ≡ size → (row : List ℕ) → row ≡ tabulate 12 (λ r. e / 64 * 48 + offset * 24 + pointOfData size cell (e % 32 * 12 + r))
         → hasGroup mask (usedGroup cell (p * 14)) ≡ true → Starts 12 (clusterNumber cell mask offset p) row
     numbers-of size es row er lit r h =
         entry-of row 12 _ er r h
         ∙ rw (its-rank mask logical logical-lt e noted, its-place mask logical logical-lt e noted, ← es) (cluster-number lit r h)
 
-    pub numbers-12 : e / 32 % 2 ≡ 0 → (row : List ℕ) → row ≡ tabulate 12 (λ r. e / 64 * 48 + offset * 24 + groupNumber 12 cell (e % 32 * 12 + r))
+    pub numbers-12 : e / 32 % 2 ≡ 0 → (row : List ℕ) → row ≡ tabulate 12 (λ r. e / 64 * 48 + offset * 24 + pointOfData 12 cell (e % 32 * 12 + r))
         → hasGroup mask (usedGroup cell (p * 14)) ≡ true → Starts 12 (clusterNumber cell mask offset p) row
     unfolding groupSize
     numbers-12 z = numbers-of 12 (rw (eq-eqb (group % 2) 0 (sym (its-parity mask logical logical-lt e noted) ∙ z)))
 
-    pub numbers-8 : (e / 32 % 2 ≡ 0 → ⊥) → (row : List ℕ) → row ≡ tabulate 12 (λ r. e / 64 * 48 + offset * 24 + groupNumber 8 cell (e % 32 * 12 + r))
+    pub numbers-8 : (e / 32 % 2 ≡ 0 → ⊥) → (row : List ℕ) → row ≡ tabulate 12 (λ r. e / 64 * 48 + offset * 24 + pointOfData 8 cell (e % 32 * 12 + r))
         → hasGroup mask (usedGroup cell (p * 14)) ≡ true → Starts 12 (clusterNumber cell mask offset p) row
     unfolding groupSize
     numbers-8 ne = numbers-of 8 (rw (ne-eqb (group % 2) 0 (λ z. ne (its-parity mask logical logical-lt e noted ∙ z))))

@@ -11,7 +11,7 @@ use Rattle.pusc_dl.specs.Table.{base12, base12Inverse, base8, base8Inver
 abbrev pub clusterStarts : List ℕ
 clusterStarts = 0 ∷ 24 ∷ 40 ∷ 64 ∷ 80 ∷ 104 ∷ []
 
--- its first subchannel
+-- the first subchannel of each group
 abbrev pub subchannelStarts : List ℕ
 subchannelStarts = 0 ∷ 12 ∷ 20 ∷ 32 ∷ 40 ∷ 52 ∷ []
 
@@ -50,7 +50,7 @@ groupData size cell s k =
 unfoldable pub groupSubchannel : (size cell d : ℕ) → ℕ
 groupSubchannel size cell d = unrotate size (d / size) (baseInverse size (unrotate size cell (d % size)))
 
--- The reverse: its index mod 24.
+-- The reverse: the index mod 24 of a group data number.
 unfoldable pub groupIndex : (size cell d : ℕ) → ℕ
 groupIndex size cell d = unrotate 24 (13 * groupSubchannel size cell d) (d / size)
 

@@ -7,7 +7,7 @@ use Rattle.pusc_dl.specs.Cluster.{renumber, unrenumber}
 use Rattle.pusc_dl.specs.declared.Physical.{Physical}
 use Rattle.pusc_dl.specs.declared.Logical.{Logical}
 
--- Document 01, "Partial usage": R of 120 entries, and B of 12 and of 8.
+-- Document 01, "Partial usage": R, of 120 entries, and B, of 12 and of 8, are permutations.
 pub record TableRules : Type 0 where
   pub renumbering : Permutation 120 table.renumbering table.renumberingInverse
   pub base12 : Permutation 12 table.base12 table.base12Inverse

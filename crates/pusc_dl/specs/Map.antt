@@ -29,15 +29,15 @@ logicalOf cell used =
     let physical : Physical = record { 0 = used / 14 } in
     renumber cell physical
 
--- The reverse: its group.
+-- The reverse: the group of a used number.
 unfoldable pub usedGroup : (cell used : ℕ) → ℕ
 usedGroup cell used = groupIn clusterStarts (logicalOf cell used .0)
 
--- The reverse: its group data number in a symbol. Its cluster's place in the group is the logical number less the group's first.
+-- The reverse: the group data number of a used number in a symbol. Its cluster's place in the group is the logical number less the group's first.
 unfoldable pub usedData : (cell symbol used : ℕ) → ℕ
 usedData cell symbol used = (logicalOf cell used .0 - entry clusterStarts (usedGroup cell used)) * 12 + clusterData symbol (used % 14)
 
--- The reverse: the address of the point there.
+-- The reverse: the address of the point on a used number that is no pilot.
 unfoldable pub addressOf : (cell offset used : ℕ) → Address
 addressOf cell offset used =
     let g = usedGroup cell used in

@@ -4,7 +4,6 @@ use Prim.Native.Nat.{ℕ, _+_, _-_, _*_, _/_, _%_, _^_}
 use lib.Dec.{ltb}
 use Rattle.base.specs.Choice.{pick}
 use Rattle.base.specs.Steps.{entry, unrotate}
-use Rattle.base.specs.Tabulate.{tabulate}
 use Rattle.base.specs.Rank.{rank}
 use Rattle.pusc_dl.specs.Table.{base12, base8}
 use Rattle.pusc_dl.specs.Cluster.{renumber, unrenumber, clusterPlace}
@@ -48,13 +47,13 @@ clusterLit cell mask p = pick (hasGroup mask (usedGroup cell (p * 14))) 1 0
 unfoldable pub turnedInverse : (size cell x : ℕ) → ℕ
 turnedInverse size cell x = baseInverse size (unrotate size cell (x % size))
 
--- both in one row: the base of 12 twice over, then that of 8 three times, so that twelve in a row need no reduction
+-- the inverses of both bases, turned back by the cell, in one row: that of 12 twice over, then that of 8 three times, so that twelve in a row need no reduction
 unfoldable pub inverseEntry : (cell x : ℕ) → ℕ
 inverseEntry cell x = pick (ltb x 24) (turnedInverse 12 cell x) (turnedInverse 8 cell x)
 
 -- the number of the point of a group's data number, 48 a subchannel of the group
-unfoldable pub groupNumber : (size cell d : ℕ) → ℕ
-groupNumber size cell d = groupSubchannel size cell d * 48 + groupIndex size cell d
+unfoldable pub pointOfData : (size cell d : ℕ) → ℕ
+pointOfData size cell d = groupSubchannel size cell d * 48 + groupIndex size cell d
 
 -- how many subchannels below s a mask lights
 abbrev pub subchannelRank : (mask s : ℕ) → ℕ
@@ -70,7 +69,7 @@ logicalEntry mask l =
     let g = groupIn clusterStarts (l .0) in
     groupRank mask g * 64 + (g % 2 * 32 + (l .0 - entry clusterStarts g))
 
--- and physical cluster p
+-- physical cluster p as one number, by its logical number
 unfoldable pub clusterEntry : (cell mask p : ℕ) → ℕ
 clusterEntry cell mask p =
     let physical : Physical = record { 0 = p } in

@@ -24,7 +24,7 @@ ghost use Rattle.pusc_dl.specs.Cluster as cluster;
 ghost use Rattle.pusc_dl.specs.Cluster.{firstPilot, secondPilot, isClusterPilot, clusterPlace, clusterData};
 ghost use Rattle.pusc_dl.specs.Group.{clusterStarts, subchannelStarts, groupIn, groupSize, ofSize, groupData, groupSubchannel, groupIndex, hasGroup};
 ghost use Rattle.pusc_dl.specs.Map.{groupUsed, usedGroup, usedData, spotOf, addressOf};
-ghost use Rattle.pusc_dl.specs.Model.{base12Thrice, base8FourTimes, turnedBase, groupCluster, groupSpot, groupBit, clusterLit, turnedInverse, inverseEntry, groupNumber, groupRank, logicalEntry, clusterEntry, clusterNumber};
+ghost use Rattle.pusc_dl.specs.Model.{base12Thrice, base8FourTimes, turnedBase, groupCluster, groupSpot, groupBit, clusterLit, inverseEntry, pointOfData, groupRank, logicalEntry, clusterEntry, clusterNumber};
 
 // A cluster's number in the order of the carriers, and its number after the renumbering. They are never added or compared, and
 // `renumber` and `unrenumber` are the only passage between them.
@@ -652,7 +652,7 @@ struct SpotNumbers {
     second: u16,
 }
 
-// Those of data number d of the group that has these clusters.
+// The spots of data number d of the group that has these clusters.
 fn spot_numbers(d: usize, clusters: &[u16; 24]) -> SpotNumbers
     requires { ⌜ (d / 12 < 24) × (entry (now clusters) (d / 12) < 1680) ⌝ }
     ensures { λ r. ⌜ (r .first ≡ entry (now (clusters .entry)) (d / 12) + clusterPlace 0 (d % 12)) × (r .second ≡ 2048 + (entry (now (clusters .entry)) (d / 12) + clusterPlace 1 (d % 12))) ⌝ }
@@ -815,7 +815,7 @@ pub fn inverses(cell: usize) -> [u16; 48]
     inverses
 }
 
-// Entry x of these.
+// Entry x of the row of both inverse bases.
 fn inverse_entry(twelve: &[u8; 12], eight: &[u8; 8], cell: usize, x: usize) -> u16
     requires { ⌜ (now twelve ≡ base12Inverse) × (now eight ≡ base8Inverse) × (cell < 32) × (x < 48) ⌝ }
     ensures { λ r. ⌜ r ≡ inverseEntry cell x ⌝ }
@@ -854,7 +854,7 @@ fn logical_entry(ranks: &[u16; 6], mask: usize, logical: Logical) -> u16
     ranks[g] * 64 + (g % 2 * 32 + (l - cluster_start(g))) as u16
 }
 
-// The same for each physical cluster.
+// What the points of each physical cluster need of it.
 pub fn clusters(cell: usize, mask: usize) -> [u16; 120]
     requires { ⌜ (cell < 32) × (mask < 64) ⌝ }
     ensures { λ r. ⌜ Starts 120 (clusterEntry cell mask) r ⌝ }
@@ -884,7 +884,7 @@ fn group_number(size: u16, first: u16, n: u16, m: u16, b: u16) -> u16
 // The numbers of the points of cluster i of a group of 12 subchannels, from `first` on.
 fn twelve_numbers(cell: usize, first: u16, i: u16, inverses: &[u16; 48]) -> [u16; 12]
     requires { ⌜ (first < 4096) × (i < 24) × Starts 48 (inverseEntry cell) (now inverses) ⌝ }
-    ensures { λ r. ⌜ r ≡ tabulate 12 (λ r. first + groupNumber 12 cell (i * 12 + r)) ⌝ }
+    ensures { λ r. ⌜ r ≡ tabulate 12 (λ r. first + pointOfData 12 cell (i * 12 + r)) ⌝ }
 {
     let m = reduce16(12, i);
     let mut numbers = [0; 12];
@@ -896,10 +896,10 @@ fn twelve_numbers(cell: usize, first: u16, i: u16, inverses: &[u16; 48]) -> [u16
     numbers
 }
 
-// The same in a group of 8: its twelve data numbers have two quotients.
+// The numbers of a cluster's points in a group of 8: its twelve data numbers have two quotients.
 fn eight_numbers(cell: usize, first: u16, i: u16, inverses: &[u16; 48]) -> [u16; 12]
     requires { ⌜ (first < 4096) × (i < 16) × Starts 48 (inverseEntry cell) (now inverses) ⌝ }
-    ensures { λ r. ⌜ r ≡ tabulate 12 (λ r. first + groupNumber 8 cell (i * 12 + r)) ⌝ }
+    ensures { λ r. ⌜ r ≡ tabulate 12 (λ r. first + pointOfData 8 cell (i * 12 + r)) ⌝ }
 {
     let from = 24 + wide16(i) * 12 % 8;
     let mut numbers = [0; 12];

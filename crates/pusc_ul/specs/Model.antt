@@ -32,7 +32,7 @@ putTwo row j x = set (set row (j * 2) x) (j * 2 + 1) (x + 1)
 unfoldable pub tilePlace : (offset j : ℕ) → ℕ
 tilePlace offset j = pick (eqb offset 1) j (j + 1)
 
--- how many they are
+-- how many data carriers a tile has in a symbol of the slot
 unfoldable pub tilePoints : (offset : ℕ) → ℕ
 tilePoints offset = pick (eqb offset 1) 4 2
 

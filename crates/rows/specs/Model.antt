@@ -77,7 +77,7 @@ IsRun setup i = setup .mode ≡ 0 → i < 120
 unfoldable pub runLit : (setup : Setup) (lit : List ℕ) (i : ℕ) → ℕ
 runLit setup lit i = pick (eqb (setup .mode) 0) (entry lit i) 1
 
--- each of them is lit or not
+-- The flag of each run says lit or not.
 abbrev pub RunFlags : (setup : Setup) (lit : List ℕ) → Type 0
 RunFlags setup lit = (i : ℕ) → IsRun setup i → runLit setup lit i < 2
 

@@ -32,5 +32,5 @@ pastSpaces at [] = at
 pastSpaces at (byte ∷ rest) = cond (eqb byte 32) (pastSpaces (suc at) rest) at
 
 -- The number in base ten that stands at a place of `src`, past spaces.
-unfoldable pub numberAt : (src : List ℕ) (at : ℕ) → Numeral
-numberAt src at = let start = pastSpaces at (drop at src) in readOn 0 start (drop start src)
+unfoldable pub parsedAt : (src : List ℕ) (at : ℕ) → Numeral
+parsedAt src at = let start = pastSpaces at (drop at src) in readOn 0 start (drop start src)

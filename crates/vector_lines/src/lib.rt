@@ -3,7 +3,7 @@ use libc::STDOUT_FILENO;
 ghost use mathlib.Core.Path.{_≡_};
 ghost use Prim.Native.Nat.{_≤_, _<_};
 ghost use lib.ListN.{length, getD, drop};
-ghost use Rattle.vector_lines.specs.Model.{numeral, digitOf, withDigit, pastSpaces, numberAt};
+ghost use Rattle.vector_lines.specs.Model.{numeral, digitOf, withDigit, pastSpaces, parsedAt};
 
 // A number read from text, and the place after its last digit.
 pub struct Number {
@@ -14,7 +14,7 @@ pub struct Number {
 // Reads the number in base ten that stands at a place of `src`, past spaces. It is 0 where no digit
 // stands there, and usize::MAX where it is larger than that.
 pub fn read_number(src: &[u8], at: usize) -> Number
-    ensures { λ r. ⌜ numeral (r .value) (r .next) ≡ numberAt (now (src .entry)) at ⌝ }
+    ensures { λ r. ⌜ numeral (r .value) (r .next) ≡ parsedAt (now (src .entry)) at ⌝ }
 {
     let mut next = past_spaces(src, at);
     let mut value = 0;

@@ -1,11 +1,11 @@
 -- `ofusc::point` meets its contract.
 use borrow.Author.Needs.{needs}
-use Rattle.ofusc.specs.Model.{pointNumber}
+use Rattle.ofusc.specs.Model.{pointInGroup}
 use Rattle.ofusc.proofs.point.Statement.{statement}
 use Rattle.ofusc.proofs.point.Tie as tie
 
 pub point-spec : {M : Type 1} → statement M
-unfolding pointNumber
+unfolding pointInGroup
 point-spec =
     tie.close
     (tie.spec

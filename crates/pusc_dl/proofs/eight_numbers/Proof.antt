@@ -4,13 +4,13 @@ use Prim.Native.Nat.{ℕ, _+_, _-_, _*_, _%_}
 use native.Mathlib.Omega.{arith}
 use borrow.Author.Needs.{needs}
 use Rattle.base.proofs.Tabulate.{Written, written-none, written-next, written-all}
-use Rattle.pusc_dl.specs.Model.{groupNumber}
+use Rattle.pusc_dl.specs.Model.{pointOfData}
 use Rattle.pusc_dl.proofs.Points.{entry-8, number-of}
 use Rattle.pusc_dl.proofs.eight_numbers.Statement.{statement}
 use Rattle.pusc_dl.proofs.eight_numbers.Tie as tie
 
 abbrev Inv-loop : tie.InvT-loop
-Inv-loop cell first i inverses from numbers₀ r₀ numbers r = Written 12 (λ r. first + groupNumber 8 cell (i * 12 + r)) numbers r
+Inv-loop cell first i inverses from numbers₀ r₀ numbers r = Written 12 (λ r. first + pointOfData 8 cell (i * 12 + r)) numbers r
 
 abbrev μ-loop : tie.MeasureT-loop
 μ-loop cell first i inverses from numbers₀ r₀ numbers r = 12 - r

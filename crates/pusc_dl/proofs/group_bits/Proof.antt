@@ -1,7 +1,6 @@
 -- `pusc_dl::group_bits` meets its contract.
 use mathlib.Core.Path.{refl, ap, _∙_}
 use Prim.Native.Nat.{_-_, _^_}
-use native.Mathlib.Omega.{arith}
 use borrow.Author.Needs.{needs}
 use Rattle.base.proofs.Tabulate.{Written, written-none, written-next, written-all}
 use Rattle.pusc_dl.specs.Group.{clusterStarts, groupIn}

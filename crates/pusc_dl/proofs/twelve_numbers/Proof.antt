@@ -3,13 +3,13 @@ use Prim.Native.Nat.{_+_, _-_, _*_}
 use native.Mathlib.Omega.{arith}
 use borrow.Author.Needs.{needs}
 use Rattle.base.proofs.Tabulate.{Written, written-none, written-next, written-all}
-use Rattle.pusc_dl.specs.Model.{groupNumber}
+use Rattle.pusc_dl.specs.Model.{pointOfData}
 use Rattle.pusc_dl.proofs.Points.{entry-12, number-of}
 use Rattle.pusc_dl.proofs.twelve_numbers.Statement.{statement}
 use Rattle.pusc_dl.proofs.twelve_numbers.Tie as tie
 
 abbrev Inv-loop : tie.InvT-loop
-Inv-loop cell first i inverses m numbers₀ r₀ numbers r = Written 12 (λ r. first + groupNumber 12 cell (i * 12 + r)) numbers r
+Inv-loop cell first i inverses m numbers₀ r₀ numbers r = Written 12 (λ r. first + pointOfData 12 cell (i * 12 + r)) numbers r
 
 abbrev μ-loop : tie.MeasureT-loop
 μ-loop cell first i inverses m numbers₀ r₀ numbers r = 12 - r

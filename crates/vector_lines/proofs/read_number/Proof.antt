@@ -4,13 +4,13 @@ use Prim.Native.Nat.{ℕ, _-_, _<_}
 use native.Mathlib.Omega.{arith}
 use mathlib.Core.Path.{_≡_, sym, ap, _∙_}
 use lib.ListN.{length, getD, drop}
-use Rattle.vector_lines.specs.Model.{digitOf, readOn, numberAt}
+use Rattle.vector_lines.specs.Model.{digitOf, readOn, parsedAt}
 use Rattle.vector_lines.proofs.Reading.{within, reads-on, reads-end}
 use Rattle.vector_lines.proofs.read_number.Statement.{statement}
 use Rattle.vector_lines.proofs.read_number.Tie as tie
 
 abbrev Inv-loop : tie.InvT-loop
-Inv-loop src at next₀ value₀ digit₀ next value digit = (readOn value next (drop next src) ≡ numberAt src at) × (digit ≡ digitOf (getD src next 0))
+Inv-loop src at next₀ value₀ digit₀ next value digit = (readOn value next (drop next src) ≡ parsedAt src at) × (digit ≡ digitOf (getD src next 0))
 
 abbrev μ-loop : tie.MeasureT-loop
 μ-loop src at next₀ value₀ digit₀ next value digit = length src - next
@@ -20,7 +20,7 @@ inside : (c : tie.In-loop Inv-loop μ-loop) → c .before .loop .next < length (
 inside c = within (c .before .before .before .before .before .args .src .now) (c .before .loop .next) (c .before .loop .digit) (c .before .loop .inv .1) (c .loop-test .taken)
 
 loop-holds : tie.Need-loop-holds Inv-loop μ-loop
-unfolding numberAt
+unfolding parsedAt
 loop-holds c =
     let src = c .before .before .before .args .src .now in
     (ap (λ (k : ℕ). readOn 0 k (drop k src)) (c .before .past-spaces .ensures), c .digit-at .ensures)
