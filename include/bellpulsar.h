@@ -250,8 +250,9 @@ uint32_t bp_look(uint32_t mode, uint32_t size, uint32_t cell, uint32_t mask, uin
                  const float *grid, size_t grid_len, int32_t carrier, uint32_t *kind, float point[2],
                  uint32_t *slot, uint32_t *subchannel, uint32_t *index);
 
-/* COLLISIONS are of one subchannel of a cell with one subchannel of a cell, different or the same, in the same symbol. There are
- * two calls, for optional FUSC and for AMC, and none for PUSC. */
+/* COLLISIONS. There are two calls, over two cells that may be different or the same. That of optional FUSC tells where one
+ * subchannel of the first cell and one of the second share a carrier; that of AMC where both cells put the same index of a
+ * subchannel on the same carrier of the same symbol. There is none for PUSC. */
 
 /* Optional FUSC: in which groups one subchannel, subchannel_a of cell_a, and one other, subchannel_b of cell_b, share a carrier.
  *

@@ -1938,25 +1938,37 @@ class RuleSheet(Case):
         self.assertEqual([size for _, size in self.by_size], ref.sizes(ref.OFUSC))
         share = "In optional FUSC, %s share a carrier in at most %%s." % ONE_AND_ONE
         rows = [(size // 64 - 1, size) for _, size in self.by_size]
-        rows = in_turn("in %d of any %%d groups at FFT size %%d" % self.row, "of any %d at %d", rows)
-        wanted = "%d of any N - 1 groups in a row, N being the number of subchannels of a cell: %s" % (self.row, rows)
+        rows = in_turn("in at most %d of any %%d in a row at FFT size %%d" % self.row, "of any %d in a row at %d", rows)
+        wanted = "%d of any N - 1 groups in a row within groups 0 to 47 (group 0 does not follow group 47)," % self.row
+        wanted += " N being the number of subchannels of a cell: " + rows
         self.assertEqual(self.rules["b"], share % wanted)
         wanted = in_turn("%d of the 48 groups of a symbol at FFT size %d", "in at most %d at %d", self.by_size)
         self.assertEqual(self.rules["c"], share % wanted)
         wanted = in_turn("in %d of the 48 groups of a symbol at %d", "in %d at %d", self.by_size)
-        self.assertIn("share a carrier in %d of N - 1 groups in a row, " % self.row, self.rules["d"])
+        told = "share a carrier in %d of some N - 1 groups in a row within groups 0 to 47, " % self.row
+        self.assertIn(told, self.rules["d"])
         self.assertIn(" and %s; so no lower limit holds." % wanted, self.rules["d"])
 
     def test_title_and_table(self):
         told = "one subchannel of a cell and one subchannel of a different cell share a carrier\n"
         self.assertRegex(self.sheet, "^# Rule sheet for network planners: how often " + told)
         heading = re.search(r"^\| FFT size, .*$", self.sheet, re.MULTILINE)[0]
-        for groups in ("N - 1 groups in a row", "all 48 groups"):
+        for groups in ("any N - 1 groups in a row within groups 0 to 47", "all 48 groups"):
             told = "| one subchannel of a cell and one of a different cell share a carrier, of %s, in at most (" % groups
             self.assertIn(told, heading)
-        row = r"^\| (\d+) \| (\d+) \| 0 to (\d+) \| (\d+) of any (\d+) \| (\d+) of 48 \|$"
+        row = r"^\| (\d+) \| (\d+) \| 0 to (\d+) \| (\d+) of any (\d+) in a row \| (\d+) of 48 \|$"
         rows = [tuple(map(int, found)) for found in re.findall(row, self.sheet, re.MULTILINE)]
         self.assertEqual(rows, [(64 * n, n, n * n - 1, self.row, n - 1, most) for n, most in self.most.items()])
+
+    def test_at_one_size(self):
+        """A rule that names no FFT size says that it is of one, or of each."""
+        wanted = "In optional FUSC, at each FFT size, each subchannel of a cell has one carrier in each of the 48 groups of a"
+        wanted += " symbol. Two subchannels of optional FUSC at one FFT size, of one cell or of two, collide in a group exactly"
+        wanted += " when both have the same carrier there, in every symbol alike, and the count of the two subchannels is the"
+        wanted += " number of groups in which they collide."
+        self.assertEqual(self.rules["a"], wanted)
+        for letter in "ef":
+            self.assertRegex(self.rules[letter], "^In optional FUSC, at one FFT size, ")
 
     def test_sum_and_one_cell(self):
         total = self.figure("e-sum", r"sum n \(λ t\. ofuscOf \(64 \* n\) a s b t \.count\) ≡ (\d+)")
@@ -1966,8 +1978,9 @@ class RuleSheet(Case):
         self.assertIn("in all %d groups of a symbol where both use the same subchannel, and in none" % every, self.rules["f"])
 
     def test_figure_of_amc(self):
-        wanted = "In AMC a subchannel has the same carriers under every cell, and what is counted is where both cells put the"
-        wanted += " same index: %s have the same index on the same carrier of the same symbol" % ONE_AND_SAME
+        wanted = "In AMC, at one FFT size and in one slot shape, a subchannel has the same carriers under every cell, and"
+        wanted += " what is counted is where both cells put the same index:"
+        wanted += " %s have the same index on the same carrier of the same symbol" % ONE_AND_SAME
         wanted += " for at most %d of the 48 indices. " % self.amc
         self.assertTrue(self.rules["g"].startswith(wanted), self.rules["g"])
         every = self.figure("g-same", r"amcOf a a \.count ≡ (\d+)")
@@ -2011,6 +2024,19 @@ class RuleSheet(Case):
         for name in PUBLIC_TEXTS + ["docs/RULES.md", "docs/FIGURES.md", "README.md"]:
             words = re.sub(r"\s*\n[ */!#>]*", " ", file_text(name))
             self.assertNotRegex(words, r"(?i)\btwo (different )?cells (collide|share|meet)\b", name)
+
+    def test_to_collide_has_one_meaning(self):
+        """The same carrier in the same symbol, as the sheet defines it: of AMC's marks, of equal indices, it is not used."""
+        told = "Two subchannels **collide** where both have the same data carrier in the same symbol,"
+        self.assertIn(told, " ".join(self.sheet.split()))
+        self.assertNotRegex(self.rules["g"], r"(?i)\bcollid")
+        for name in PUBLIC_TEXTS + ["docs/FIGURES.md", "README.md"]:
+            self.assertNotRegex(file_text(name), r"(?i)\bcollid", name)
+        both = "both cells put the same index of a subchannel on the same carrier of the same symbol"
+        names = ("include/bellpulsar.h", "rust/src/collisions.rs", "python/bellpulsar/__init__.py", "docs/bellpulsar.1")
+        for name in names:
+            self.assertIn(both, re.sub(r"\s*\n[ */!#>]*", " ", file_text(name)), name)
+        self.assertIn(both, " ".join(run("--help").stdout.decode().split()))
 
 
 # --- failures ---------------------------------------------------------------------------------

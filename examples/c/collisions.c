@@ -1,6 +1,6 @@
-/* Where one subchannel of a cell and one of a different cell collide. Optional FUSC: collisions SIZE CELL SUBCHANNEL CELL
-   SUBCHANNEL, the groups in which both are on one carrier; AMC: collisions CELL CELL, the indices that both cells put on one
-   carrier of one symbol, in every subchannel */
+/* Optional FUSC: collisions SIZE CELL SUBCHANNEL CELL SUBCHANNEL, the groups in which one subchannel of the first cell and one
+   of the second share a carrier. AMC: collisions CELL CELL, the indices of a subchannel, any one, that both cells put on the
+   same carrier of the same symbol */
 #include <stdio.h>
 
 #include "bellpulsar.h"

@@ -104,8 +104,9 @@ Numbers. Any integer may stand in any field. One that 32 bits do not hold, negat
 the engine as -2**31 or 2**31 - 1. About a count of carriers no question is put: one beyond 32 bits means all of them,
 and a negative one is a ValueError.
 
-Collisions are of one subchannel of a cell with one subchannel of a cell, different or the same, in the same symbol: of
-optional FUSC by `ofusc_collisions`, of AMC by `amc_collisions`. There is no such call for PUSC.
+Collisions. `ofusc_collisions` tells where one subchannel of a cell and one of a second cell share a carrier in optional
+FUSC; `amc_collisions` where two cells put the same index of a subchannel on the same carrier of the same symbol in AMC.
+The two cells may be different or the same. There is no such call for PUSC.
 
 Refusals. A request that cannot be met raises Refusal, with the number of the first question that is answered no, as
 QUESTIONS has them; its text says what was asked, the value given and what would be accepted. Nothing is written then.
@@ -276,8 +277,11 @@ class Seen(NamedTuple):
 
 
 class Collisions(NamedTuple):
-    """48 marks, of groups (optional FUSC) or of indices (AMC), True where one subchannel of the first cell and one of
-    the second collide, and how many are True."""
+    """48 marks, of groups (optional FUSC) or of indices (AMC), and how many are True.
+
+    True where one subchannel of the first cell and one of the second share a carrier (optional FUSC), or where both
+    cells put the same index of a subchannel on the same carrier of the same symbol (AMC).
+    """
 
     hits: Tuple[bool, ...]
     count: int  # type: ignore[assignment]  # a tuple has one of its own

@@ -1,8 +1,10 @@
 use crate::refusal::done;
 use crate::{c, Refusal};
 
-/// The groups (optional FUSC) or indices (AMC) in which one subchannel of a cell and one subchannel of a cell, different
-/// or the same, collide in a symbol, and how many they are. There is no such call for PUSC.
+/// 48 marks, of groups (optional FUSC) or of indices (AMC), and how many are true. A mark is true where one subchannel of
+/// the first cell and one of the second share a carrier (optional FUSC), or where both cells put the same index of a
+/// subchannel on the same carrier of the same symbol (AMC). The two cells may be different or the same. There is no such
+/// call for PUSC.
 ///
 /// ```
 /// use bellpulsar::{amc_collisions, ofusc_collisions, Refusal};

@@ -1,4 +1,4 @@
--- Collisions of two cells: document 01, "Meetings". Its marks are the hits.
+-- Document 01, "Meetings", whose marks are the hits. In optional FUSC one subchannel of a cell is compared with one of a second cell, group by group; in AMC the same index under two cells, index by index.
 use mathlib.Core.Bool.{Bool, false}
 use mathlib.Core.List.{List, [], _∷_}
 use Prim.Native.Nat.{ℕ, _+_, _*_}

@@ -1,4 +1,5 @@
-// Collisions: where the points of two cells meet on one carrier.
+// Collisions: in optional FUSC the groups in which one subchannel of a cell and one of a second cell have the same carrier, in
+// AMC the indices that two cells put on the same carrier of the same symbol, in every subchannel alike.
 ghost use mathlib.Core.Path.{_≡_};
 ghost use Prim.Native.Nat.{_*_, _<_};
 ghost use Rattle.base.specs.Answer.{accepted, refused as Refused};
