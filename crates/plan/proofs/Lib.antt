@@ -4,6 +4,7 @@ pub mod Number
 pub mod Judge
 pub mod Step
 pub mod Each
+pub mod Values
 pub mod Bytes
 pub mod Round
 pub mod Decide

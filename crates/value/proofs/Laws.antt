@@ -65,16 +65,14 @@ read-written x rest h =
         rw (encode-3 x m h, follow 2 (x % 128 + 128) ((x / 128 % 128 + 128) ∷ x / 16384 ∷ rest) (omega arith), follow 1 (x / 128 % 128 + 128) (x / 16384 ∷ rest) (omega arith), last 0 (x / 16384) rest (omega arith), some (x / 128 % 128 + 128) (x / 16384) 1 (λ z. omega arith))
         (some (x % 128 + 128) ((x / 128 % 128 + 128) % 128 + 128 * (x / 16384)) 2 (λ z. omega arith) ∙ ap (λ y. accepted (record { value = y; bytes = 3 })) (omega arith))
 
--- how many bytes a value takes
-module _ (x : ℕ) where
-  pub bytes-1 : x < 128 → 1 ≡ length (encode x)
-  bytes-1 h = rw (encode-1 x h)
-
-  bytes-2 : 128 ≤ x → x < 16384 → 2 ≡ length (encode x)
-  bytes-2 m h = rw (encode-2 x m h)
-
-pub bytes-two : (x : ℕ) → x < 16384 → length (encode x) ≤ 2
-bytes-two x h = cases (ltb x 128) (λ e. omega (arith, bytes-1 x (ltb-true x 128 e))) (λ e. omega (arith, bytes-2 x (ltb-false x 128 e) h))
+-- A value takes no more bytes than a larger one.
+pub no-longer : (g : ℕ) {x y : ℕ} → x ≤ y → length (encodeIn g x) ≤ length (encodeIn g y)
+unfolding encodeIn
+no-longer zero h = omega arith
+no-longer (suc g) {x} {y} h =
+    cases (ltb x 128)
+    (λ e. rw e (cases (ltb y 128) (λ f. rw f (omega arith)) (λ f. rw f (omega arith))))
+    (λ e. let m = ltb-false x 128 e in rw (e, le-ltb y 128 (omega arith)) (omega (arith, no-longer g {x = x / 128} {y = y / 128} (omega arith))))
 
 -- What was read is written again: as many bytes, and the same where they are bytes.
 pub record Again (written read : List ℕ) : Type 0 where
