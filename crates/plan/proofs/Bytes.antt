@@ -1,10 +1,10 @@
 -- How many bytes zones and plans take, and the answers of writing.
 use mathlib.Core.Path.{_≡_}
 use mathlib.Core.List.{List, [], _∷_}
-use Prim.Native.Nat.{ℕ, _+_, _*_, _<_, _≤_}
+use Prim.Native.Nat.{ℕ, zero, suc, _+_, _*_, _<_, _≤_}
 use native.Mathlib.Nat.{zero-add}
 use native.Mathlib.Omega.{arith}
-use lib.ListN.{length, take, length-append, length-take}
+use lib.ListN.{length, take, getD, length-append, length-take}
 use borrow.Author.Tests.{eq-eqb, ne-eqb, le-leb, lt-leb}
 use Rattle.base.specs.Answer.{accepted, refused}
 use Rattle.text.specs.Text.{put, Put}
@@ -18,40 +18,51 @@ use Rattle.plan.specs.Zone.{valuesOf, each}
 use Rattle.plan.specs.Write.{usedZones, zoneBytes, planBytes, writeOf}
 use Rattle.plan.specs.Model.{Small, planRefusal}
 use Rattle.plan.proofs.Number.{plan-numbered}
-use Rattle.plan.proofs.Judge.{Judged, none as no-zone, then as one-more, small, Fit, count-most, size-small}
-use Rattle.plan.proofs.Values.{Within, none, then, bytes-most}
+use Rattle.plan.proofs.Judge.{Judged, none, then, small, Fit, count-most, size-small}
 
--- A zone's values are within their limits, whose bytes are 6: 1 for the mode, 2 for the cell, 2 for the slots, 1 for the mask.
-abbrev pub limits : List ℕ
-limits = 6 ∷ 2351 ∷ 512 ∷ 63 ∷ []
+-- Values of which none is above its limit, each limit below 2^21.
+pub data Within : (values limits : List ℕ) → Type 0 where
+  all : Within [] []
+  also : (x most : ℕ) {values limits : List ℕ} → x ≤ most → most < 2097152 → Within values limits → Within (x ∷ values) (most ∷ limits)
 
-pub within : {z : Zone} → Small z → Within (valuesOf z) limits
+-- They take no more bytes than the limits do.
+bytes-most : {values limits : List ℕ} → Within values limits → length (each encode values) ≤ length (each encode limits)
+unfolding each
+bytes-most all = omega arith
+bytes-most (also x most h l w) = simp length-append (omega (arith, no-longer 3 h, bytes-most w))
+
+pub value-small : {values limits : List ℕ} (k : ℕ) → Within values limits → getD values k 0 < 2097152
+value-small k all = omega arith
+value-small zero (also x most h l w) = omega arith
+value-small (suc k) (also x most h l w) = value-small k w
+
+-- A zone's values are within limits that take 6 bytes: 1 for the mode, 2 for the cell, 2 for the slots, 1 for the mask.
+pub within : {z : Zone} → Small z → Within (valuesOf z) (6 ∷ 2351 ∷ 512 ∷ 63 ∷ [])
 within {z} s =
-    then (z .mode) 6 (omega arith) (omega arith)
-    (then (z .cell) 2351 (omega arith) (omega arith)
-    (then (z .slots) 512 (omega arith) (omega arith)
-    (then (z .mask) 63 (omega arith) (omega arith) none)))
+    also (z .mode) 6 (omega arith) (omega arith)
+    (also (z .cell) 2351 (omega arith) (omega arith)
+    (also (z .slots) 512 (omega arith) (omega arith)
+    (also (z .mask) 63 (omega arith) (omega arith) all)))
 
-pub zone-6 : {z : Zone} → Small z → length (zoneBytes z) ≤ 6
+zone-6 : {z : Zone} → Small z → length (zoneBytes z) ≤ 6
 unfolding zoneBytes each encodeIn
 zone-6 s = bytes-most (within s)
 
 -- So the zones of a fit plan take 48. The count takes 1 and the size 2, so the plan takes 51.
 zones-most : {size : ℕ} {before : Before} {zones : List Zone} → Judged size before zones → length (each zoneBytes zones) ≤ 6 * length zones
 unfolding each
-zones-most no-zone = omega arith
-zones-most (one-more p j) = simp length-append (omega (arith, zone-6 (small p), zones-most j))
-
-pub head-3 : {p : Plan} → Fit p → (length (encode (p .count)) ≤ 1) × (length (encode (p .size)) ≤ 2)
-unfolding encodeIn
-head-3 {p} f = (no-longer 3 {y = 8} (count-most (p .count) (f .count-is)), no-longer 3 {y = 2048} (size-small (p .size) (f .size-is)))
+zones-most none = omega arith
+zones-most (then p j) = simp length-append (omega (arith, zone-6 (small p), zones-most j))
 
 pub plan-length : (p : Plan) → length (planBytes p) ≡ length (encode (p .count)) + (length (encode (p .size)) + length (each zoneBytes (usedZones p)))
 unfolding planBytes
 plan-length p = simp length-append
 
 pub plan-51 : (p : Plan) → Fit p → length (planBytes p) ≤ 51
-plan-51 p f = omega (arith, plan-length p, count-most (p .count) (f .count-is), zones-most (f .judged), length-take (p .count) (p .zones), head-3 f)
+unfolding encodeIn
+plan-51 p f =
+    let most = count-most (p .count) (f .count-is) in
+    omega (arith, plan-length p, zones-most (f .judged), length-take (p .count) (p .zones), no-longer 3 most, no-longer 3 (size-small (p .size) (f .size-is)))
 
 -- the answers of writing: a plan's bytes are made first, then copied
 module _ (p : Plan) (d : List ℕ) {number : ℕ} (e : number ≡ planRefusal p) where

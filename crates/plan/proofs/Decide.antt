@@ -1,10 +1,10 @@
 -- The first bytes decide: each value looks at three bytes at most, and the last question at whether there is one more.
-use mathlib.Core.Path.{_≡_, refl, sym, ap, _∙_}
+use mathlib.Core.Path.{_≡_, refl, ap, _∙_}
 use mathlib.Core.List.{List, [], _∷_}
 use Prim.Native.Nat.{ℕ, zero, suc, _+_, _-_, _*_, _≤_}
 use native.Mathlib.Omega.{arith}
 use lib.ListN.{length, take, drop, length-append, length-drop}
-use lib.Seq.{take-nil}
+use lib.Seq.{drop-at, take-add, length-take-le}
 use borrow.Author.Tests.{ne-eqb}
 use Rattle.base.specs.Choice.{pick}
 use Rattle.base.specs.Answer.{Answer, accepted, refused, ask}
@@ -23,11 +23,8 @@ use Rattle.plan.proofs.Judge.{count-most}
 abbrev Decided : {A : Type 0} → ℕ → (List ℕ → Answer A) → Type 0
 Decided k read = (j : ℕ) → k ≤ j → (s : List ℕ) → read (take j s) ≡ read s
 
-drop-take : (n j m : ℕ) (s : List ℕ) → j ≡ n + m → drop n (take j s) ≡ take m (drop n s)
-drop-take zero j m s e = let same : j ≡ m = omega arith in rw same
-drop-take (suc n) zero m s e = absurd (omega arith)
-drop-take (suc n) (suc j) m [] e = sym (take-nil m)
-drop-take (suc n) (suc j) m (x ∷ s) e = drop-take n j m s (omega arith)
+drop-take : (n m : ℕ) (s : List ℕ) → n ≤ length s → drop n (take (n + m) s) ≡ take m (drop n s)
+drop-take n m s h = rw take-add (drop-at (take n s) (take m (drop n s)) n (length-take-le n s h))
 
 -- after a value, so many bytes more as it needs
 then-more : {A : Type 0} (n : ℕ) (more : ℕ → ℕ) (next : ℕ → List ℕ → Answer A) → 3 ≤ n → ((s : List ℕ) (v : Value) → valueOf s ≡ accepted v → v .bytes + more (v .value) ≤ n)
@@ -38,7 +35,8 @@ then-more n more next three most d j h s = ap (λ v. handOn v (take j s) next) (
     by (refused number) q = refl
     by (accepted v) q =
         let few = most s v q in
-        ap (next (v .value)) (drop-take (v .bytes) j (j - v .bytes) s (omega arith)) ∙ d (v .value) (j - v .bytes) (omega arith) (drop (v .bytes) s)
+        let more-is : v .bytes + (j - v .bytes) ≡ j = omega arith in
+        ap (next (v .value)) (rw more-is at (drop-take (v .bytes) (j - v .bytes) s (bytes-within 3 s q))) ∙ d (v .value) (j - v .bytes) (omega arith) (drop (v .bytes) s)
 
 value-decided : {A : Type 0} (k : ℕ) (next : ℕ → List ℕ → Answer A) → ((value : ℕ) → Decided k (next value)) → Decided (3 + k) (λ s. readValue s next)
 value-decided k next d = then-more (3 + k) (λ value. k) next (omega arith) (λ s v q. omega (arith, at-most-three s q)) d

@@ -4,7 +4,6 @@ pub mod Number
 pub mod Judge
 pub mod Step
 pub mod Each
-pub mod Values
 pub mod Bytes
 pub mod Round
 pub mod Decide

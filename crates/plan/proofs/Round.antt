@@ -6,27 +6,71 @@ use Prim.Native.Nat.{ℕ, zero, suc, _<_, _≤_}
 use native.Mathlib.Omega.{arith}
 use lib.Dec.{eqb, leb}
 use lib.ListN.{length, take, drop, getD}
-use lib.Seq.{take-append-seam, length-take-le}
+use lib.Seq.{drop-append-seam, take-append-seam, take-all, length-take-le}
 use borrow.Author.Tests.{eqb-true, le-leb}
 use Rattle.base.specs.Answer.{Answer, accepted, refused, ask}
 use Rattle.base.specs.Tabulate.{tabulate}
 use Rattle.base.proofs.Chain.{ask-yes, same-accepted}
 use Rattle.base.proofs.Tabulate.{tabulated}
 use Rattle.map.specs.Question.{isFourSizes}
-use Rattle.value.specs.Value.{Bytes, encode}
-use Rattle.value.proofs.Laws.{Again, again-then}
+use Rattle.value.specs.Value.{Bytes, Value, valueOf, encode}
+use Rattle.value.proofs.Laws.{read-written, Again, again, again-then}
 use Rattle.plan.specs.declared.Zone.{Zone}
 use Rattle.plan.specs.declared.Plan.{Plan}
 use Rattle.plan.specs.declared.Before.{Before}
 use Rattle.plan.specs.declared.Before.the-variants.{First, After}
 use Rattle.plan.specs.Zone.{zoneOf, isCount, inPlaces, each}
-use Rattle.plan.specs.Read.{readZones, planWith, finish, planOf}
+use Rattle.plan.specs.Read.{handOn, readValue, readValues, readZones, planWith, finish, planOf}
 use Rattle.plan.specs.Write.{usedZones, askPlan, zoneBytes, planBytes, AfterWrite, over, afterWrite, writeOf}
 use Rattle.plan.specs.Law.{Eight}
 use Rattle.plan.proofs.Places.{take-places, drop-places, places-of, places-length}
 use Rattle.plan.proofs.Judge.{zone-yes, zone-passes, Judged, none, then, small, Fit, plan-yes, plan-passes, count-most, size-small}
-use Rattle.plan.proofs.Values.{value-of, of-value, values-of, of-values}
-use Rattle.plan.proofs.Bytes.{within, plan-51}
+use Rattle.plan.proofs.Bytes.{Within, all, also, within, plan-51}
+
+-- From bytes to a value and back.
+record Value-of {A : Type 0} (s : List ℕ) (next : ℕ → List ℕ → Answer A) (a : A) : Type 0 where
+  value : ℕ
+  after : List ℕ
+  bytes : Again (encode value ++ after) s
+  go-on : next value after ≡ accepted a
+
+value-of : {A : Type 0} (s : List ℕ) (next : ℕ → List ℕ → Answer A) {a : A} → readValue s next ≡ accepted a → Value-of s next a
+value-of s next {a} e = by (valueOf s) refl e
+  where
+    by : (v : Answer Value) → valueOf s ≡ v → handOn v s next ≡ accepted a → Value-of s next a
+    by (accepted v) q e′ = record { value = v .value; after = drop (v .bytes) s; bytes = again 3 s q; go-on = e′ }
+    by (refused k) q e′ = absurd (let z : _≡_ {A = ℕ} 0 1 = cc in omega arith)
+
+of-value : {A : Type 0} (x : ℕ) (s : List ℕ) (next : ℕ → List ℕ → Answer A) → x < 2097152 → readValue (encode x ++ s) next ≡ next x s
+of-value x s next h = rw (read-written 2 x s h, drop-append-seam (encode x) s)
+
+-- From bytes to so many values and back.
+record Values-of {A : Type 0} (n : ℕ) (s : List ℕ) (next : List ℕ → List ℕ → Answer A) (a : A) : Type 0 where
+  values : List ℕ
+  after : List ℕ
+  number : length values ≡ n
+  bytes : Again (each encode values ++ after) s
+  go-on : next values after ≡ accepted a
+
+values-of : {A : Type 0} (n : ℕ) (s : List ℕ) (next : List ℕ → List ℕ → Answer A) {a : A} → readValues n s next ≡ accepted a → Values-of n s next a
+unfolding readValues each
+values-of zero s next e = record { values = []; after = s; number = refl; bytes = record { length-is = refl; same = λ b. refl }; go-on = e }
+values-of (suc n) s next e =
+    let v = value-of s _ e in
+    let t = values-of n (v .after) (λ values s₁. next (v .value ∷ values) s₁) (v .go-on) in
+    record {
+      values = v .value ∷ t .values;
+      after = t .after;
+      number = ap suc (t .number);
+      bytes = rw append-assoc (again-then (encode (v .value)) (v .bytes) (t .bytes));
+      go-on = t .go-on;
+    }
+
+of-values : {A : Type 0} {values limits : List ℕ} (s : List ℕ) (next : List ℕ → List ℕ → Answer A) → Within values limits → readValues (length values) (each encode values ++ s) next ≡ next values s
+unfolding readValues each
+of-values s next all = refl
+of-values s next (also x most {values = values} h l w) =
+    rw append-assoc (of-value x (each encode values ++ s) _ (omega arith) ∙ of-values s (λ values₁ s₁. next (x ∷ values₁) s₁) w)
 
 -- The bytes of the zone of four values are those of the values.
 zone-bytes : (values : List ℕ) → length values ≡ 4 → zoneBytes (zoneOf values) ≡ each encode values
@@ -85,10 +129,6 @@ made n size zones e c z j b =
       bytes = rw used b;
     }
 
-empty : (s : List ℕ) → length s ≡ 0 → s ≡ []
-empty [] e = refl
-empty (x ∷ s) e = absurd (omega arith)
-
 pub plan-of : (s : List ℕ) {p : Plan} → planOf s ≡ accepted p → Plan-of s p
 unfolding planOf
 plan-of s e =
@@ -98,7 +138,7 @@ plan-of s e =
     let e₂ = ask-yes (isFourSizes (z .value)) 2 _ (z .go-on) in
     let t = zones-of (c .value) (z .value) First (z .after) _ (e₂ .1) in
     let e₃ = ask-yes (eqb (length (t .after)) 0) 15 _ (t .go-on) in
-    let end = empty (t .after) (eqb-true (length (t .after)) 0 (e₃ .0)) in
+    let end : t .after ≡ [] = sym (take-all 0 (t .after) (omega (arith, eqb-true (length (t .after)) 0 (e₃ .0)))) in
     let zones : Again (each zoneBytes (t .zones)) (z .after) = rw (end, append-nil) at (t .bytes) in
     rw (← same-accepted (e₃ .1))
     (made (c .value) (z .value) (t .zones) (t .count) (e₁ .0) (e₂ .0) (t .judged)

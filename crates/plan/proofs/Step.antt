@@ -32,12 +32,11 @@ value-within s e q = bytes-within 3 s (sym e ∙ ap found q)
 -- While values are read: those that are done stand in the first places, and the rest gives what the whole gives.
 pub record Valued (n : ℕ) (s : List ℕ) (at : ℕ) (values : List ℕ) (next k : ℕ) : Type 0 where
   pub room : length values ≡ n
-  pub below : k ≤ n
   pub inside : next ≤ at + (length s - at)
   pub rest : (go : List ℕ → List ℕ → Answer Plan) → readValues n (drop at s) go ≡ readValues (n - k) (drop next s) (λ further s₁. go (take k values ++ further) s₁)
 
 pub no-value : {n : ℕ} (s : List ℕ) (at : ℕ) (values : List ℕ) → length values ≡ n → Valued n s at values at 0
-no-value s at values e = record { room = e; below = omega arith; inside = omega arith; rest = λ go. ap (λ m. readValues m (drop at s) go) (omega arith) }
+no-value s at values e = record { room = e; inside = omega arith; rest = λ go. ap (λ m. readValues m (drop at s) go) (omega arith) }
 
 module _ {n : ℕ} {s : List ℕ} {at : ℕ} {values : List ℕ} {next k : ℕ} (h : Valued n s at values next k) where
   module _ (l : k < n) (r : ValueFound) (e : found r ≡ valueOf (drop next s)) where
@@ -50,18 +49,13 @@ module _ {n : ℕ} {s : List ℕ} {at : ℕ} {values : List ℕ} {next k : ℕ} 
     pub value-refused : {number : ℕ} → r ≡ NoValue number → (go : List ℕ → List ℕ → Answer Plan) → refused number ≡ readValues n (drop at s) go
     value-refused q go = rw (value-ahead go, q)
 
-    module _ {x bytes : ℕ} (q : r ≡ Value x bytes) where
-      pub value-inside : next + bytes ≤ at + (length s - at)
-      value-inside = omega (arith, h .inside, rw length-drop at (bytes-within 3 (drop next s) (sym e ∙ ap found q)))
-
-      pub value-again : Valued n s at (set values k x) (next + bytes) (k + 1)
-      value-again =
-          record {
-            room = simp length-set (h .room);
-            below = omega arith;
-            inside = value-inside;
-            rest = λ go. rw (add-one, take-suc-set values k x (omega (arith, h .room))) (simp append-snoc (value-ahead go ∙ rw (q, drop-drop)));
-          }
+    pub value-again : {x bytes : ℕ} → r ≡ Value x bytes → Valued n s at (set values k x) (next + bytes) (k + 1)
+    value-again {x} {bytes} q =
+        record {
+          room = simp length-set (h .room);
+          inside = omega (arith, h .inside, rw length-drop at (value-within (drop next s) e q));
+          rest = λ go. rw (add-one, take-suc-set values k x (omega (arith, h .room))) (simp append-snoc (value-ahead go ∙ rw (q, drop-drop)));
+        }
 
   pub values-all : n ≤ k → (go : List ℕ → List ℕ → Answer Plan) → go values (drop next s) ≡ readValues n (drop at s) go
   unfolding readValues

@@ -5,8 +5,7 @@ use borrow.Author.Needs.{needs}
 use Rattle.value.specs.Value.{encode}
 use Rattle.plan.specs.Zone.{each}
 use Rattle.plan.specs.Write.{zoneBytes}
-use Rattle.plan.proofs.Values.{value-small}
-use Rattle.plan.proofs.Bytes.{within}
+use Rattle.plan.proofs.Bytes.{value-small, within}
 use Rattle.plan.proofs.Each.{Putting, put-begin, put-room, put-again, put-all}
 use Rattle.plan.proofs.put_zone.Statement.{statement}
 use Rattle.plan.proofs.put_zone.Tie as tie

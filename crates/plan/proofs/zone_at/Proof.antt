@@ -2,7 +2,7 @@
 use Prim.Native.Nat.{_-_}
 use native.Mathlib.Omega.{arith}
 use borrow.Author.Needs.{needs}
-use Rattle.plan.proofs.Step.{Valued, no-value, value-refused, value-inside, value-again, values-all}
+use Rattle.plan.proofs.Step.{Valued, no-value, value-refused, value-again, values-all}
 use Rattle.plan.proofs.zone_at.Statement.{statement}
 use Rattle.plan.proofs.zone_at.Tie as tie
 
@@ -17,11 +17,6 @@ returns c = λ next.
     let read = c .before .before .before in
     value-refused (read .before .before .loop .inv) (read .before .loop-test .taken) _ (read .read .ensures) (c .before .number .given .1) _
 
-add-next : tie.Need-add-next Inv-loop μ-loop
-add-next c =
-    let read = c .before .before .before in
-    omega (arith, value-inside (read .before .before .loop .inv) (read .before .loop-test .taken) _ (read .read .ensures) (c .before .value .given .1))
-
 loop-again : tie.Need-loop-again Inv-loop μ-loop
 loop-again c =
     let read = c .before .before .before in
@@ -32,6 +27,6 @@ zone-at-spec =
     tie.close
     (tie.spec
     Inv-loop μ-loop (λ c. no-value _ _ _ (search needs)) (λ c κs. search needs) (λ c. search needs) returns
-    (λ c. search needs) (λ c. search needs) (λ c. search needs) add-next (λ c. search needs) (λ c. search needs) loop-again
+    (λ c. search needs) (λ c. search needs) (λ c. search needs) (λ c. omega (arith, loop-again c .inside)) (λ c. search needs) (λ c. search needs) loop-again
     (λ c. search needs) (λ c. search needs) (λ c. search needs) (λ c. search needs)
     (λ c. λ next. values-all (c .before .loop .inv) (c .loop-test .left) _))
