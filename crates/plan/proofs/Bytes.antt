@@ -36,8 +36,11 @@ value-small k all = omega arith
 value-small zero (also x most h l w) = omega arith
 value-small (suc k) (also x most h l w) = value-small k w
 
--- A zone's values are within limits that take 6 bytes: 1 for the mode, 2 for the cell, 2 for the slots, 1 for the mask.
-pub within : {z : Zone} → Small z → Within (valuesOf z) (6 ∷ 2351 ∷ 512 ∷ 63 ∷ [])
+-- A zone's values are within limits that take 6 bytes: 1 for the mode, 2 for the cell, 2 for the slots, 1 for the mask. The first three take 5.
+abbrev pub limits : List ℕ
+limits = 6 ∷ 2351 ∷ 512 ∷ 63 ∷ []
+
+pub within : {z : Zone} → Small z → Within (valuesOf z) limits
 within {z} s =
     also (z .mode) 6 (omega arith) (omega arith)
     (also (z .cell) 2351 (omega arith) (omega arith)

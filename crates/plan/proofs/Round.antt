@@ -98,7 +98,7 @@ zones-of (suc n) size before s next e =
       zones = z ∷ t .zones;
       after = t .after;
       count = ap suc (t .count);
-      bytes = rw (zone-bytes (h .values) (h .number), append-assoc) (again-then (each encode (h .values)) (h .bytes) (t .bytes));
+      bytes = rw (zone-bytes (h .values) (h .number), append-assoc) (again-then {written = each zoneBytes (t .zones) ++ t .after} (each encode (h .values)) (h .bytes) (t .bytes));
       judged = then (p .0) (t .judged);
       go-on = t .go-on;
     }
