@@ -16,10 +16,6 @@ module _ {A : Type 0} (part : A → List ℕ) where
   each-append [] ys = refl
   each-append (x ∷ xs) ys = ap (λ l. part x ++ l) (each-append xs ys) ∙ sym (append-assoc (part x) (each part xs) (each part ys))
 
-  pub each-none : (list : List A) → each part (take 0 list) ≡ []
-  unfolding each
-  each-none list = refl
-
   pub each-more : (blank : A) (list : List A) (k : ℕ) → k < length list → each part (take (k + 1) list) ≡ each part (take k list) ++ part (getD list k blank)
   unfolding each
   each-more blank list k h =
@@ -42,8 +38,8 @@ pub record Putting {A : Type 0} (n : ℕ) (part : A → List ℕ) (d : List ℕ)
   pub done : Put d at (each part (take k list)) next dest
 
 pub put-begin : {A : Type 0} {n : ℕ} (part : A → List ℕ) (d : List ℕ) (count : ℕ) (list : List A) (at : ℕ) → length list ≡ n → Putting n part d count list at d at 0
-put-begin part d count list at p =
-    record { places = p; below = omega arith; kept = refl; done = rw (each-none part list) (record { next-is = omega arith; after-is = sym (put-none d at) }) }
+unfolding each
+put-begin part d count list at p = record { places = p; below = omega arith; kept = refl; done = record { next-is = omega arith; after-is = sym (put-none d at) } }
 
 module _ {A : Type 0} {n : ℕ} {part : A → List ℕ} {d : List ℕ} {count : ℕ} {list : List A} {at : ℕ} {dest : List ℕ} {next k : ℕ} (h : Putting n part d count list at dest next k) where
   module _ (blank : A) (l : k < n) (m : k < count) where

@@ -8,3 +8,4 @@ pub mod Bytes
 pub mod Round
 pub mod Decide
 pub mod Law
+pub mod Form
