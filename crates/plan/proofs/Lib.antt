@@ -8,4 +8,3 @@ pub mod Bytes
 pub mod Round
 pub mod Decide
 pub mod Law
-pub mod Form
