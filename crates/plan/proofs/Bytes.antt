@@ -1,53 +1,71 @@
 -- How many bytes zones and plans take, and the answers of writing.
 use mathlib.Core.Path.{_≡_}
-use mathlib.Core.List.{List}
-use Prim.Native.Nat.{ℕ, _*_, _<_, _≤_}
+use mathlib.Core.List.{List, [], _∷_}
+use Prim.Native.Nat.{ℕ, zero, suc, _+_, _*_, _<_, _≤_}
 use native.Mathlib.Nat.{zero-add}
 use native.Mathlib.Omega.{arith}
-use lib.ListN.{length, take, length-append, length-take}
+use lib.ListN.{length, take, getD, length-append, length-take}
 use borrow.Author.Tests.{eq-eqb, ne-eqb, le-leb, lt-leb}
 use Rattle.base.specs.Answer.{accepted, refused}
 use Rattle.text.specs.Text.{put, Put}
 use Rattle.text.proofs.Laws.{take-put}
-use Rattle.value.specs.Value.{encode}
-use Rattle.value.proofs.Laws.{bytes-1, bytes-two}
+use Rattle.value.specs.Value.{encodeIn, encode}
+use Rattle.value.proofs.Laws.{no-longer}
 use Rattle.plan.specs.declared.Zone.{Zone}
 use Rattle.plan.specs.declared.Plan.{Plan}
 use Rattle.plan.specs.declared.Before.{Before}
-use Rattle.plan.specs.Zone.{each}
-use Rattle.plan.specs.Write.{zoneBytes, planBytes, writeOf}
+use Rattle.plan.specs.Zone.{valuesOf, each}
+use Rattle.plan.specs.Write.{usedZones, zoneBytes, planBytes, writeOf}
 use Rattle.plan.specs.Model.{Small, planRefusal}
 use Rattle.plan.proofs.Number.{plan-numbered}
 use Rattle.plan.proofs.Judge.{Judged, none, then, small, Fit, count-most, size-small}
 
--- A zone in range takes at most 6 bytes: 1 for the mode, 2 for the cell, 2 for the slots, 1 for the mask.
-pub record Six (z : Zone) : Type 0 where
-  pub mode-one : length (encode (z .mode)) ≤ 1
-  pub cell-two : length (encode (z .cell)) ≤ 2
-  pub slots-two : length (encode (z .slots)) ≤ 2
-  pub mask-one : length (encode (z .mask)) ≤ 1
+-- Values of which none is above its limit, each limit below 2^21.
+pub data Within : (values limits : List ℕ) → Type 0 where
+  all : Within [] []
+  also : (x most : ℕ) {values limits : List ℕ} → x ≤ most → most < 2097152 → Within values limits → Within (x ∷ values) (most ∷ limits)
 
-pub six : (z : Zone) → Small z → Six z
-six z s =
-    record {
-      mode-one = omega (arith, bytes-1 (z .mode) (omega arith));
-      cell-two = bytes-two (z .cell) (omega arith);
-      slots-two = bytes-two (z .slots) (omega arith);
-      mask-one = omega (arith, bytes-1 (z .mask) (omega arith));
-    }
+-- They take no more bytes than the limits do.
+bytes-most : {values limits : List ℕ} → Within values limits → length (each encode values) ≤ length (each encode limits)
+unfolding each
+bytes-most all = omega arith
+bytes-most (also x most h l w) = simp length-append (omega (arith, no-longer 3 h, bytes-most w))
 
--- So the zones of a fit plan take 48, and the plan 51.
+pub value-small : {values limits : List ℕ} (k : ℕ) → Within values limits → getD values k 0 < 2097152
+value-small k all = omega arith
+value-small zero (also x most h l w) = omega arith
+value-small (suc k) (also x most h l w) = value-small k w
+
+-- A zone's values are within limits that take 6 bytes: 1 for the mode, 2 for the cell, 2 for the slots, 1 for the mask. The first three take 5.
+abbrev pub limits : List ℕ
+limits = 6 ∷ 2351 ∷ 512 ∷ 63 ∷ []
+
+pub within : {z : Zone} → Small z → Within (valuesOf z) limits
+within {z} s =
+    also (z .mode) 6 (omega arith) (omega arith)
+    (also (z .cell) 2351 (omega arith) (omega arith)
+    (also (z .slots) 512 (omega arith) (omega arith)
+    (also (z .mask) 63 (omega arith) (omega arith) all)))
+
+zone-6 : {z : Zone} → Small z → length (zoneBytes z) ≤ 6
+unfolding zoneBytes each encodeIn
+zone-6 s = bytes-most (within s)
+
+-- So the zones of a fit plan take 48. The count takes 1 and the size 2, so the plan takes 51.
 zones-most : {size : ℕ} {before : Before} {zones : List Zone} → Judged size before zones → length (each zoneBytes zones) ≤ 6 * length zones
-unfolding each zoneBytes
+unfolding each
 zones-most none = omega arith
-zones-most (then {z = z} p j) = let f = six z (small p) in simp length-append (omega (arith, zones-most j))
+zones-most (then p j) = simp length-append (omega (arith, zone-6 (small p), zones-most j))
+
+pub plan-length : (p : Plan) → length (planBytes p) ≡ length (encode (p .count)) + (length (encode (p .size)) + length (each zoneBytes (usedZones p)))
+unfolding planBytes
+plan-length p = simp length-append
 
 pub plan-51 : (p : Plan) → Fit p → length (planBytes p) ≤ 51
-unfolding planBytes
+unfolding encodeIn
 plan-51 p f =
-    let c = count-most (p .count) (f .count-is) in
-    let z = size-small (p .size) (f .size-is) in
-    simp length-append (omega (arith, zones-most (f .judged), length-take (p .count) (p .zones), bytes-1 (p .count) (omega arith), bytes-two (p .size) (omega arith)))
+    let most = count-most (p .count) (f .count-is) in
+    omega (arith, plan-length p, zones-most (f .judged), length-take (p .count) (p .zones), no-longer 3 most, no-longer 3 (size-small (p .size) (f .size-is)))
 
 -- the answers of writing: a plan's bytes are made first, then copied
 module _ (p : Plan) (d : List ℕ) {number : ℕ} (e : number ≡ planRefusal p) where

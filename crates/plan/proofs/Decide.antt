@@ -1,33 +1,30 @@
 -- The first bytes decide: each value looks at three bytes at most, and the last question at whether there is one more.
-use mathlib.Core.Path.{_≡_, refl, sym, ap, _∙_}
+use mathlib.Core.Path.{_≡_, refl, ap, _∙_}
 use mathlib.Core.List.{List, [], _∷_}
 use Prim.Native.Nat.{ℕ, zero, suc, _+_, _-_, _*_, _≤_}
 use native.Mathlib.Omega.{arith}
 use lib.ListN.{length, take, drop, length-append, length-drop}
-use lib.Seq.{take-nil}
+use lib.Seq.{drop-at, take-add, length-take-le}
 use borrow.Author.Tests.{ne-eqb}
 use Rattle.base.specs.Choice.{pick}
 use Rattle.base.specs.Answer.{Answer, accepted, refused, ask}
 use Rattle.base.proofs.Test.{cases}
 use Rattle.map.specs.Question.{isFourSizes}
-use Rattle.value.specs.Value.{Value, valueOf}
-use Rattle.value.proofs.Laws.{bytes-1, bytes-within, again, first-decide, at-most-three}
+use Rattle.value.specs.Value.{Value, valueOf, encodeIn}
+use Rattle.value.proofs.Laws.{no-longer, bytes-within, again, first-decide, at-most-three}
 use Rattle.plan.specs.declared.Zone.{Zone}
 use Rattle.plan.specs.declared.Before.{Before}
 use Rattle.plan.specs.declared.Before.the-variants.{First, After}
-use Rattle.plan.specs.Zone.{askZone, isCount}
-use Rattle.plan.specs.Read.{handOn, readValue, readZone, readZones, finish, planOf}
+use Rattle.plan.specs.Zone.{zoneOf, askZone, isCount}
+use Rattle.plan.specs.Read.{handOn, readValue, readValues, readZones, finish, planOf}
 use Rattle.plan.proofs.Judge.{count-most}
 
 -- k bytes decide what is read, and so do more
 abbrev Decided : {A : Type 0} → ℕ → (List ℕ → Answer A) → Type 0
 Decided k read = (j : ℕ) → k ≤ j → (s : List ℕ) → read (take j s) ≡ read s
 
-drop-take : (n j m : ℕ) (s : List ℕ) → j ≡ n + m → drop n (take j s) ≡ take m (drop n s)
-drop-take zero j m s e = let same : j ≡ m = omega arith in rw same
-drop-take (suc n) zero m s e = absurd (omega arith)
-drop-take (suc n) (suc j) m [] e = sym (take-nil m)
-drop-take (suc n) (suc j) m (x ∷ s) e = drop-take n j m s (omega arith)
+drop-take : (n m : ℕ) (s : List ℕ) → n ≤ length s → drop n (take (n + m) s) ≡ take m (drop n s)
+drop-take n m s h = rw take-add (drop-at (take n s) (take m (drop n s)) n (length-take-le n s h))
 
 -- after a value, so many bytes more as it needs
 then-more : {A : Type 0} (n : ℕ) (more : ℕ → ℕ) (next : ℕ → List ℕ → Answer A) → 3 ≤ n → ((s : List ℕ) (v : Value) → valueOf s ≡ accepted v → v .bytes + more (v .value) ≤ n)
@@ -38,29 +35,26 @@ then-more n more next three most d j h s = ap (λ v. handOn v (take j s) next) (
     by (refused number) q = refl
     by (accepted v) q =
         let few = most s v q in
-        ap (next (v .value)) (drop-take (v .bytes) j (j - v .bytes) s (omega arith)) ∙ d (v .value) (j - v .bytes) (omega arith) (drop (v .bytes) s)
+        let more-is : v .bytes + (j - v .bytes) ≡ j = omega arith in
+        ap (next (v .value)) (rw more-is at (drop-take (v .bytes) (j - v .bytes) s (bytes-within 3 s q))) ∙ d (v .value) (j - v .bytes) (omega arith) (drop (v .bytes) s)
 
 value-decided : {A : Type 0} (k : ℕ) (next : ℕ → List ℕ → Answer A) → ((value : ℕ) → Decided k (next value)) → Decided (3 + k) (λ s. readValue s next)
 value-decided k next d = then-more (3 + k) (λ value. k) next (omega arith) (λ s v q. omega (arith, at-most-three s q)) d
 
-abbrev made : ℕ → ℕ → ℕ → ℕ → Zone
-made mode cell slots mask = record { mode = mode; cell = cell; slots = slots; mask = mask }
-
-zone-decided : {A : Type 0} (k : ℕ) (next : Zone → List ℕ → Answer A) → ((zone : Zone) → Decided k (next zone)) → Decided (12 + k) (λ s. readZone s next)
-zone-decided k next d j h s =
-    value-decided (9 + k) (λ mode s₁. readValue s₁ (λ cell s₂. readValue s₂ (λ slots s₃. readValue s₃ (λ mask s₄. next (made mode cell slots mask) s₄))))
-    (λ mode j₁ h₁ s₁. value-decided (6 + k) (λ cell s₂. readValue s₂ (λ slots s₃. readValue s₃ (λ mask s₄. next (made mode cell slots mask) s₄)))
-    (λ cell j₂ h₂ s₂. value-decided (3 + k) (λ slots s₃. readValue s₃ (λ mask s₄. next (made mode cell slots mask) s₄))
-    (λ slots j₃ h₃ s₃. value-decided k (λ mask s₄. next (made mode cell slots mask) s₄)
-    (λ mask. d (made mode cell slots mask)) j₃ (omega arith) s₃) j₂ (omega arith) s₂) j₁ (omega arith) s₁) j (omega arith) s
+-- and so over how many values there are
+values-decided : {A : Type 0} (n k : ℕ) (next : List ℕ → List ℕ → Answer A) → ((values : List ℕ) → Decided k (next values)) → Decided (3 * n + k) (λ s. readValues n s next)
+unfolding readValues
+values-decided zero k next d j h s = d [] j (omega arith) s
+values-decided (suc n) k next d j h s =
+    value-decided (3 * n + k) _ (λ value. values-decided n k (λ values. next (value ∷ values)) (λ values. d (value ∷ values))) j (omega arith) s
 
 zones-decided : {A : Type 0} (count k size : ℕ) (before : Before) (next : List Zone → List ℕ → Answer A) → ((zones : List Zone) → Decided k (next zones))
     → Decided (12 * count + k) (λ s. readZones count size before s next)
 unfolding readZones
 zones-decided zero k size before next d j h s = d [] j (omega arith) s
 zones-decided (suc count) k size before next d j h s =
-    zone-decided (12 * count + k) (λ zone s₁. askZone size before zone (readZones count size (After (zone .mode)) s₁ (λ zones s₂. next (zone ∷ zones) s₂)))
-    (λ zone i l t. ap (askZone size before zone) (zones-decided count k size (After (zone .mode)) (λ zones. next (zone ∷ zones)) (λ zones. d (zone ∷ zones)) i l t))
+    values-decided 4 (12 * count + k) _
+    (λ values i l t. let zone = zoneOf values in ap (askZone size before zone) (zones-decided count k size (After (zone .mode)) (λ zones. next (zone ∷ zones)) (λ zones. d (zone ∷ zones)) i l t))
     j (omega arith) s
 
 finish-decided : (count size : ℕ) (zones : List Zone) → Decided 1 (finish count size zones)
@@ -69,8 +63,9 @@ finish-decided count size zones (suc j) h [] = refl
 finish-decided count size zones (suc j) h (x ∷ s) = rw (ne-eqb (length (x ∷ take j s)) 0 (λ z. omega arith), ne-eqb (length (x ∷ s)) 0 (λ z. omega arith))
 
 -- A count takes one byte, the size and four values of each of eight zones 99 at most, so 100 bytes and one more decide; a count above 8 has no zone read.
-count-byte : (s : List ℕ) {v : Value} → valueOf s ≡ accepted v → v .value ≤ 8 → v .bytes ≡ 1
-count-byte s {v} q h = omega (arith, bytes-1 (v .value) (omega arith), bytes-within 3 s q, simp (length-append, length-drop) at (again 3 s q .length-is))
+count-byte : (s : List ℕ) {v : Value} → valueOf s ≡ accepted v → v .value ≤ 8 → v .bytes ≤ 1
+unfolding encodeIn
+count-byte s {v} q h = omega (arith, no-longer 3 h, bytes-within 3 s q, simp (length-append, length-drop) at (again 3 s q .length-is))
 
 abbrev afterCount : (count : ℕ) → ℕ
 afterCount count = pick (isCount count) 100 0

@@ -5,11 +5,13 @@ use mathlib.Core.List.{List, [], _∷_, _++_, append-assoc, append-nil}
 use Prim.Native.Nat.{ℕ, zero, suc, _<_, _≤_}
 use native.Mathlib.Omega.{arith}
 use lib.Dec.{eqb, leb}
-use lib.ListN.{length, take, drop}
-use lib.Seq.{drop-append-seam, take-append-seam, length-take-le}
+use lib.ListN.{length, take, drop, getD}
+use lib.Seq.{drop-append-seam, take-append-seam, take-all, length-take-le}
 use borrow.Author.Tests.{eqb-true, le-leb}
 use Rattle.base.specs.Answer.{Answer, accepted, refused, ask}
+use Rattle.base.specs.Tabulate.{tabulate}
 use Rattle.base.proofs.Chain.{ask-yes, same-accepted}
+use Rattle.base.proofs.Tabulate.{tabulated}
 use Rattle.map.specs.Question.{isFourSizes}
 use Rattle.value.specs.Value.{Bytes, Value, valueOf, encode}
 use Rattle.value.proofs.Laws.{read-written, Again, again, again-then}
@@ -17,14 +19,13 @@ use Rattle.plan.specs.declared.Zone.{Zone}
 use Rattle.plan.specs.declared.Plan.{Plan}
 use Rattle.plan.specs.declared.Before.{Before}
 use Rattle.plan.specs.declared.Before.the-variants.{First, After}
-use Rattle.plan.specs.Zone.{askZone, isCount, inPlaces, each}
-use Rattle.plan.specs.Read.{handOn, readValue, readZone, readZones, planWith, finish, planOf}
+use Rattle.plan.specs.Zone.{zoneOf, isCount, inPlaces, each}
+use Rattle.plan.specs.Read.{handOn, readValue, readValues, readZones, planWith, finish, planOf}
 use Rattle.plan.specs.Write.{usedZones, askPlan, zoneBytes, planBytes, AfterWrite, over, afterWrite, writeOf}
 use Rattle.plan.specs.Law.{Eight}
-use Rattle.plan.specs.Model.{Small}
 use Rattle.plan.proofs.Places.{take-places, drop-places, places-of, places-length}
 use Rattle.plan.proofs.Judge.{zone-yes, zone-passes, Judged, none, then, small, Fit, plan-yes, plan-passes, count-most, size-small}
-use Rattle.plan.proofs.Bytes.{plan-51}
+use Rattle.plan.proofs.Bytes.{Within, all, also, within, plan-51}
 
 -- From bytes to a value and back.
 record Value-of {A : Type 0} (s : List ℕ) (next : ℕ → List ℕ → Answer A) (a : A) : Type 0 where
@@ -41,41 +42,40 @@ value-of s next {a} e = by (valueOf s) refl e
     by (refused k) q e′ = absurd (let z : _≡_ {A = ℕ} 0 1 = cc in omega arith)
 
 of-value : {A : Type 0} (x : ℕ) (s : List ℕ) (next : ℕ → List ℕ → Answer A) → x < 2097152 → readValue (encode x ++ s) next ≡ next x s
-of-value x s next h = rw (read-written x s h, drop-append-seam (encode x) s)
+of-value x s next h = rw (read-written 2 x s h, drop-append-seam (encode x) s)
 
--- From bytes to a zone and back.
-record Zone-of {A : Type 0} (s : List ℕ) (next : Zone → List ℕ → Answer A) (a : A) : Type 0 where
-  zone : Zone
+-- From bytes to so many values and back.
+record Values-of {A : Type 0} (n : ℕ) (s : List ℕ) (next : List ℕ → List ℕ → Answer A) (a : A) : Type 0 where
+  values : List ℕ
   after : List ℕ
-  bytes : Again (zoneBytes zone ++ after) s
-  go-on : next zone after ≡ accepted a
+  number : length values ≡ n
+  bytes : Again (each encode values ++ after) s
+  go-on : next values after ≡ accepted a
 
-zone-of : {A : Type 0} (s : List ℕ) (next : Zone → List ℕ → Answer A) {a : A} → readZone s next ≡ accepted a → Zone-of s next a
-unfolding zoneBytes
-zone-of s next e =
-    let m = value-of s _ e in
-    let c = value-of (m .after) _ (m .go-on) in
-    let l = value-of (c .after) _ (c .go-on) in
-    let k = value-of (l .after) _ (l .go-on) in
+values-of : {A : Type 0} (n : ℕ) (s : List ℕ) (next : List ℕ → List ℕ → Answer A) {a : A} → readValues n s next ≡ accepted a → Values-of n s next a
+unfolding readValues each
+values-of zero s next e = record { values = []; after = s; number = refl; bytes = record { length-is = refl; same = λ b. refl }; go-on = e }
+values-of (suc n) s next e =
+    let v = value-of s _ e in
+    let t = values-of n (v .after) (λ values s₁. next (v .value ∷ values) s₁) (v .go-on) in
     record {
-      zone = record { mode = m .value; cell = c .value; slots = l .value; mask = k .value };
-      after = k .after;
-      bytes =
-          simp append-assoc
-          (again-then (encode (m .value)) (m .bytes)
-          (again-then (encode (c .value)) (c .bytes)
-          (again-then (encode (l .value)) (l .bytes) (k .bytes))));
-      go-on = k .go-on;
+      values = v .value ∷ t .values;
+      after = t .after;
+      number = ap suc (t .number);
+      bytes = rw append-assoc (again-then (encode (v .value)) (v .bytes) (t .bytes));
+      go-on = t .go-on;
     }
 
-of-zone : {A : Type 0} {z : Zone} (s : List ℕ) (next : Zone → List ℕ → Answer A) → Small z → readZone (zoneBytes z ++ s) next ≡ next z s
-unfolding zoneBytes
-of-zone {z = z} s next h =
-    simp append-assoc
-    (of-value (z .mode) (encode (z .cell) ++ (encode (z .slots) ++ (encode (z .mask) ++ s))) _ (omega arith)
-    ∙ of-value (z .cell) (encode (z .slots) ++ (encode (z .mask) ++ s)) _ (omega arith)
-    ∙ of-value (z .slots) (encode (z .mask) ++ s) _ (omega arith)
-    ∙ of-value (z .mask) s _ (omega arith))
+of-values : {A : Type 0} {values limits : List ℕ} (s : List ℕ) (next : List ℕ → List ℕ → Answer A) → Within values limits → readValues (length values) (each encode values ++ s) next ≡ next values s
+unfolding readValues each
+of-values s next all = refl
+of-values s next (also x most {values = values} h l w) =
+    rw append-assoc (of-value x (each encode values ++ s) _ (omega arith) ∙ of-values s (λ values₁ s₁. next (x ∷ values₁) s₁) w)
+
+-- The bytes of the zone of four values are those of the values.
+zone-bytes : (values : List ℕ) → length values ≡ 4 → zoneBytes (zoneOf values) ≡ each encode values
+unfolding zoneBytes tabulate
+zone-bytes values e = ap (each encode) (sym (tabulated 0 values 4 (λ k. getD values k 0) e (λ k h. refl)))
 
 -- From bytes to zones and back.
 record Zones-of {A : Type 0} (n size : ℕ) (before : Before) (s : List ℕ) (next : List Zone → List ℕ → Answer A) (a : A) : Type 0 where
@@ -90,24 +90,25 @@ zones-of : {A : Type 0} (n size : ℕ) (before : Before) (s : List ℕ) (next : 
 unfolding readZones each
 zones-of zero size before s next e = record { zones = []; after = s; count = refl; bytes = record { length-is = refl; same = λ b. refl }; judged = none; go-on = e }
 zones-of (suc n) size before s next e =
-    let h = zone-of s (λ z s₁. askZone size before z (readZones n size (After (z .mode)) s₁ (λ zones s₂. next (z ∷ zones) s₂))) e in
-    let p = zone-yes size before (h .zone) _ (h .go-on) in
-    let t = zones-of n size (After (h .zone .mode)) (h .after) (λ zones s₂. next (h .zone ∷ zones) s₂) (p .1) in
+    let h = values-of 4 s _ e in
+    let z = zoneOf (h .values) in
+    let p = zone-yes size before z _ (h .go-on) in
+    let t = zones-of n size (After (z .mode)) (h .after) (λ zones s₂. next (z ∷ zones) s₂) (p .1) in
     record {
-      zones = h .zone ∷ t .zones;
+      zones = z ∷ t .zones;
       after = t .after;
       count = ap suc (t .count);
-      bytes = rw append-assoc (again-then (zoneBytes (h .zone)) (h .bytes) (t .bytes));
+      bytes = rw (zone-bytes (h .values) (h .number), append-assoc) (again-then {written = each zoneBytes (t .zones) ++ t .after} (each encode (h .values)) (h .bytes) (t .bytes));
       judged = then (p .0) (t .judged);
       go-on = t .go-on;
     }
 
 of-zones : {A : Type 0} {size : ℕ} {before : Before} {zones : List Zone} (s : List ℕ) (next : List Zone → List ℕ → Answer A) → Judged size before zones → readZones (length zones) size before (each zoneBytes zones ++ s) next ≡ next zones s
-unfolding readZones each
+unfolding readZones each zoneBytes
 of-zones s next none = refl
 of-zones {size = size} s next (then {before = before} {z = z} {zones = zones} p j) =
     rw append-assoc
-    (of-zone (each zoneBytes zones ++ s) (λ z₁ s₁. askZone size before z₁ (readZones (length zones) size (After (z₁ .mode)) s₁ (λ zones₁ s₂. next (z₁ ∷ zones₁) s₂))) (small p)
+    (of-values (each zoneBytes zones ++ s) _ (within (small p))
     ∙ zone-passes size before z _ p
     ∙ of-zones s (λ zones₁ s₁. next (z ∷ zones₁) s₁) j)
 
@@ -128,10 +129,6 @@ made n size zones e c z j b =
       bytes = rw used b;
     }
 
-empty : (s : List ℕ) → length s ≡ 0 → s ≡ []
-empty [] e = refl
-empty (x ∷ s) e = absurd (omega arith)
-
 pub plan-of : (s : List ℕ) {p : Plan} → planOf s ≡ accepted p → Plan-of s p
 unfolding planOf
 plan-of s e =
@@ -141,7 +138,7 @@ plan-of s e =
     let e₂ = ask-yes (isFourSizes (z .value)) 2 _ (z .go-on) in
     let t = zones-of (c .value) (z .value) First (z .after) _ (e₂ .1) in
     let e₃ = ask-yes (eqb (length (t .after)) 0) 15 _ (t .go-on) in
-    let end = empty (t .after) (eqb-true (length (t .after)) 0 (e₃ .0)) in
+    let end : t .after ≡ [] = sym (take-all 0 (t .after) (omega (arith, eqb-true (length (t .after)) 0 (e₃ .0)))) in
     let zones : Again (each zoneBytes (t .zones)) (z .after) = rw (end, append-nil) at (t .bytes) in
     rw (← same-accepted (e₃ .1))
     (made (c .value) (z .value) (t .zones) (t .count) (e₁ .0) (e₂ .0) (t .judged)

@@ -4,13 +4,13 @@ use mathlib.Core.List.{List, [], _∷_, _++_, append-nil}
 use Prim.Native.Nat.{ℕ, suc, _+_, _-_, _<_, _≤_}
 use native.Mathlib.Omega.{arith}
 use native.Mathlib.Numerals.{add-one}
-use lib.ListN.{length, drop, set, length-append, length-drop}
-use lib.Seq.{append-snoc}
+use lib.ListN.{length, take, drop, set, length-append, length-drop, length-set}
+use lib.Seq.{append-snoc, drop-drop, take-all, take-suc-set}
 use borrow.Author.Tests.{eq-eqb, ne-eqb}
 use Rattle.base.specs.Answer.{Answer, accepted, refused}
 use Rattle.base.proofs.Chain.{numbered, yes-all, no-first}
 use Rattle.value.specs.declared.Found.{Found as ValueFound}
-use Rattle.value.specs.declared.Found.the-variants.{Value}
+use Rattle.value.specs.declared.Found.the-variants.{Value, Refused as NoValue}
 use Rattle.value.specs.Value.{found, valueOf}
 use Rattle.value.proofs.Laws.{bytes-within}
 use Rattle.plan.specs.declared.Zone.{Zone}
@@ -20,7 +20,7 @@ use Rattle.plan.specs.declared.ZoneFound.the-variants.{Found, Refused}
 use Rattle.plan.specs.declared.Before.{Before}
 use Rattle.plan.specs.declared.Before.the-variants.{First, After}
 use Rattle.plan.specs.Zone.{askZone, inPlaces}
-use Rattle.plan.specs.Read.{readZones, finish}
+use Rattle.plan.specs.Read.{handOn, readValues, readZones, finish}
 use Rattle.plan.specs.Model.{zoneRefusal, zoneFound, ZoneAt}
 use Rattle.plan.proofs.Places.{set-places}
 use Rattle.plan.proofs.Number.{zone-numbered}
@@ -28,6 +28,40 @@ use Rattle.plan.proofs.Number.{zone-numbered}
 -- what `value::read` found lies within the bytes
 pub value-within : (s : List ℕ) {r : ValueFound} {x n : ℕ} → found r ≡ valueOf s → r ≡ Value x n → n ≤ length s
 value-within s e q = bytes-within 3 s (sym e ∙ ap found q)
+
+-- While values are read: those that are done stand in the first places, and the rest gives what the whole gives.
+pub record Valued (n : ℕ) (s : List ℕ) (at : ℕ) (values : List ℕ) (next k : ℕ) : Type 0 where
+  pub room : length values ≡ n
+  pub inside : next ≤ at + (length s - at)
+  pub rest : (go : List ℕ → List ℕ → Answer Plan) → readValues n (drop at s) go ≡ readValues (n - k) (drop next s) (λ further s₁. go (take k values ++ further) s₁)
+
+pub no-value : {n : ℕ} (s : List ℕ) (at : ℕ) (values : List ℕ) → length values ≡ n → Valued n s at values at 0
+no-value s at values e = record { room = e; inside = omega arith; rest = λ go. ap (λ m. readValues m (drop at s) go) (omega arith) }
+
+module _ {n : ℕ} {s : List ℕ} {at : ℕ} {values : List ℕ} {next k : ℕ} (h : Valued n s at values next k) where
+  module _ (l : k < n) (r : ValueFound) (e : found r ≡ valueOf (drop next s)) where
+    value-ahead : (go : List ℕ → List ℕ → Answer Plan) → readValues n (drop at s) go ≡ handOn (found r) (drop next s) (λ value s₁. readValues (n - suc k) s₁ (λ further s₂. go (take k values ++ value ∷ further) s₂))
+    unfolding readValues
+    value-ahead go =
+        let one : n - k ≡ suc (n - suc k) = omega arith in
+        h .rest go ∙ ap (λ m. readValues m (drop next s) (λ further s₁. go (take k values ++ further) s₁)) one ∙ rw e
+
+    pub value-refused : {number : ℕ} → r ≡ NoValue number → (go : List ℕ → List ℕ → Answer Plan) → refused number ≡ readValues n (drop at s) go
+    value-refused q go = rw (value-ahead go, q)
+
+    pub value-again : {x bytes : ℕ} → r ≡ Value x bytes → Valued n s at (set values k x) (next + bytes) (k + 1)
+    value-again {x} {bytes} q =
+        record {
+          room = simp length-set (h .room);
+          inside = omega (arith, h .inside, rw length-drop at (value-within (drop next s) e q));
+          rest = λ go. rw (add-one, take-suc-set values k x (omega (arith, h .room))) (simp append-snoc (value-ahead go ∙ rw (q, drop-drop)));
+        }
+
+  pub values-all : n ≤ k → (go : List ℕ → List ℕ → Answer Plan) → go values (drop next s) ≡ readValues n (drop at s) go
+  unfolding readValues
+  values-all m go =
+      let none : n - k ≡ 0 = omega arith in
+      rw (h .rest go, none, append-nil, take-all k values (omega (arith, h .room)))
 
 -- the zones from a place on, to the end
 abbrev zonesAt : (s : List ℕ) (at count size : ℕ) → Answer Plan

@@ -1,6 +1,6 @@
 -- Reading a plan. Document 01, "Zone plan": count of zones, size, then mode, cell and slots of each; document 02, wish 5: the mask, a fourth value in the plan file.
 -- Start with `planOf`, near the end: the whole of reading, with its questions in order. It reads values by `readValue` and the zones by `readZones`,
--- which reads each by `readZone`; `finish` is the last question and the plan. `answered` is what the call `read` gives.
+-- which reads each by `readZone`, and that its values by `readValues`; `finish` is the last question and the plan. `answered` is what the call `read` gives.
 use mathlib.Core.List.{List, [], _∷_}
 use Prim.Native.Nat.{ℕ, zero, suc}
 use lib.Dec.{eqb}
@@ -13,7 +13,7 @@ use Rattle.plan.specs.declared.Plan.{Plan}
 use Rattle.plan.specs.declared.ReadPlan.{ReadPlan}
 use Rattle.plan.specs.declared.Before.{Before}
 use Rattle.plan.specs.declared.Before.the-variants.{First, After}
-use Rattle.plan.specs.Zone.{askZone, isCount, inPlaces}
+use Rattle.plan.specs.Zone.{zoneOf, askZone, isCount, inPlaces}
 
 -- A value at the head of the bytes: it and the bytes after it are handed on. 10 and 11 are the value's questions.
 abbrev pub handOn : {A : Type 0} → (value : Answer Value) (bytes : List ℕ) (next : ℕ → List ℕ → Answer A) → Answer A
@@ -23,14 +23,16 @@ handOn (refused number) bytes next = refused number
 abbrev pub readValue : {A : Type 0} → (bytes : List ℕ) (next : ℕ → List ℕ → Answer A) → Answer A
 readValue bytes next = handOn (valueOf bytes) bytes next
 
+-- So many values at the head of the bytes, one after the other.
+unfoldable pub readValues : {A : Type 0} → (number : ℕ) (bytes : List ℕ) (next : List ℕ → List ℕ → Answer A) → Answer A
+readValues zero bytes next = next [] bytes
+readValues (suc number) bytes next =
+    readValue bytes (λ value s₁.
+    readValues number s₁ (λ values s₂. next (value ∷ values) s₂))
+
 -- A zone at the head of the bytes has four values: mode, cell, slots and mask.
 abbrev pub readZone : {A : Type 0} → (bytes : List ℕ) (next : Zone → List ℕ → Answer A) → Answer A
-readZone bytes next =
-    readValue bytes (λ mode s₁.
-    readValue s₁ (λ cell s₂.
-    readValue s₂ (λ slots s₃.
-    readValue s₃ (λ mask s₄.
-    next (record { mode = mode; cell = cell; slots = slots; mask = mask }) s₄))))
+readZone bytes next = readValues 4 bytes (λ values s₁. next (zoneOf values) s₁)
 
 -- Zones are read one after the other, each judged after its four values.
 unfoldable pub readZones : {A : Type 0} → (count size : ℕ) (before : Before) (bytes : List ℕ) (next : List Zone → List ℕ → Answer A) → Answer A

@@ -14,7 +14,7 @@ use Rattle.plan.specs.declared.Written.{Written}
 use Rattle.plan.specs.declared.Written.the-variants.{Bytes, Refused}
 use Rattle.plan.specs.declared.Before.{Before}
 use Rattle.plan.specs.declared.Before.the-variants.{First, After}
-use Rattle.plan.specs.Zone.{askZone, isCount, each}
+use Rattle.plan.specs.Zone.{valuesOf, askZone, isCount, each}
 
 -- 12, in writing: is every place past the count zero?
 unfoldable pub isUnused : (zone : Zone) → Bool
@@ -41,7 +41,7 @@ askPlan plan rest =
 
 -- The bytes of a plan are the count of zones, the size, then mode, cell, slots and mask of each zone.
 unfoldable pub zoneBytes : (zone : Zone) → List ℕ
-zoneBytes zone = encode (zone .mode) ++ (encode (zone .cell) ++ (encode (zone .slots) ++ encode (zone .mask)))
+zoneBytes zone = each encode (valuesOf zone)
 
 unfoldable pub planBytes : (plan : Plan) → List ℕ
 planBytes plan = encode (plan .count) ++ (encode (plan .size) ++ each zoneBytes (usedZones plan))

@@ -3,6 +3,7 @@ use mathlib.Core.Bool.{Bool, true, false}
 use mathlib.Core.List.{List, [], _∷_, _++_}
 use Prim.Native.Nat.{ℕ, zero, suc}
 use lib.Dec.{eqb, ltb, leb}
+use lib.ListN.{getD}
 use Rattle.base.specs.Choice.{pick, isUpTo}
 use Rattle.base.specs.Answer.{Answer, accepted, ask, refusalOf}
 use Rattle.map.specs.declared.Setup.{Setup}
@@ -11,6 +12,14 @@ use Rattle.mask.specs.Mask.{isMask}
 use Rattle.plan.specs.declared.Zone.{Zone}
 use Rattle.plan.specs.declared.Before.{Before}
 use Rattle.plan.specs.declared.Before.the-variants.{First, After}
+
+-- The values of a zone in the order of the plan file. Document 01, "Zone plan": mode, cell and slots; document 02, wish 5: the mask, a fourth value.
+abbrev pub valuesOf : (zone : Zone) → List ℕ
+valuesOf zone = zone .mode ∷ zone .cell ∷ zone .slots ∷ zone .mask ∷ []
+
+-- The zone of values in that order.
+abbrev pub zoneOf : (values : List ℕ) → Zone
+zoneOf values = record { mode = getD values 0 0; cell = getD values 1 0; slots = getD values 2 0; mask = getD values 3 0 }
 
 -- 1 Is the mode 0, 2 or one of AMC's, 3 to 6 (document 02, wish 2)? That is every listed mode but 1.
 unfoldable pub isZoneMode : (mode : ℕ) → Bool
@@ -72,7 +81,7 @@ inPlaces zero zones = []
 inPlaces (suc places) [] = unused ∷ inPlaces places []
 inPlaces (suc places) (zone ∷ zones) = zone ∷ inPlaces places zones
 
--- What each zone gives, one behind the other.
-unfoldable pub each : (part : Zone → List ℕ) (zones : List Zone) → List ℕ
+-- What each of a list gives, one behind the other.
+unfoldable pub each : {A : Type 0} → (part : A → List ℕ) (list : List A) → List ℕ
 each part [] = []
-each part (zone ∷ zones) = part zone ++ each part zones
+each part (one ∷ list) = part one ++ each part list

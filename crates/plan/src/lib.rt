@@ -144,38 +144,27 @@ fn refused(number: u8) -> ReadPlan
 fn zone_at(s: &[u8], at: usize) -> ZoneFound
     ensures { λ r. ⌜ ZoneAt (now (s .entry)) at r ⌝ }
 {
-    match value::read(s, at) {
-        Found::Refused(number) => ZoneFound::Refused(number),
-        Found::Value { value: mode, bytes } => {
-            let at = at + bytes;
-            match value::read(s, at) {
-                Found::Refused(number) => ZoneFound::Refused(number),
-                Found::Value { value: cell, bytes } => {
-                    let at = at + bytes;
-                    match value::read(s, at) {
-                        Found::Refused(number) => ZoneFound::Refused(number),
-                        Found::Value {
-                            value: slots,
-                            bytes,
-                        } => {
-                            let at = at + bytes;
-                            match value::read(s, at) {
-                                Found::Refused(number) => ZoneFound::Refused(number),
-                                Found::Value { value: mask, bytes } => ZoneFound::Found {
-                                    zone: Zone {
-                                        mode: mode,
-                                        cell: cell,
-                                        slots: slots,
-                                        mask: mask,
-                                    },
-                                    next: at + bytes,
-                                },
-                            }
-                        }
-                    }
-                }
+    let mut values = [0usize; 4];
+    let mut next = at;
+    let mut k = 0;
+    while k < 4 {
+        match value::read(s, next) {
+            Found::Refused(number) => return ZoneFound::Refused(number),
+            Found::Value { value, bytes } => {
+                values[k] = value;
+                next += bytes;
+                k += 1;
             }
         }
+    }
+    ZoneFound::Found {
+        zone: Zone {
+            mode: values[0],
+            cell: values[1],
+            slots: values[2],
+            mask: values[3],
+        },
+        next: next,
     }
 }
 
@@ -306,20 +295,24 @@ fn plan_refusal(plan: Plan) -> u8
     zones_refusal(plan)
 }
 
-// Puts a zone at a place, 6 bytes at most; answers the place after it.
+// Puts the values of a zone at a place where they fit; answers the place after them.
 fn put_zone(dest: &mut [u8], at: usize, zone: Zone) -> usize
-    requires { ⌜ Small zone × (at + 6 ≤ length (now dest)) ⌝ }
-    ensures { λ r. ⌜ Put (now (dest .entry)) at (zoneBytes zone) r (now (dest .exit)) × (r ≤ at + 6) ⌝ }
+    requires { ⌜ Small zone × (at + length (zoneBytes zone) ≤ length (now dest)) ⌝ }
+    ensures { λ r. ⌜ Put (now (dest .entry)) at (zoneBytes zone) r (now (dest .exit)) ⌝ }
 {
-    let after_mode = value::write(dest, at, zone.mode);
-    let after_cell = value::write(dest, after_mode, zone.cell);
-    let after_slots = value::write(dest, after_cell, zone.slots);
-    value::write(dest, after_slots, zone.mask)
+    let values = [zone.mode, zone.cell, zone.slots, zone.mask];
+    let mut next = at;
+    let mut k = 0;
+    while k < 4 {
+        next = value::write(dest, next, values[k]);
+        k += 1;
+    }
+    next
 }
 
-// Puts an accepted plan, 51 bytes at most; answers how many.
+// Puts an accepted plan where it fits; answers how many bytes.
 fn put_plan(dest: &mut [u8], plan: Plan) -> usize
-    requires { ⌜ (planRefusal plan ≡ 0) × (51 ≤ length (now dest)) ⌝ }
+    requires { ⌜ (planRefusal plan ≡ 0) × (length (planBytes plan) ≤ length (now dest)) ⌝ }
     ensures { λ r. ⌜ Put (now (dest .entry)) 0 (planBytes plan) r (now (dest .exit)) ⌝ }
 {
     let used = plan.count;

@@ -14,14 +14,14 @@ use Rattle.text.proofs.Laws.{take-put}
 use Rattle.plan.specs.declared.Zone.{Zone}
 use Rattle.plan.specs.declared.Plan.{Plan}
 use Rattle.plan.specs.declared.ReadPlan.{ReadPlan}
-use Rattle.plan.specs.Zone.{unused}
+use Rattle.plan.specs.Zone.{valuesOf, unused, each}
 use Rattle.plan.specs.Read.{planWith, planOf, answered}
 use Rattle.plan.specs.Model.{Small}
 use Rattle.plan.proofs.Places.{drop-places}
 use Rattle.plan.proofs.Judge.{unused-small, all-small, count-most, size-small}
-use Rattle.plan.proofs.Each.{each-none, each-more}
+use Rattle.plan.proofs.Each.{each-more}
 use Rattle.plan.proofs.Round.{plan-of}
-use Rattle.plan_numbers.specs.Numbers.{fourOf, numbersOf, placeIn, placesIn}
+use Rattle.plan_numbers.specs.Numbers.{numbersOf, placeIn, placesIn}
 use Rattle.plan_numbers.specs.Model.{AllSmall}
 
 four : (l : List ℕ) (i a b c d : ℕ) → i + 4 ≤ length l → take (i + 4) (set (set (set (set l i a) (i + 1) b) (i + 2) c) (i + 3) d) ≡ take i l ++ (a ∷ b ∷ c ∷ d ∷ [])
@@ -36,7 +36,8 @@ pub record Row (zones : List Zone) (numbers : List ℕ) (k : ℕ) : Type 0 where
   pub done : take (4 * k) numbers ≡ numbersOf (take k zones)
 
 pub row-begin : (zones : List Zone) (numbers : List ℕ) → length zones ≡ 8 → length numbers ≡ 32 → AllSmall zones → Row zones numbers 0
-row-begin zones numbers p r a = record { places = p; room = r; small = a; done = sym (each-none fourOf zones) }
+unfolding each
+row-begin zones numbers p r a = record { places = p; room = r; small = a; done = refl }
 
 module _ {zones : List Zone} {numbers : List ℕ} {k : ℕ} (f : Row zones numbers k) where
   pub now-small : Small (getD zones k unused)
@@ -52,8 +53,8 @@ module _ {zones : List Zone} {numbers : List ℕ} {k : ℕ} (f : Row zones numbe
         done =
             rw next
             (four numbers (4 * k) (z .mode) (z .cell) (z .slots) (z .mask) (omega (arith, f .room))
-            ∙ ap (λ l. l ++ fourOf z) (f .done)
-            ∙ rw e (sym (each-more fourOf zones k (omega (arith, f .places)))));
+            ∙ ap (λ l. l ++ valuesOf z) (f .done)
+            ∙ rw e (sym (each-more valuesOf unused zones k (omega (arith, f .places)))));
       }
 
   pub row-end : 8 ≤ k → numbers ≡ numbersOf zones

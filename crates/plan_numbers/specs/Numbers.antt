@@ -1,18 +1,15 @@
 -- A plan's eight places as a row of 32 numbers, and such a row as a plan.
-use mathlib.Core.List.{List, [], _∷_}
+use mathlib.Core.List.{List}
 use Prim.Native.Nat.{ℕ, _+_, _*_}
 use lib.ListN.{getD}
 use Rattle.base.specs.Tabulate.{tabulate}
 use Rattle.plan.specs.declared.Zone.{Zone}
 use Rattle.plan.specs.declared.Plan.{Plan}
-use Rattle.plan.specs.Zone.{each}
+use Rattle.plan.specs.Zone.{valuesOf, each}
 
--- A place of a plan as four numbers: mode, cell, slots and mask.
-abbrev pub fourOf : (zone : Zone) → List ℕ
-fourOf zone = zone .mode ∷ zone .cell ∷ zone .slots ∷ zone .mask ∷ []
-
+-- A place of a plan is four numbers: mode, cell, slots and mask.
 abbrev pub numbersOf : (zones : List Zone) → List ℕ
-numbersOf zones = each fourOf zones
+numbersOf zones = each valuesOf zones
 
 -- The place of a plan that four of the numbers are, and the eight places that all 32 are.
 abbrev pub placeIn : (numbers : List ℕ) (place : ℕ) → Zone

@@ -1,7 +1,7 @@
 -- The laws of the values of a plan file.
 use mathlib.Core.Path.{_≡_, refl, sym, ap, _∙_}
 use mathlib.Core.List.{List, [], _∷_, _++_}
-use Prim.Native.Nat.{ℕ, zero, suc, _+_, _*_, _/_, _%_, _<_, _≤_}
+use Prim.Native.Nat.{ℕ, zero, suc, _+_, _*_, _^_, _/_, _%_, _<_, _≤_}
 use native.Mathlib.Omega.{arith}
 use lib.Dec.{ltb}
 use lib.ListN.{length, take, drop, length-append, length-take}
@@ -47,34 +47,24 @@ module _ (x : ℕ) where
       div-div = omega arith
 
 -- A value that was written is read, with the number of its bytes, whatever bytes follow.
-pub read-written : (x : ℕ) (rest : List ℕ) → x < 2097152 → valueOf (encode x ++ rest) ≡ accepted (record { value = x; bytes = length (encode x) })
-read-written x rest h =
+pub read-written : (g x : ℕ) (rest : List ℕ) → x < 128 ^ suc g → valueIn (suc g) (encodeIn (suc g) x ++ rest) ≡ accepted (record { value = x; bytes = length (encodeIn (suc g) x) })
+unfolding encodeIn
+read-written zero x rest h = rw (lt-ltb x 128 (omega arith)) (last 0 x rest (omega arith))
+read-written (suc g) x rest h =
     cases (ltb x 128)
-    (λ e. rw (encode-1 x (ltb-true x 128 e)) (last 2 x rest (ltb-true x 128 e)))
-    (λ e. cases (ltb x 16384)
-    (λ e′. two (ltb-false x 128 e) (ltb-true x 16384 e′))
-    (λ e′. three (ltb-false x 16384 e′)))
-  where
-    two : 128 ≤ x → x < 16384 → valueOf (encode x ++ rest) ≡ accepted (record { value = x; bytes = length (encode x) })
-    two m l =
-        rw (encode-2 x m l, follow 2 (x % 128 + 128) (x / 128 ∷ rest) (omega arith), last 1 (x / 128) rest (omega arith))
-        (some (x % 128 + 128) (x / 128) 1 (λ z. omega arith) ∙ ap (λ y. accepted (record { value = y; bytes = 2 })) (omega arith))
+    (λ e. rw e (last (suc g) x rest (ltb-true x 128 e)))
+    (λ e. let m = ltb-false x 128 e in
+    rw (e, follow (suc g) (x % 128 + 128) (encodeIn (suc g) (x / 128) ++ rest) (omega arith), read-written g (x / 128) rest (omega arith))
+    (some (x % 128 + 128) (x / 128) (length (encodeIn (suc g) (x / 128))) (λ z. omega arith) ∙ ap (λ y. accepted (record { value = y; bytes = suc (length (encodeIn (suc g) (x / 128))) })) (omega arith)))
 
-    three : 16384 ≤ x → valueOf (encode x ++ rest) ≡ accepted (record { value = x; bytes = length (encode x) })
-    three m =
-        rw (encode-3 x m h, follow 2 (x % 128 + 128) ((x / 128 % 128 + 128) ∷ x / 16384 ∷ rest) (omega arith), follow 1 (x / 128 % 128 + 128) (x / 16384 ∷ rest) (omega arith), last 0 (x / 16384) rest (omega arith), some (x / 128 % 128 + 128) (x / 16384) 1 (λ z. omega arith))
-        (some (x % 128 + 128) ((x / 128 % 128 + 128) % 128 + 128 * (x / 16384)) 2 (λ z. omega arith) ∙ ap (λ y. accepted (record { value = y; bytes = 3 })) (omega arith))
-
--- how many bytes a value takes
-module _ (x : ℕ) where
-  pub bytes-1 : x < 128 → 1 ≡ length (encode x)
-  bytes-1 h = rw (encode-1 x h)
-
-  bytes-2 : 128 ≤ x → x < 16384 → 2 ≡ length (encode x)
-  bytes-2 m h = rw (encode-2 x m h)
-
-pub bytes-two : (x : ℕ) → x < 16384 → length (encode x) ≤ 2
-bytes-two x h = cases (ltb x 128) (λ e. omega (arith, bytes-1 x (ltb-true x 128 e))) (λ e. omega (arith, bytes-2 x (ltb-false x 128 e) h))
+-- A value takes no more bytes than a larger one.
+pub no-longer : (g : ℕ) {x y : ℕ} → x ≤ y → length (encodeIn g x) ≤ length (encodeIn g y)
+unfolding encodeIn
+no-longer zero h = omega arith
+no-longer (suc g) {x} {y} h =
+    cases (ltb x 128)
+    (λ e. rw e (cases (ltb y 128) (λ f. rw f (omega arith)) (λ f. rw f (omega arith))))
+    (λ e. let m = ltb-false x 128 e in rw (e, le-ltb y 128 (omega arith)) (omega (arith, no-longer g {x = x / 128} {y = y / 128} (omega arith))))
 
 -- What was read is written again: as many bytes, and the same where they are bytes.
 pub record Again (written read : List ℕ) : Type 0 where

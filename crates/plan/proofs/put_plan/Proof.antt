@@ -1,19 +1,21 @@
--- `plan::put_plan` meets its contract: while zones are put, those that are done stand behind the count and the size, in 6 bytes each at most.
+-- `plan::put_plan` meets its contract: while zones are put, those that are done stand behind the count and the size.
 use mathlib.Core.Path.{_∙_}
-use Prim.Native.Nat.{_+_, _-_, _*_, _≤_}
+use Prim.Native.Nat.{_+_, _-_, _≤_}
 use native.Mathlib.Omega.{arith}
 use borrow.Author.Needs.{needs}
+use lib.ListN.{length, take}
 use Rattle.text.proofs.Laws.{put-three}
-use Rattle.value.proofs.Laws.{bytes-1, bytes-two}
+use Rattle.plan.specs.Zone.{unused, each}
 use Rattle.plan.specs.Write.{zoneBytes, planBytes}
 use Rattle.plan.proofs.Places.{length-mapped}
 use Rattle.plan.proofs.Judge.{fit-of, used-small, count-most, size-small}
-use Rattle.plan.proofs.Each.{Putting, put-begin, put-again, put-all}
+use Rattle.plan.proofs.Bytes.{plan-length}
+use Rattle.plan.proofs.Each.{Putting, put-begin, put-room, put-again, put-all}
 use Rattle.plan.proofs.put_plan.Statement.{statement}
 use Rattle.plan.proofs.put_plan.Tie as tie
 
 abbrev Inv-loop : tie.InvT-loop
-Inv-loop dest₀ used zones after-count at₀ k₀ dest at k = Putting zoneBytes dest₀ used zones at₀ dest at k × (used ≤ 8) × (at₀ ≤ 3) × (at ≤ at₀ + 6 * k)
+Inv-loop dest₀ used zones after-count at₀ k₀ dest at k = Putting 8 zoneBytes dest₀ used zones at₀ dest at k × (used ≤ 8) × (at₀ + length (each zoneBytes (take used zones)) ≤ length dest₀)
 
 abbrev μ-loop : tie.MeasureT-loop
 μ-loop dest₀ used zones after-count at₀ k₀ dest at k = used - k
@@ -22,48 +24,40 @@ write-requires : tie.Need-write-requires Inv-loop μ-loop
 write-requires c κs =
     let start = c .before .before .before in
     let most = count-most _ (fit-of _ (start .pre .0) .count-is) in
-    (omega arith, omega (arith, start .pre .1, bytes-1 (start .args .plan .count) (omega arith)))
+    (omega arith, omega (arith, start .pre .1, plan-length (start .args .plan)))
 
 write-requires-2 : tie.Need-write-requires-2 Inv-loop μ-loop
 write-requires-2 c κs =
     let first = c .before .before .before .write in
     let start = c .before .before .before .before .before .before .before in
-    let p = start .args .plan in
-    let most = count-most _ (fit-of p (start .pre .0) .count-is) in
-    let few = size-small _ (fit-of p (start .pre .0) .size-is) in
-    (omega arith, omega (arith, start .pre .1, first .ensures .next-is, first .kept .0, bytes-1 (p .count) (omega arith), bytes-two (p .size) (omega arith)))
+    let few = size-small _ (fit-of (start .args .plan) (start .pre .0) .size-is) in
+    (omega arith, omega (arith, start .pre .1, first .ensures .next-is, first .kept .0, plan-length (start .args .plan)))
 
 loop-holds : tie.Need-loop-holds Inv-loop μ-loop
 loop-holds c =
     let second = c .before .before .write2 in
     let first = c .before .before .before .before .before .before .write in
     let start = c .before .before .before .before .before .before .before .before .before .before in
-    let p = start .args .plan in
-    let most = count-most _ (fit-of p (start .pre .0) .count-is) in
-    let few = size-small _ (fit-of p (start .pre .0) .size-is) in
-    (put-begin _ _ _ _ _ (search (length-mapped, needs) depth 8), most, omega (arith, first .ensures .next-is, second .ensures .next-is, bytes-1 (p .count) (omega arith), bytes-two (p .size) (omega arith)), omega arith)
+    let p = start .args .plan in (
+      put-begin _ _ _ _ _ (search (length-mapped, needs) depth 8),
+      count-most _ (fit-of p (start .pre .0) .count-is),
+      omega (arith, start .pre .1, first .ensures .next-is, first .kept .0, second .ensures .next-is, second .kept .0, plan-length p),
+    )
 
 put-zone-requires : tie.Need-put-zone-requires Inv-loop μ-loop
 put-zone-requires c κs =
     let loop = c .before .before .before in
     let inv = loop .loop .inv in
     let start = loop .before .before .before .before .before .before .before .before .before .before .before in
-    let in-loop = c .before .before .loop-test .taken in (
-      used-small _ _ (fit-of _ (start .pre .0)) (inv .0 .places) in-loop,
-      omega (arith, inv .0 .kept, inv .1, inv .2, inv .3, start .pre .1, loop .before .before .before .write2 .kept .0, loop .before .before .before .before .before .before .before .write .kept .0),
-    )
+    let in-loop = c .before .before .loop-test .taken in
+    (used-small _ _ (fit-of _ (start .pre .0)) (inv .0 .places) in-loop, put-room (inv .0) unused (omega (arith, inv .1)) in-loop (inv .2))
 
 loop-again : tie.Need-loop-again Inv-loop μ-loop
 loop-again c =
     let put = c .before .before .put-zone in
-    let loop = c .before .before .before .before .before .before in
-    let inv = loop .loop .inv in (
-      put-again (inv .0) (omega (arith, inv .1)) (c .before .before .before .before .before .loop-test .taken)
-          (omega (arith, inv .2, loop .before .before .before .before .before .before .before .before .before .before .before .pre .1, loop .before .before .before .write2 .kept .0, loop .before .before .before .before .before .before .before .write .kept .0)) (put .kept .0) (put .ensures .0),
-      inv .1,
-      inv .2,
-      omega (arith, inv .3, put .ensures .1),
-    )
+    let inv = c .before .before .before .before .before .before .loop .inv in
+    let in-loop = c .before .before .before .before .before .loop-test .taken in
+    (put-again (inv .0) unused (omega (arith, inv .1)) in-loop (omega (arith, inv .2)) (put .kept .0) (put .ensures), inv .1, inv .2)
 
 same-length : tie.Need-same-length Inv-loop μ-loop
 same-length c = c .before .loop .inv .0 .kept ∙ c .before .before .before .before .write2 .kept .0 ∙ c .before .before .before .before .before .before .before .before .write .kept .0

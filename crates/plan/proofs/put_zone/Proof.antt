@@ -1,61 +1,46 @@
--- `plan::put_zone` meets its contract.
-use mathlib.Core.Path.{_∙_}
+-- `plan::put_zone` meets its contract: while values are put, those that are done stand at the place.
+use Prim.Native.Nat.{_+_, _-_, _≤_}
 use native.Mathlib.Omega.{arith}
+use lib.ListN.{length, take}
+use borrow.Author.Needs.{needs}
+use Rattle.value.specs.Value.{encode}
+use Rattle.plan.specs.Zone.{each}
 use Rattle.plan.specs.Write.{zoneBytes}
-use Rattle.plan.proofs.Bytes.{six}
-use Rattle.text.proofs.Laws.{put-four}
+use Rattle.plan.proofs.Bytes.{Within, value-small, limits, within}
+use Rattle.plan.proofs.Each.{Putting, put-begin, put-room, put-again, put-all}
 use Rattle.plan.proofs.put_zone.Statement.{statement}
 use Rattle.plan.proofs.put_zone.Tie as tie
 
-write-requires : tie.Need-write-requires
-write-requires c κs =
-    let start = c .before .before in
-    let s = start .pre .0 in
-    let f = six (start .args .zone) s in
-    (omega arith, omega (arith, start .pre .1))
+abbrev Inv-loop : tie.InvT-loop
+Inv-loop dest₀ at values next₀ k₀ dest next k = Putting 4 encode dest₀ 4 values at dest next k × Within values limits × (at + length (each encode (take 4 values)) ≤ length dest₀)
 
-write-requires-2 : tie.Need-write-requires-2
-write-requires-2 c κs =
-    let first = c .before .before .before .write in
-    let start = c .before .before .before .before .before .before in
-    let s = start .pre .0 in
-    let f = six (start .args .zone) s in
-    (omega arith, omega (arith, start .pre .1, first .ensures .next-is, first .kept .0))
+abbrev μ-loop : tie.MeasureT-loop
+μ-loop dest₀ at values next₀ k₀ dest next k = 4 - k
 
-write-requires-3 : tie.Need-write-requires-3
-write-requires-3 c κs =
-    let second = c .before .before .before .write2 in
-    let first = c .before .before .before .before .before .before .before .write in
-    let start = c .before .before .before .before .before .before .before .before .before .before in
-    let s = start .pre .0 in
-    let f = six (start .args .zone) s in
-    (omega arith, omega (arith, start .pre .1, first .ensures .next-is, first .kept .0, second .ensures .next-is, second .kept .0))
-
-write-requires-4 : tie.Need-write-requires-4
-write-requires-4 c κs =
-    let third = c .before .before .before .write3 in
-    let second = c .before .before .before .before .before .before .before .write2 in
-    let first = c .before .before .before .before .before .before .before .before .before .before .before .write in
-    let start = c .before .before .before .before .before .before .before .before .before .before .before .before .before .before in
-    let s = start .pre .0 in
-    let f = six (start .args .zone) s in
-    (omega arith, omega (arith, start .pre .1, first .ensures .next-is, first .kept .0, second .ensures .next-is, second .kept .0, third .ensures .next-is, third .kept .0))
-
-same-length : tie.Need-same-length
-same-length c =
-    let third = c .before .before .before .before .before .before in
-    c .before .before .write4 .kept .0 ∙ third .write3 .kept .0 ∙ third .before .before .before .before .write2 .kept .0 ∙ third .before .before .before .before .before .before .before .before .write .kept .0
-
-returns : tie.Need-returns
+loop-holds : tie.Need-loop-holds Inv-loop μ-loop
 unfolding zoneBytes
-returns c =
-    let fourth = c .before .before .write4 .ensures in
-    let third = c .before .before .before .before .before .before .write3 .ensures in
-    let second = c .before .before .before .before .before .before .before .before .before .before .write2 .ensures in
-    let first = c .before .before .before .before .before .before .before .before .before .before .before .before .before .before .write .ensures in
-    let start = c .before .before .before .before .before .before .before .before .before .before .before .before .before .before .before .before .before in
-    let f = six (start .args .zone) (start .pre .0) in
-    (put-four _ _ _ _ (omega (arith, start .pre .1)) first second third fourth, omega (arith, first .next-is, second .next-is, third .next-is, fourth .next-is))
+loop-holds c = (put-begin encode _ 4 _ _ (search needs), within (c .before .pre .0), c .before .pre .1)
+
+write-requires : tie.Need-write-requires Inv-loop μ-loop
+write-requires c κs =
+    let loop = c .before .before .loop in
+    let in-loop = c .before .loop-test .taken in
+    (value-small (loop .k) (loop .inv .1), put-room (loop .inv .0) 0 in-loop in-loop (loop .inv .2))
+
+loop-again : tie.Need-loop-again Inv-loop μ-loop
+loop-again c =
+    let put = c .before .before .write in
+    let inv = c .before .before .before .before .before .loop .inv in
+    let in-loop = c .before .before .before .before .loop-test .taken in
+    (put-again (inv .0) 0 in-loop in-loop (omega (arith, inv .2)) (put .kept .0) (put .ensures), inv .1, inv .2)
+
+returns : tie.Need-returns Inv-loop μ-loop
+unfolding zoneBytes
+returns c = put-all (c .before .loop .inv .0) (c .loop-test .left)
 
 pub put-zone-spec : {M : Type 1} → statement M
-put-zone-spec = tie.close (tie.spec write-requires write-requires-2 write-requires-3 write-requires-4 same-length returns)
+put-zone-spec =
+    tie.close
+    (tie.spec
+    Inv-loop μ-loop loop-holds (λ c. search needs) (λ c. search needs) write-requires
+    (λ c. search needs) (λ c. search needs) loop-again (λ c. c .before .loop .inv .0 .kept) returns)

@@ -12,7 +12,9 @@ returns : tie.Need-returns
 returns c = write-no _ _ (c .before .plan-refusal .ensures) (c .if1 .taken)
 
 put-plan-requires : tie.Need-put-plan-requires
-put-plan-requires c κs = (sym (c .before .before .plan-refusal .ensures) ∙ c .before .if1 .left, search needs)
+put-plan-requires c κs =
+    let accepted = sym (c .before .before .plan-refusal .ensures) ∙ c .before .if1 .left in
+    (accepted, omega (arith, plan-51 _ (fit-of _ accepted)))
 
 returns-2 : tie.Need-returns-2
 returns-2 c = write-short _ _ (c .before .before .before .before .before .plan-refusal .ensures) (c .before .before .before .before .if1 .left) _ (c .before .before .put-plan .ensures) (c .if2 .taken)

@@ -2,14 +2,15 @@
 use Prim.Native.Nat.{_-_, _*_, _≤_}
 use native.Mathlib.Omega.{arith}
 use borrow.Author.Needs.{needs}
+use Rattle.plan.specs.Zone.{unused}
 use Rattle.plan.proofs.Places.{length-mapped}
-use Rattle.plan.proofs.Each.{Putting, put-begin, put-again, put-all, put-eight}
+use Rattle.plan.proofs.Each.{Putting, put-begin, put-again, put-all, put-end}
 use Rattle.plan_text.specs.Lines.{lineOf}
 use Rattle.plan_text.proofs.put_zones.Statement.{statement}
 use Rattle.plan_text.proofs.put_zones.Tie as tie
 
 abbrev Inv-loop : tie.InvT-loop
-Inv-loop dest₀ count zones at₀ k₀ dest at k = Putting lineOf dest₀ count zones 0 dest at k × (at ≤ 84 * k)
+Inv-loop dest₀ count zones at₀ k₀ dest at k = Putting 8 lineOf dest₀ count zones 0 dest at k × (at ≤ 84 * k)
 
 abbrev μ-loop : tie.MeasureT-loop
 μ-loop dest₀ count zones at₀ k₀ dest at k = 8 - k
@@ -32,13 +33,13 @@ loop-again : tie.Need-loop-again Inv-loop μ-loop
 loop-again c =
     let line = c .before .before .put-line in
     let inv = c .before .before .before .before .before .before .before .loop .inv in
-    (put-again (inv .0) (omega arith) (omega arith) (omega arith) (line .kept .0) (line .ensures .0), omega (arith, inv .1, line .ensures .1))
+    (put-again (inv .0) unused (omega arith) (omega arith) (omega arith) (line .kept .0) (line .ensures .0), omega (arith, inv .1, line .ensures .1))
 
 same-length-2 : tie.Need-same-length-2 Inv-loop μ-loop
 same-length-2 c = c .before .loop .inv .0 .kept
 
 returns-2 : tie.Need-returns-2 Inv-loop μ-loop
-returns-2 c = put-eight (c .before .loop .inv .0) (c .loop-test .left)
+returns-2 c = put-end (c .before .loop .inv .0) (c .loop-test .left)
 
 pub put-zones-spec : {M : Type 1} → statement M
 put-zones-spec =
