@@ -138,6 +138,6 @@ module _ {A : Type 0} (b : Bool) (k : ℕ) (rest : Answer A) where
   pub number-then : b ≡ true → (n : ℕ) → n ≡ refusalOf rest → n ≡ refusalOf (ask b k rest)
   number-then e n f = rw e f
 
-pub ruleset answered = (no-here, yes-then, tests)
+pub ruleset by-answer = (no-here, yes-then, tests)
 
-pub ruleset counted-out = (number-here, number-then, tests)
+pub ruleset by-number = (number-here, number-then, tests)

@@ -106,10 +106,6 @@ pub setup-numbered : {A : Type 0} (c : Setup) (rest : Answer A) → askSetup c r
 unfolding setupRefusal
 setup-numbered c = all-numbered (setupQuestions c) tt
 
-pub number-valid : (c : Setup) → setupRefusal c ≡ 0 → Valid c
-unfolding setupRefusal
-number-valid c e = let y = all-yes (setupQuestions c) tt e in valid c (y .0) (y .1 .0) (y .1 .1 .0)
-
 pub setup-yes : {c : Setup} → Valid c → AllYes (setupQuestions c)
 setup-yes {c} v = all-yes (setupQuestions c) tt (ap refusalOf (passes {rest = accepted tt} v))
 

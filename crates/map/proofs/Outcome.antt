@@ -10,7 +10,7 @@ use mir.ValLaws.{toZ-ofZ}
 use borrow.Author.Tests.{not-false}
 use Rattle.base.specs.Answer.{Answer, accepted, refused, refusalOf}
 use Rattle.base.proofs.Test.{told-no, told-yes}
-use Rattle.base.proofs.Chain.{is-refused, has-passed}
+use Rattle.base.proofs.Chain.{all-yes, is-refused, has-passed}
 use Rattle.carriers.specs.declared.Address.{Address}
 use Rattle.carriers.specs.declared.Band.{Band}
 use Rattle.carriers.specs.Band.{carrierOf, usedOf, isGuard, isDc}
@@ -22,13 +22,14 @@ use Rattle.map.specs.Mode.{subchannels, symbols, band, isPilot, spotOf, 
 use Rattle.map.specs.Question.{askSetup, isCarrier}
 use Rattle.map.specs.Model.{setupRefusal, Valid}
 use Rattle.map.specs.Place.{Place, Content, guard, dc, pilot, point, placeAt, placeOf, dataAt, contentOf, locateOf}
-use Rattle.map.proofs.Accept.{setupQuestions, number-valid}
+use Rattle.map.proofs.Accept.{valid, setupQuestions}
 use Rattle.map.proofs.ByMode.{few}
 use Rattle.map.proofs.Slot.{slot-law, band-law, centred}
 use Rattle.map.proofs.Law.{place-accepts, locate-accepts}
 
 pub now-valid : (c : Setup) (k : ℕ) → k ≡ setupRefusal c → k ≡ 0 → Valid c
-now-valid c k e z = number-valid c (sym e ∙ z)
+unfolding setupRefusal
+now-valid c k e z = let y = all-yes (setupQuestions c) tt (sym e ∙ z) in valid c (y .0) (y .1 .0) (y .1 .1 .0)
 
 -- questions 1, 2 and 3 before what comes after them, by the number that a function gave
 module _ {A : Type 0} (c : Setup) (rest : Answer A) (k : ℕ) (e : k ≡ setupRefusal c) where

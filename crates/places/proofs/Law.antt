@@ -8,7 +8,7 @@ use lib.Ieee.{Float}
 use borrow.Author.Tests.{lt-ltb, ltb-true, eq-eqb}
 use Rattle.base.specs.Answer.{Answer, accepted, refused, refusalOf}
 use Rattle.base.specs.Steps.{entry}
-use Rattle.base.proofs.Chain.{numbered, Questions, all-numbered, all-yes, number-is}
+use Rattle.base.proofs.Chain.{Questions, all-numbered, all-yes, number-is}
 use Rattle.base.specs.Tabulate.{tabulate}
 use Rattle.base.proofs.Tabulate.{length-tabulate, getD-tabulate, tabulated, entry-of}
 use Rattle.carriers.specs.Bin.{binPilotPlace, usedOfData}
@@ -61,17 +61,13 @@ module _ (setup : Setup) (slot s : ℕ) where
   unfolding placesOf
   row-long = long-of (standsAt setup slot s) asked
 
-  -- the questions before an answer, as a number
   abbrev questions : Questions
   questions = setupQuestions setup ++ ((isSlot slot, 4) ∷ (isSubchannel setup s, 5) ∷ [])
-
-  asked-before : {A : Type 0} (rest : Answer A) → askPlaces setup slot s rest ≡ numbered (refusalOf asked) rest
-  asked-before = all-numbered questions tt
 
   pub refused-alike : (index : ℕ) → index < 48 → placesOf setup slot s .refusal ≡ refusalOf (placeOf setup slot s index)
   unfolding placeOf isIndex
   refused-alike index h =
-      rw (lt-ltb index 48 h) (row-number ∙ sym (ap refusalOf (asked-before (accepted (placeAt setup slot (spotOf setup slot s index)))) ∙ number-is _ _))
+      rw (lt-ltb index 48 h) (row-number ∙ sym (ap refusalOf (all-numbered questions tt (accepted (placeAt setup slot (spotOf setup slot s index)))) ∙ number-is _ _))
 
   -- in another slot of whose symbols the pilots are at the same places
   module _ (other : ℕ) (hs : slot < 512) (ho : other < 512) where

@@ -1,6 +1,6 @@
 -- `collision::amc` meets its contract.
 use borrow.Author.Needs.{needs}
-use Rattle.base.proofs.Chain.{answered}
+use Rattle.base.proofs.Chain.{by-answer}
 use Rattle.map.specs.Mode.{cells}
 use Rattle.map.specs.Question.{isCell}
 use Rattle.collision.specs.Collision.{amcOf}
@@ -13,5 +13,5 @@ unfolding amcOf isCell cells
 amc-spec =
     tie.close
     (tie.spec
-    (λ c κs. search needs) (λ c. search (gives, answered, needs)) (λ c κs. search needs) (λ c. search (gives, answered, needs))
-    (λ c κs. search needs) (λ c. search (gives, answered, needs)))
+    (λ c κs. search needs) (λ c. search (gives, by-answer, needs)) (λ c κs. search needs) (λ c. search (gives, by-answer, needs))
+    (λ c κs. search needs) (λ c. search (gives, by-answer, needs)))

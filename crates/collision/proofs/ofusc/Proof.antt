@@ -4,7 +4,7 @@ use mathlib.Core.Bool.{true}
 use native.Mathlib.Omega.{arith}
 use borrow.Author.Needs.{needs}
 use Rattle.base.proofs.Test.{told-yes}
-use Rattle.base.proofs.Chain.{answered}
+use Rattle.base.proofs.Chain.{by-answer}
 use Rattle.map.specs.Mode.{width, cells, subchannels}
 use Rattle.map.specs.Question.{isFourSizes, isCell, isSubchannel}
 use Rattle.collision.specs.Collision.{ofuscOf}
@@ -23,9 +23,9 @@ unfolding ofuscOf isCell isSubchannel cells subchannels width
 ofusc-spec =
     tie.close
     (tie.spec
-    (λ c κs. search needs) (λ c κs. search needs) (λ c. search (gives, answered, needs))
-    (λ c. omega (arith, wide _ (four c) .few)) (λ c κs. search needs) (λ c. search (gives, answered, needs) depth 8)
-    (λ c. omega (arith, wide _ (four (c .before)) .few)) (λ c κs. search needs) (λ c. search (gives, answered, needs) depth 8)
-    (λ c κs. search needs) (λ c. search (gives, answered, needs) depth 8)
-    (λ c κs. search needs) (λ c. search (gives, answered, needs) depth 8)
-    ofusc-hits-requires (λ c. search (gives, same-size, answered, needs) depth 9))
+    (λ c κs. search needs) (λ c κs. search needs) (λ c. search (gives, by-answer, needs))
+    (λ c. omega (arith, wide _ (four c) .few)) (λ c κs. search needs) (λ c. search (gives, by-answer, needs) depth 8)
+    (λ c. omega (arith, wide _ (four (c .before)) .few)) (λ c κs. search needs) (λ c. search (gives, by-answer, needs) depth 8)
+    (λ c κs. search needs) (λ c. search (gives, by-answer, needs) depth 8)
+    (λ c κs. search needs) (λ c. search (gives, by-answer, needs) depth 8)
+    ofusc-hits-requires (λ c. search (gives, same-size, by-answer, needs) depth 9))

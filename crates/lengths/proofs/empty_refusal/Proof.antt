@@ -1,7 +1,7 @@
 -- `lengths::empty_refusal` meets its contract.
 use native.Mathlib.Omega.{arith}
 use borrow.Author.Needs.{needs}
-use Rattle.base.proofs.Chain.{counted-out}
+use Rattle.base.proofs.Chain.{by-number}
 use Rattle.mask.proofs.Law.{lit-few}
 use Rattle.lengths.specs.Question.{arePoints}
 use Rattle.lengths.specs.Model.{gridRefusal, emptyRefusal}
@@ -18,4 +18,4 @@ empty-refusal-spec =
     tie.close
     (tie.spec
     (λ c κs. search needs) (λ c. search (slot-no, needs)) (λ c κs. mask-few (slot-accepted _ _ _ _ (c .before .slot-refusal .ensures) (c .if1 .left) .0)) mul-if2
-    (λ c. search (slot-then, counted-out, needs)) (λ c κs. search (slot-valid, needs)) (λ c. search (slot-then, counted-out, needs)))
+    (λ c. search (slot-then, by-number, needs)) (λ c κs. search (slot-valid, needs)) (λ c. search (slot-then, by-number, needs)))

@@ -1,6 +1,6 @@
 -- `lengths::grid_refusal` meets its contract.
 use borrow.Author.Needs.{needs}
-use Rattle.base.proofs.Chain.{counted-out}
+use Rattle.base.proofs.Chain.{by-number}
 use Rattle.lengths.specs.Question.{isGrid}
 use Rattle.lengths.specs.Model.{gridRefusal}
 use Rattle.lengths.proofs.grid_refusal.Statement.{statement}
@@ -8,4 +8,4 @@ use Rattle.lengths.proofs.grid_refusal.Tie as tie
 
 pub grid-refusal-spec : {M : Type 1} → statement M
 unfolding gridRefusal isGrid
-grid-refusal-spec = tie.close (tie.spec (λ c κs. search needs) (λ c. search needs) (λ c. search (counted-out, needs)) (λ c. search (counted-out, needs)))
+grid-refusal-spec = tie.close (tie.spec (λ c κs. search needs) (λ c. search needs) (λ c. search (by-number, needs)) (λ c. search (by-number, needs)))

@@ -1,6 +1,6 @@
 -- `lengths::lay_refusal` meets its contract.
 use borrow.Author.Needs.{needs}
-use Rattle.base.proofs.Chain.{counted-out}
+use Rattle.base.proofs.Chain.{by-number}
 use Rattle.map.specs.Question.{isSubchannel}
 use Rattle.lengths.specs.Question.{isLitSubchannel, areLaidPoints}
 use Rattle.lengths.specs.Model.{layRefusal, gridRefusal}
@@ -13,7 +13,7 @@ unfolding layRefusal gridRefusal isLitSubchannel isSubchannel areLaidPoints
 lay-refusal-spec =
     tie.close
     (tie.spec
-    (λ c κs. search needs) (λ c. search (slot-no, needs)) (λ c κs. search needs) (λ c. search (slot-then, counted-out, needs))
-    (λ c κs. search needs) (λ c. search (slot-then, counted-out, needs))
-    (λ c. search (slot-then, counted-out, needs)) (λ c κs. search (slot-valid, needs))
-    (λ c. search (slot-then, counted-out, needs)))
+    (λ c κs. search needs) (λ c. search (slot-no, needs)) (λ c κs. search needs) (λ c. search (slot-then, by-number, needs))
+    (λ c κs. search needs) (λ c. search (slot-then, by-number, needs))
+    (λ c. search (slot-then, by-number, needs)) (λ c κs. search (slot-valid, needs))
+    (λ c. search (slot-then, by-number, needs)))

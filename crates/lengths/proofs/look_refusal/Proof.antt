@@ -1,7 +1,7 @@
 -- `lengths::look_refusal` meets its contract.
 use native.Mathlib.Omega.{arith}
 use borrow.Author.Needs.{needs}
-use Rattle.base.proofs.Chain.{counted-out}
+use Rattle.base.proofs.Chain.{by-number}
 use Rattle.map.specs.Question.{isSymbol}
 use Rattle.map.proofs.ByMode.{few}
 use Rattle.map.proofs.Outcome.{size-few, carrier-no, carrier-yes}
@@ -18,6 +18,6 @@ unfolding lookRefusal gridRefusal isSymbol
 look-refusal-spec =
     tie.close
     (tie.spec
-    (λ c κs. search needs) (λ c. search (mask-no, needs)) (λ c κs. search needs) mul-if2 (λ c. search (mask-then, counted-out, needs))
-    (λ c κs. search (size-few, mask-valid, needs)) (λ c. search (mask-then, carrier-no, counted-out, needs))
-    (λ c κs. search (mask-valid, needs)) (λ c. search (mask-then, carrier-yes, counted-out, needs)))
+    (λ c κs. search needs) (λ c. search (mask-no, needs)) (λ c κs. search needs) mul-if2 (λ c. search (mask-then, by-number, needs))
+    (λ c κs. search (size-few, mask-valid, needs)) (λ c. search (mask-then, carrier-no, by-number, needs))
+    (λ c κs. search (mask-valid, needs)) (λ c. search (mask-then, carrier-yes, by-number, needs)))

@@ -1,6 +1,6 @@
 -- `lengths::mask_refusal` meets its contract.
 use borrow.Author.Needs.{needs}
-use Rattle.base.proofs.Chain.{counted-out}
+use Rattle.base.proofs.Chain.{by-number}
 use Rattle.lengths.specs.Model.{maskRefusal}
 use Rattle.map.proofs.Outcome.{setup-no, setup-then}
 use Rattle.lengths.proofs.mask_refusal.Statement.{statement}
@@ -11,4 +11,4 @@ unfolding maskRefusal
 mask-refusal-spec =
     tie.close
     (tie.spec
-    (λ c κs. search needs) (λ c. search (setup-no, needs)) (λ c κs. search needs) (λ c. search (setup-then, counted-out, needs)) (λ c. search (setup-then, counted-out, needs)))
+    (λ c κs. search needs) (λ c. search (setup-no, needs)) (λ c κs. search needs) (λ c. search (setup-then, by-number, needs)) (λ c. search (setup-then, by-number, needs)))

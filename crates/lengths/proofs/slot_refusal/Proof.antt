@@ -1,6 +1,6 @@
 -- `lengths::slot_refusal` meets its contract.
 use borrow.Author.Needs.{needs}
-use Rattle.base.proofs.Chain.{counted-out}
+use Rattle.base.proofs.Chain.{by-number}
 use Rattle.map.specs.Question.{isSlot}
 use Rattle.lengths.specs.Model.{slotRefusal}
 use Rattle.lengths.proofs.Refusal.{mask-no, mask-then}
@@ -12,4 +12,4 @@ unfolding slotRefusal isSlot
 slot-refusal-spec =
     tie.close
     (tie.spec
-    (λ c κs. search needs) (λ c. search (mask-no, needs)) (λ c. search (mask-then, counted-out, needs)) (λ c. search (mask-then, counted-out, needs)))
+    (λ c κs. search needs) (λ c. search (mask-no, needs)) (λ c. search (mask-then, by-number, needs)) (λ c. search (mask-then, by-number, needs)))

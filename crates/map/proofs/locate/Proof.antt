@@ -1,7 +1,7 @@
 -- `map::locate` meets its contract.
 use native.Mathlib.Omega.{arith}
 use borrow.Author.Needs.{needs}
-use Rattle.base.proofs.Chain.{answered}
+use Rattle.base.proofs.Chain.{by-answer}
 use Rattle.map.specs.Question.{isSymbol}
 use Rattle.map.specs.Place.{locateOf}
 use Rattle.map.proofs.ByMode.{few}
@@ -24,5 +24,5 @@ locate-spec =
     tie.close
     (tie.spec
     (λ c κs. search needs) (λ c. search (refuses, needs)) (λ c κs. search needs) mul-if2
-    (λ c. search (lets-pass, answered, needs)) (λ c κs. search (size-few, now-valid, needs)) (λ c. search (lets-pass, carrier-no, answered, needs))
+    (λ c. search (lets-pass, by-answer, needs)) (λ c κs. search (size-few, now-valid, needs)) (λ c. search (lets-pass, carrier-no, by-answer, needs))
     column-requires content-requires (λ c. search (locate-done, now-valid, needs)))

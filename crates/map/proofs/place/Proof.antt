@@ -1,5 +1,5 @@
 -- `map::place` meets its contract.
-use Rattle.base.proofs.Chain.{answered}
+use Rattle.base.proofs.Chain.{by-answer}
 use Rattle.map.specs.Question.{isSlot, isSubchannel, isIndex}
 use Rattle.map.specs.Place.{placeOf}
 use Rattle.map.proofs.Outcome.{now-valid, refuses, lets-pass, subchannel-in, place-done, spot-asks}
@@ -18,6 +18,6 @@ unfolding placeOf isSlot isSubchannel isIndex
 place-spec =
     tie.close
     (tie.spec
-    (λ c κs. search needs) (λ c. search (refuses, needs)) (λ c. search (lets-pass, answered, needs))
-    (λ c κs. search needs) (λ c. search (lets-pass, answered, needs)) (λ c. search (lets-pass, answered, needs))
+    (λ c κs. search needs) (λ c. search (refuses, needs)) (λ c. search (lets-pass, by-answer, needs))
+    (λ c κs. search needs) (λ c. search (lets-pass, by-answer, needs)) (λ c. search (lets-pass, by-answer, needs))
     spot-requires at-requires (λ c. search (place-done, needs)))

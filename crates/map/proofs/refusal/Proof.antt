@@ -1,7 +1,7 @@
 -- `map::refusal` meets its contract.
 use borrow.Author.Needs.{needs}
 use Rattle.base.proofs.Test.{told-yes}
-use Rattle.base.proofs.Chain.{counted-out}
+use Rattle.base.proofs.Chain.{by-number}
 use Rattle.map.specs.Question.{isMode, isCell}
 use Rattle.map.specs.Model.{setupRefusal}
 use Rattle.map.proofs.Accept.{size-most}
@@ -16,4 +16,4 @@ unfolding setupRefusal isMode isCell
 refusal-spec =
     tie.close
     (tie.spec
-    (λ c. search (counted-out, needs)) (λ c κs. search needs) (λ c. search (counted-out, needs)) cells-requires (λ c. search (counted-out, needs)) (λ c. search (counted-out, needs)))
+    (λ c. search (by-number, needs)) (λ c κs. search needs) (λ c. search (by-number, needs)) cells-requires (λ c. search (by-number, needs)) (λ c. search (by-number, needs)))

@@ -2,7 +2,7 @@
 use Prim.Native.Nat.{_<_}
 use native.Mathlib.Omega.{arith}
 use borrow.Author.Needs.{needs}
-use Rattle.base.proofs.Chain.{answered}
+use Rattle.base.proofs.Chain.{by-answer}
 use Rattle.map.specs.Mode.{subchannels}
 use Rattle.map.specs.Question.{isSlot, isSubchannel}
 use Rattle.map.specs.Model.{Valid}
@@ -36,6 +36,6 @@ unfolding isSlot isSubchannel
 row-spec =
     tie.close
     (tie.spec
-    (λ c κs. search needs) (λ c κs. search needs) (λ c. search (no-row, refuses, needs)) (λ c κs. search needs) (λ c. search (no-row, lets-pass, answered, needs))
-    (λ c κs. search needs) (λ c κs. search needs) (λ c. search (no-row, lets-pass, answered, needs))
+    (λ c κs. search needs) (λ c κs. search needs) (λ c. search (no-row, refuses, needs)) (λ c κs. search needs) (λ c. search (no-row, lets-pass, by-answer, needs))
+    (λ c κs. search needs) (λ c κs. search needs) (λ c. search (no-row, lets-pass, by-answer, needs))
     (λ c κs. past-3 c) carrier-row-requires shift-requires (λ c κs. search needs) returns-4)
