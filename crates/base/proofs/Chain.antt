@@ -1,13 +1,14 @@
 -- A chain of questions: what it does to the answer that comes after it.
 use mathlib.Core.Path.{_≡_, refl, sym, ap, _∙_}
 use mathlib.Core.Bool.{Bool, true, false}
-use Prim.Native.Nat.{ℕ, suc}
+use mathlib.Core.List.{List, [], _∷_, _++_}
+use Prim.Native.Nat.{ℕ, zero, suc}
 use native.Mathlib.Omega.{arith}
-use lib.Dec.{eqb}
+use lib.Dec.{T, eqb}
 use borrow.Author.Tests.{eq-eqb, ne-eqb, eqb-true, eqb-false}
 use Rattle.base.specs.Choice.{pick}
 use Rattle.base.specs.Answer.{Answer, accepted, refused, ask, refusalOf}
-use Rattle.base.proofs.Test.{cases}
+use Rattle.base.proofs.Test.{cases, tests}
 
 -- where a request is accepted, each question was answered yes
 pub ask-yes : {A : Type 0} (b : Bool) (k : ℕ) (rest : Answer A) {a : A} → ask b k rest ≡ accepted a → (b ≡ true) × (rest ≡ accepted a)
@@ -28,10 +29,6 @@ module _ {A : Type 0} (n : ℕ) (rest : Answer A) where
   pub no-first : (n ≡ 0 → ⊥) → numbered n rest ≡ refused n
   no-first h = rw (ne-eqb n 0 h)
 
--- one chain after another
-pub twice : {A : Type 0} (n m : ℕ) (rest : Answer A) → numbered n (numbered m rest) ≡ numbered (pick (eqb n 0) m n) rest
-twice n m rest = cases (eqb n 0) (λ e. rw e) (λ e. rw (e, e))
-
 -- THE LAW OF A CHAIN, link by link from its end: before any answer it is the refusal of the number that it comes to by itself, or that answer.
 pub record Numbered {A : Type 0} (chain rest : Answer A) (alone : Answer (Unit {0})) : Type 0 where
   pub is : chain ≡ numbered (refusalOf alone) rest
@@ -43,10 +40,6 @@ pub question : {A : Type 0} (b : Bool) (k : ℕ) {chain rest : Answer A} {alone 
     → Numbered (ask b (suc k) chain) rest (ask b (suc k) alone)
 question true k e = e
 question false k e = record { is = rw (ne-eqb (suc k) 0 (λ z. omega arith)) }
-
--- where one of its questions is answered no, its number is that of the whole
-pub no-before : {A : Type 0} {chain rest : Answer A} {alone : Answer (Unit {0})} → Numbered chain rest alone → (k : ℕ) → k ≡ refusalOf alone → (k ≡ 0 → ⊥) → k ≡ refusalOf chain
-no-before {rest = rest} n k e ne = sym (ap refusalOf (n .is ∙ ap (λ (m : ℕ). numbered m rest) (sym e) ∙ no-first k rest ne))
 
 -- its number is 0 only where each question is answered yes
 pub number-yes : {A : Type 0} (b : Bool) (k : ℕ) (rest : Answer A) → refusalOf (ask b (suc k) rest) ≡ 0 → (b ≡ true) × (refusalOf rest ≡ 0)
@@ -78,3 +71,73 @@ module _ {A : Type 0} {chain : Answer A} (rest : Answer A) (k : ℕ) {n : ℕ} (
 
   pub chain-yes : n ≡ 0 → chain ≡ rest
   chain-yes h = is ∙ ap (λ (m : ℕ). numbered m rest) (sym e) ∙ yes-all n rest h
+
+-- ---- A CHAIN AS A LIST: its tests, each with the number of a no. A chain of `ask` is one by computation.
+
+abbrev pub Questions : Type 0
+Questions = List (Bool × ℕ)
+
+abbrev pub askAll : {A : Type 0} (questions : Questions) (rest : Answer A) → Answer A
+askAll [] rest = rest
+askAll (q ∷ qs) rest = ask (q .0) (q .1) (askAll qs rest)
+
+-- the number of the first that is answered no, 0 where none is
+abbrev pub firstNo : (questions : Questions) → ℕ
+firstNo qs = refusalOf (askAll {A = Unit {0}} qs (accepted tt))
+
+abbrev pub AllYes : (questions : Questions) → Type 0
+AllYes [] = Unit {0}
+AllYes (q ∷ qs) = (q .0 ≡ true) × AllYes qs
+
+-- no question has the number 0
+abbrev pub counted : (questions : Questions) → Bool
+counted [] = true
+counted ((b, zero) ∷ qs) = false
+counted ((b, suc k) ∷ qs) = counted qs
+
+-- before any answer it is the refusal of its first no, or that answer
+pub all-numbered : {A : Type 0} (qs : Questions) → T (counted qs) → (rest : Answer A) → askAll qs rest ≡ numbered (firstNo qs) rest
+all-numbered [] t rest = refl
+all-numbered ((b, zero) ∷ qs) t rest = absurd t
+all-numbered ((true, suc k) ∷ qs) t rest = all-numbered qs t rest
+all-numbered ((false, suc k) ∷ qs) t rest = rw (ne-eqb (suc k) 0 (λ z. omega arith))
+
+-- 0 means all yes
+pub all-yes : (qs : Questions) → T (counted qs) → firstNo qs ≡ 0 → AllYes qs
+all-yes [] t z = tt
+all-yes ((b, zero) ∷ qs) t z = absurd t
+all-yes ((true, suc k) ∷ qs) t z = (refl, all-yes qs t z)
+all-yes ((false, suc k) ∷ qs) t z = absurd (omega arith)
+
+-- of one chain after another
+pub yes-parts : (qs rs : Questions) → AllYes (qs ++ rs) → AllYes qs × AllYes rs
+yes-parts [] rs y = (tt, y)
+yes-parts (q ∷ qs) rs y = let p = yes-parts qs rs (y .1) in ((y .0, p .0), p .1)
+
+-- before what comes after it, by the number that a function gave
+module _ {A : Type 0} (qs : Questions) (t : T (counted qs)) (rest : Answer A) (k : ℕ) (e : k ≡ firstNo qs) where
+  pub is-refused : (k ≡ 0 → ⊥) → refused k ≡ askAll qs rest
+  is-refused ne = sym (chain-no rest (firstNo qs) (all-numbered qs t rest) e ne)
+
+  pub has-passed : k ≡ 0 → rest ≡ askAll qs rest
+  has-passed z = sym (chain-yes rest (firstNo qs) (all-numbered qs t rest) e z)
+
+-- ---- A function that returns at the first no, for `search`: each question before it was answered yes.
+
+module _ {A : Type 0} (b : Bool) (k : ℕ) (rest : Answer A) where
+  pub no-here : b ≡ false → refused k ≡ ask b k rest
+  no-here e = rw e
+
+  pub yes-then : b ≡ true → (a : Answer A) → a ≡ rest → a ≡ ask b k rest
+  yes-then e a f = rw e f
+
+  -- the same of its number
+  pub number-here : b ≡ false → k ≡ refusalOf (ask b k rest)
+  number-here e = rw e
+
+  pub number-then : b ≡ true → (n : ℕ) → n ≡ refusalOf rest → n ≡ refusalOf (ask b k rest)
+  number-then e n f = rw e f
+
+pub ruleset by-answer = (no-here, yes-then, tests)
+
+pub ruleset by-number = (number-here, number-then, tests)

@@ -1,10 +1,10 @@
 -- Tests that are computed, and facts from them.
-use mathlib.Core.Path.{_≡_, refl, sym}
+use mathlib.Core.Path.{_≡_, refl, sym, _∙_}
 use mathlib.Core.Bool.{Bool, true, false, not, _&&_}
-use Prim.Native.Nat.{ℕ, _≤_}
+use Prim.Native.Nat.{ℕ, _*_, _<_, _≤_}
 use native.Mathlib.Omega.{arith}
-use lib.Dec.{T, ltb, leb}
-use borrow.Author.Tests.{leb-true}
+use lib.Dec.{T, eqb, ltb, leb}
+use borrow.Author.Tests.{leb-true, lt-ltb, le-ltb, eq-eqb, ne-eqb, not-true, not-false}
 use Rattle.base.specs.Choice.{pick, isUpTo}
 
 abbrev pub both : Bool → Bool → Bool
@@ -48,3 +48,46 @@ and-of {x = x} {y = y} e e′ = rw (e, e′) (and-is x y)
 pub up-to : (most n : ℕ) → isUpTo most n ≡ true → n ≤ most
 unfolding isUpTo
 up-to most n e = leb-true n most (both-true (ltb 0 n) (leb n most) e .1)
+
+-- ---- A test as the code answers it, for `search`: by what a function told of it,
+module _ {b : Bool} (t : Bool) (e : t ≡ b) where
+  pub told-no : not t ≡ true → b ≡ false
+  told-no n = sym e ∙ not-true t n
+
+  pub told-yes : not t ≡ false → b ≡ true
+  told-yes n = sym e ∙ not-false t n
+
+-- by the bound that one gave,
+module _ {m : ℕ} (n : ℕ) (e : n ≡ m) (s : ℕ) where
+  pub not-below : n ≤ s → ltb s m ≡ false
+  not-below h = rw (← e) (le-ltb s n h)
+
+  pub is-below : s < n → ltb s m ≡ true
+  is-below h = rw (← e) (lt-ltb s n h)
+
+-- a number of times,
+module _ (f m n : ℕ) (e : n ≡ m) (s : ℕ) where
+  pub not-below-times : f * n ≤ s → ltb s (f * m) ≡ false
+  not-below-times h = rw (← e) (le-ltb s (f * n) h)
+
+  pub is-below-times : s < f * n → ltb s (f * m) ≡ true
+  is-below-times h = rw (← e) (lt-ltb s (f * n) h)
+
+  pub differs-times : (s ≡ f * n → ⊥) → eqb s (f * m) ≡ false
+  differs-times h = rw (← e) (ne-eqb s (f * n) h)
+
+  pub equals-times : s ≡ f * n → eqb s (f * m) ≡ true
+  equals-times h = rw (← e) (eq-eqb s (f * n) h)
+
+-- and two in one
+module _ (a b : Bool) where
+  pub first-no : a ≡ false → pick a b false ≡ false
+  first-no e = rw e
+
+  pub second-no : a ≡ true → b ≡ false → pick a b false ≡ false
+  second-no e f = rw (e, f)
+
+  pub two-yes : a ≡ true → b ≡ true → pick a b false ≡ true
+  two-yes e f = rw (e, f)
+
+pub ruleset tests = (told-no, told-yes, not-below, is-below, not-below-times, is-below-times, differs-times, equals-times, lt-ltb, le-ltb, eq-eqb, ne-eqb, first-no, second-no, two-yes)

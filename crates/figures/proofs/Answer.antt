@@ -4,13 +4,15 @@ use mathlib.Core.Bool.{Bool, false}
 use mathlib.Core.List.{List}
 use Prim.Native.Nat.{ℕ, _*_, _<_}
 use lib.ListN.{getD}
+use borrow.Author.Tests.{lt-ltb}
 use Rattle.base.specs.Answer.{Answer, accepted, refused}
 use Rattle.base.specs.Tabulate.{tabulate}
 use Rattle.base.proofs.Tabulate.{getD-tabulate}
+use Rattle.map.specs.Mode.{width, cells, subchannels}
+use Rattle.map.specs.Question.{isCell, isSubchannel}
 use Rattle.map.proofs.Accept.{size-passes, width-is}
 use Rattle.collision.specs.declared.Collisions.{Collisions}
 use Rattle.collision.specs.Collision.{countOf, ofuscHit, amcHit, answerOf, ofuscOf, amcOf}
-use Rattle.collision.proofs.Outcome.{ofusc-done, amc-done}
 use Rattle.figures.specs.Word.{Pair}
 
 -- optional FUSC
@@ -19,9 +21,9 @@ module _ {n a s b t : ℕ} (p : Pair n a s b t) where
   hit = ofuscHit (64 * n) a s b t
 
   ofusc-answer : answerOf (accepted hit) ≡ ofuscOf (64 * n) a s b t
+  unfolding ofuscOf isCell isSubchannel cells subchannels width
   ofusc-answer =
-      rw (width-is n) at
-      (ofusc-done (64 * n) a s b t (size-passes (p .width)) (rw (width-is n) (p .first .cell-lt)) (rw (width-is n) (p .second .cell-lt)) (rw (width-is n) (p .first .subchannel-lt)) (rw (width-is n) (p .second .subchannel-lt)))
+      rw (size-passes (p .width), width-is n, lt-ltb a (n * n) (p .first .cell-lt), lt-ltb b (n * n) (p .second .cell-lt), lt-ltb s n (p .first .subchannel-lt), lt-ltb t n (p .second .subchannel-lt))
 
   pub ofusc-hits : ofuscOf (64 * n) a s b t .hits ≡ tabulate 48 hit
   unfolding answerOf
@@ -36,16 +38,20 @@ module _ {n a s b t : ℕ} (p : Pair n a s b t) where
 
 -- AMC
 module _ (a b : ℕ) (ha : a < 2352) (hb : b < 2352) where
+  amc-answer : answerOf (accepted (amcHit a b)) ≡ amcOf a b
+  unfolding amcOf isCell cells
+  amc-answer = rw (lt-ltb a 2352 ha, lt-ltb b 2352 hb)
+
   amc-hits : amcOf a b .hits ≡ tabulate 48 (amcHit a b)
   unfolding answerOf
-  amc-hits = sym (ap (λ (r : Collisions). r .hits) (amc-done a b ha hb))
+  amc-hits = sym (ap (λ (r : Collisions). r .hits) amc-answer)
 
   pub amc-mark : (j : ℕ) → j < 48 → getD (amcOf a b .hits) j false ≡ amcHit a b j
   amc-mark j h = ap (λ (hits : List Bool). getD hits j false) amc-hits ∙ getD-tabulate 48 (amcHit a b) j false h
 
   pub amc-count : amcOf a b .count ≡ countOf (tabulate 48 (amcHit a b))
   unfolding answerOf
-  amc-count = sym (ap (λ (r : Collisions). r .count) (amc-done a b ha hb))
+  amc-count = sym (ap (λ (r : Collisions). r .count) amc-answer)
 
 -- the count is the number of marks set, in every answer
 counted : (x : Answer (ℕ → Bool)) → answerOf x .count ≡ countOf (answerOf x .hits)

@@ -1,6 +1,6 @@
 -- THE LAW OF THE GRID: it rests on the laws of the map and of the mask, and on no mode's text.
 use mathlib.Core.Path.{_≡_, refl, sym, ap, _∙_, subst}
-use mathlib.Core.Bool.{true, false, not}
+use mathlib.Core.Bool.{true, false}
 use mathlib.Core.List.{List, [], _∷_}
 use Prim.Native.Nat.{ℕ, _+_, _*_, _/_, _%_, _<_}
 use native.Mathlib.Nat.{mod-lt, div-add-mod', div-lt-iff-lt-mul}
@@ -30,9 +30,8 @@ use Rattle.points.specs.declared.Point.{Point}
 use Rattle.points.specs.Points.{zeroPoint, pointAt, floatsOf}
 use Rattle.points.proofs.Points.{point-floats, by-points}
 use Rattle.lengths.specs.Length.{gridPoints, litPointsLength, gridLength}
-use Rattle.lengths.specs.Model.{gridRefusal}
 use Rattle.lengths.proofs.Length.{lengths-listed, all-lit-length}
-use Rattle.lengths.proofs.Refusal.{MaskAccepted, GroundAccepted, LayAccepted, LookAccepted, ground-numbered, ground-last, lay-numbered, lay-unlit, lay-last, empty-numbered, empty-last, look-0, grid-0}
+use Rattle.lengths.proofs.Refusal.{MaskAccepted, GroundAccepted, LayAccepted, LookAccepted, ground-numbered, ground-0, lay-numbered, lay-unlit, lay-0, empty-numbered, empty-0, look-0}
 use Rattle.grid.specs.Row.{columnPosition, usedPosition, rowOf, columnOf}
 use Rattle.grid.specs.Grid.{Leaves, contentAt, pointNumber, standsAt, PlacedIn}
 use Rattle.ground.specs.Ground.{bare, groundOf}
@@ -243,7 +242,7 @@ module _ (setup : Setup) (mask : ℕ) (m : MaskAccepted setup mask) (slot : ℕ)
   unfolding emptyOf emptied
   again before l =
       sym (accepted-anew _ _ _ (empty-numbered setup mask slot (length before) (length grid) _) before
-      (sym (empty-last setup mask slot (length before) (length grid) m hs (litSubchannels setup mask) refl (l ∙ points-long) 0 (grid-0 setup (length grid) (gridPoints setup) refl long)))
+      (sym (empty-0 setup mask slot (length before) (length grid) (record { fits = record { lit = m; slot-lt = hs; grid-long = long }; points-long = l ∙ points-long })))
       points (by-points points (48 * litSubchannels setup mask) _ (points-long ∙ omega arith) back))
 
   -- what is seen on a carrier where w is shown
@@ -402,8 +401,8 @@ passed {setup} e k = record { valid = setup-asked setup _ e .0; mask-is = k }
 told-long : {setup : Setup} {mask : ℕ} → MaskAccepted setup mask → (grid : ℕ) → grid ≡ gridLength (setup .mode) (setup .size) → grid ≡ 2 * gridPoints setup
 told-long m grid g = g ∙ sym (lengths-listed m .1)
 
-told : {setup : Setup} {mask : ℕ} → MaskAccepted setup mask → (grid : ℕ) → grid ≡ gridLength (setup .mode) (setup .size) → 0 ≡ gridRefusal setup grid
-told {setup} m grid g = grid-0 setup grid (gridPoints setup) refl (told-long m grid g)
+told : {setup : Setup} {mask slot : ℕ} → MaskAccepted setup mask → slot < 512 → (grid : ℕ) → grid ≡ gridLength (setup .mode) (setup .size) → GroundAccepted setup mask slot grid
+told m h grid g = record { lit = m; slot-lt = h; grid-long = told-long m grid g }
 
 pub grid-law : GridLaw
 unfolding groundOf layOf emptyOf sight
@@ -419,7 +418,7 @@ grid-law =
       ground-every-cell = λ mode size cell other slot p old a b. every-cell mode size cell other slot p old (setup-asked _ _ a .0) (setup-asked _ _ b .0);
       unlit-meets-5 = λ setup mask slot s points grid e k h l dark.
           sym (refused-leaves _ _ _ (lay-numbered setup mask slot s (length points) (length grid) _) grid 5
-          (lay-unlit setup mask slot s (length points) (length grid) (passed e k) h (subchannels setup) refl l _ refl (ap not dark)) (λ z. omega arith));
+          (lay-unlit setup mask slot s (length points) (length grid) (passed e k) h l dark) (λ z. omega arith));
       unlit-is-nothing = λ setup mask symbol used grid e k hy h dark g.
           let m = passed e k in
           dark-on-grid m (symbol / symbols setup) (div-lt-iff-lt-mul (few (m .valid) .symbols-pos) .1 hy) symbol used refl h dark .looked grid (told-long m (length grid) g) _ refl;
@@ -431,17 +430,15 @@ grid-law =
       ground-keeps-length = λ setup mask slot p old ground e. ground-long setup mask slot p old ground e ∙ sym (ground-fits setup mask slot p old ground e .grid-long);
       lay-keeps-length = λ setup mask slot s points grid next e. lay-long setup mask slot s points grid next e ∙ sym (lay-fits setup mask slot s points grid next e .fits .grid-long);
       ground-accepts = λ setup mask slot p old e k h g.
-          let m = passed e k in
           accepted-number _ _ _ (ground-numbered setup mask slot (length old) _) _
-          (sym (ground-last setup mask slot (length old) m h 0 (told m (length old) g)));
+          (sym (ground-0 setup mask slot (length old) (told (passed e k) h (length old) g)));
       lay-accepts = λ setup mask slot s points grid e k h hs lit q g.
-          let m = passed e k in
           accepted-number _ _ _ (lay-numbered setup mask slot s (length points) (length grid) _) _
-          (sym (lay-last setup mask slot s (length points) (length grid) m h (subchannels setup) refl hs _ refl (ap not lit) q 0 (told m (length grid) g)));
+          (sym (lay-0 setup mask slot s (length points) (length grid) (record { fits = told (passed e k) h (length grid) g; subchannel-lt = hs; subchannel-lit = lit; points-long = q })));
       empty-accepts = λ setup mask slot grid old e k h l g.
           let m = passed e k in
           accepted-number _ _ _ (empty-numbered setup mask slot (length old) (length grid) _) _
-          (sym (empty-last setup mask slot (length old) (length grid) m h (litSubchannels setup mask) refl (l ∙ sym (lengths-listed m .0)) 0 (told m (length grid) g)));
+          (sym (empty-0 setup mask slot (length old) (length grid) (record { fits = told m h (length grid) g; points-long = l ∙ sym (lengths-listed m .0) })));
       all-lit-filled = all-filled;
       all-lit-length = all-lit-length;
     }

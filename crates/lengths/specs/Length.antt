@@ -3,7 +3,7 @@ use Prim.Native.Nat.{ℕ, _*_}
 use Rattle.base.specs.Choice.{pick}
 use Rattle.map.specs.declared.Setup.{Setup}
 use Rattle.map.specs.Mode.{subchannels, symbols, setupWith}
-use Rattle.map.specs.Question.{isMode, isSize}
+use Rattle.map.specs.Question.{isListed, isSizeOf}
 use Rattle.mask.specs.Mask.{isMask, litSubchannels}
 
 -- the points of a slot's grid
@@ -11,19 +11,19 @@ unfoldable pub gridPoints : (setup : Setup) → ℕ
 gridPoints setup = symbols setup * setup .size
 
 -- a length where questions 1 and 2 are answered yes; 0 for a mode and size that the map does not have
-abbrev pub whereListed : (setup : Setup) (length : ℕ) → ℕ
-whereListed setup length = pick (isMode setup) (pick (isSize setup) length 0) 0
+abbrev pub whereListed : (mode size length : ℕ) → ℕ
+whereListed mode size length = pick (isListed mode) (pick (isSizeOf mode size) length 0) 0
 
 -- As document 01's question 8 has it: 96 floats for each subchannel. The cell plays no part in a length, so it is 0 here.
 unfoldable pub pointsLength : (mode size : ℕ) → ℕ
-pointsLength mode size = let setup = setupWith mode size 0 in whereListed setup (96 * subchannels setup)
+pointsLength mode size = let setup = setupWith mode size 0 in whereListed mode size (96 * subchannels setup)
 
 -- Document 02, wish 5: only the lit subchannels count; 0 also for a mask that question 17 does not let pass.
 unfoldable pub litPointsLength : (mode size mask : ℕ) → ℕ
 litPointsLength mode size mask =
     let setup = setupWith mode size 0 in
-    whereListed setup (pick (isMask mode mask) (96 * litSubchannels setup mask) 0)
+    whereListed mode size (pick (isMask mode mask) (96 * litSubchannels setup mask) 0)
 
 -- As question 9 has it: 2·size floats for each symbol of a slot.
 unfoldable pub gridLength : (mode size : ℕ) → ℕ
-gridLength mode size = let setup = setupWith mode size 0 in whereListed setup (2 * gridPoints setup)
+gridLength mode size = let setup = setupWith mode size 0 in whereListed mode size (2 * gridPoints setup)

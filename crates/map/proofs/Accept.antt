@@ -1,18 +1,20 @@
 -- Questions 1, 2 and 3 let pass just the valid setups; and what 4 and 5 come to.
 use mathlib.Core.Path.{_≡_, refl, ap, subst⁻¹, _∙_}
 use mathlib.Core.Bool.{true, false}
+use mathlib.Core.List.{[], _∷_}
 use Prim.Native.Nat.{ℕ, zero, suc, _*_, _/_, _<_, _≤_}
+use native.Mathlib.Nat.{mul-pos}
 use native.Mathlib.Omega.{arith}
-use lib.Dec.{eqb, ltb}
+use lib.Dec.{eqb, ltb, lit<}
 use borrow.Author.Tests.{ltb-true, eqb-true, ne-eqb, lt-ltb, le-ltb}
-use Rattle.base.specs.Answer.{Answer, refused, ask}
+use Rattle.base.specs.Answer.{Answer, accepted, refused, ask, refusalOf}
 use Rattle.base.proofs.Test.{cases}
-use Rattle.base.proofs.Chain.{numbered, no-first, no-question, question, number-yes}
+use Rattle.base.proofs.Chain.{numbered, Questions, AllYes, all-numbered, all-yes}
 use Rattle.ofusc.specs.Width.{Width, n4, n8, n16, n32}
-use Rattle.ofusc.proofs.Sequence.{size}
+use Rattle.ofusc.proofs.Sequence.{size, pos}
 use Rattle.map.specs.declared.Setup.{Setup}
 use Rattle.map.specs.Mode.{width, cells, subchannels, setupWith}
-use Rattle.map.specs.Question.{isMode, isFourSizes, isSize, isCell, isSlot, isSubchannel, askSetup}
+use Rattle.map.specs.Question.{isListed, isMode, isFourSizes, isSizeOf, isSize, isCell, isSlot, isSubchannel, askSetup}
 use Rattle.map.specs.Model.{setupRefusal, IsAmc, Valid, pusc-dl, pusc-ul, ofusc, amc}
 use Rattle.map.proofs.Choice.{amc-tests, mode-amc}
 
@@ -65,6 +67,20 @@ pub valid : (c : Setup) → isMode c ≡ true → isSize c ≡ true → isCell c
 unfolding isMode
 valid c e₁ e₂ e₃ = valid-at (c .size) (c .cell) (listed (c .mode) (ltb-true (c .mode) 7 e₁)) e₂ e₃
 
+-- cell 0 is a cell of every listed mode and size
+pub some-cell : (m z : ℕ) → isListed m ≡ true → isSizeOf m z ≡ true → 0 < cells (setupWith m z 0)
+unfolding cells width
+some-cell m z e = at (listed m (ltb-true m 7 e))
+  where
+    spread : {z : ℕ} → Sized z → 0 < z / 64 * (z / 64)
+    spread (sized {n = n} w) = rw (width-is n) (mul-pos (pos w) (pos w))
+
+    at : {m : ℕ} → Listed m → isSizeOf m z ≡ true → 0 < cells (setupWith m z 0)
+    at m0 s = lit< tt
+    at m1 s = lit< tt
+    at m2 s = spread (four-sizes z s)
+    at (m-amc q) s = let t = amc-tests q in rw (t .not-0, t .not-1, t .not-2, t .listed) (lit< tt)
+
 -- and a valid setup passes
 pub size-passes : {n : ℕ} → Width n → isFourSizes (64 * n) ≡ true
 unfolding isFourSizes
@@ -83,53 +99,31 @@ passes (amc {mode = m} q w h) =
     rw (t .not-0, t .not-1, t .not-2, t .listed, le-ltb m 2 (omega arith), size-passes w, lt-ltb _ _ h)
 
 -- what the first three questions come to: a number, or a valid setup
+abbrev pub setupQuestions : (c : Setup) → Questions
+setupQuestions c = (isMode c, 1) ∷ (isSize c, 2) ∷ (isCell c, 3) ∷ []
+
 pub setup-numbered : {A : Type 0} (c : Setup) (rest : Answer A) → askSetup c rest ≡ numbered (setupRefusal c) rest
 unfolding setupRefusal
-setup-numbered c rest = question (isMode c) 0 (question (isSize c) 1 (question (isCell c) 2 no-question)) .is
+setup-numbered c = all-numbered (setupQuestions c) tt
 
-pub refused-number : {A : Type 0} (c : Setup) (rest : Answer A) → (setupRefusal c ≡ 0 → ⊥) → askSetup c rest ≡ refused (setupRefusal c)
-refused-number c rest ne = setup-numbered c rest ∙ no-first (setupRefusal c) rest ne
-
-pub number-valid : (c : Setup) → setupRefusal c ≡ 0 → Valid c
-unfolding setupRefusal
-number-valid c e =
-    let q₁ = number-yes (isMode c) 0 _ e in
-    let q₂ = number-yes (isSize c) 1 _ (q₁ .1) in
-    valid c (q₁ .0) (q₂ .0) (number-yes (isCell c) 2 _ (q₂ .1) .0)
+pub setup-yes : {c : Setup} → Valid c → AllYes (setupQuestions c)
+setup-yes {c} v = all-yes (setupQuestions c) tt (ap refusalOf (passes {rest = accepted tt} v))
 
 pub four-rest : (size : ℕ) → (size ≡ 256 → ⊥) → (size ≡ 512 → ⊥) → (size ≡ 1024 → ⊥) → eqb size 2048 ≡ isFourSizes size
 unfolding isFourSizes
 four-rest size a b d = rw (ne-eqb size 256 a, ne-eqb size 512 b, ne-eqb size 1024 d)
 
--- the number, question by question
-module _ (c : Setup) where
-  pub number-1 : 7 ≤ c .mode → 1 ≡ setupRefusal c
-  unfolding setupRefusal isMode
-  number-1 h = rw (le-ltb (c .mode) 7 h)
-
-  pub number-2 : c .mode < 7 → isSize c ≡ false → 2 ≡ setupRefusal c
-  unfolding setupRefusal isMode
-  number-2 h e = rw (lt-ltb (c .mode) 7 h, e)
-
-  pub number-3 : c .mode < 7 → isSize c ≡ true → cells c ≤ c .cell → 3 ≡ setupRefusal c
-  unfolding setupRefusal isMode isCell
-  number-3 h e l = rw (lt-ltb (c .mode) 7 h, e, le-ltb (c .cell) (cells c) l)
-
-  pub number-0 : c .mode < 7 → isSize c ≡ true → c .cell < cells c → 0 ≡ setupRefusal c
-  unfolding setupRefusal isMode isCell
-  number-0 h e l = rw (lt-ltb (c .mode) 7 h, e, lt-ltb (c .cell) (cells c) l)
-
-  pub size-most : isSize c ≡ true → c .size ≤ 2048
-  unfolding isSize
-  size-most h =
-      cases (ltb (c .mode) 2)
-      (λ e. omega (arith, eqb-true (c .size) 2048 (rw e at h)))
-      (λ e. cases (ltb (c .mode) 7)
-      (λ f. most (four-sizes (c .size) (rw (e, f) at h)))
-      (λ f. absurd (let z : false ≡ true = rw (e, f) at h in let w : _≡_ {A = ℕ} 0 1 = cc in omega arith)))
-    where
-      most : {z : ℕ} → Sized z → z ≤ 2048
-      most (sized w) = omega (arith, size w .most)
+pub size-most : (c : Setup) → isSize c ≡ true → c .size ≤ 2048
+unfolding isSize
+size-most c h =
+    cases (ltb (c .mode) 2)
+    (λ e. omega (arith, eqb-true (c .size) 2048 (rw e at h)))
+    (λ e. cases (ltb (c .mode) 7)
+    (λ f. most (four-sizes (c .size) (rw (e, f) at h)))
+    (λ f. absurd (let z : false ≡ true = rw (e, f) at h in let w : _≡_ {A = ℕ} 0 1 = cc in omega arith)))
+  where
+    most : {z : ℕ} → Sized z → z ≤ 2048
+    most (sized w) = omega (arith, size w .most)
 
 -- 4 and 5, before whatever follows them
 module _ {A : Type 0} (rest : Answer A) where

@@ -1,5 +1,5 @@
 -- What placing and locating come to at each of their returns.
-use mathlib.Core.Path.{_≡_, sym, ap, _∙_, subst}
+use mathlib.Core.Path.{_≡_, refl, sym, ap, _∙_, subst}
 use mathlib.Core.Bool.{Bool, true, false, not}
 use Prim.Native.Nat.{ℕ, _*_, _/_, _<_, _≤_}
 use native.Mathlib.Omega.{arith}
@@ -7,8 +7,10 @@ use lib.IntN.{ℤ}
 use mir.Syntax.{w32}
 use mir.Val.{SFits, toZ, ofZ}
 use mir.ValLaws.{toZ-ofZ}
-use borrow.Author.Tests.{lt-ltb, le-ltb, not-true, not-false}
-use Rattle.base.specs.Answer.{Answer, accepted, refused}
+use borrow.Author.Tests.{not-false}
+use Rattle.base.specs.Answer.{Answer, accepted, refused, refusalOf}
+use Rattle.base.proofs.Test.{told-no, told-yes}
+use Rattle.base.proofs.Chain.{all-yes, is-refused, has-passed}
 use Rattle.carriers.specs.declared.Address.{Address}
 use Rattle.carriers.specs.declared.Band.{Band}
 use Rattle.carriers.specs.Band.{carrierOf, usedOf, isGuard, isDc}
@@ -17,37 +19,36 @@ use Rattle.carriers.proofs.Guards.{carrier-lt, used-left, used-lt}
 use Rattle.centre.specs.Centre.{inRange, onRow}
 use Rattle.map.specs.declared.Setup.{Setup}
 use Rattle.map.specs.Mode.{subchannels, symbols, band, isPilot, spotOf, addressOf}
-use Rattle.map.specs.Question.{askSetup, isSlot, isSymbol, isSubchannel, isIndex, isCarrier}
+use Rattle.map.specs.Question.{askSetup, isCarrier}
 use Rattle.map.specs.Model.{setupRefusal, Valid}
 use Rattle.map.specs.Place.{Place, Content, guard, dc, pilot, point, placeAt, placeOf, dataAt, contentOf, locateOf}
-use Rattle.map.proofs.Accept.{refused-number, number-valid, passes}
+use Rattle.map.proofs.Accept.{valid, setupQuestions}
 use Rattle.map.proofs.ByMode.{few}
 use Rattle.map.proofs.Slot.{slot-law, band-law, centred}
 use Rattle.map.proofs.Law.{place-accepts, locate-accepts}
 
 pub now-valid : (c : Setup) (k : ℕ) → k ≡ setupRefusal c → k ≡ 0 → Valid c
-now-valid c k e z = number-valid c (sym e ∙ z)
+unfolding setupRefusal
+now-valid c k e z = let y = all-yes (setupQuestions c) tt (sym e ∙ z) in valid c (y .0) (y .1 .0) (y .1 .1 .0)
 
-pub refuses : {A : Type 0} (c : Setup) (k : ℕ) (rest : Answer A) → k ≡ setupRefusal c → (k ≡ 0 → ⊥) → refused k ≡ askSetup c rest
-refuses c k rest e ne = ap refused e ∙ sym (refused-number c rest (λ z. ne (e ∙ z)))
+-- questions 1, 2 and 3 before what comes after them, by the number that a function gave
+module _ {A : Type 0} (c : Setup) (rest : Answer A) (k : ℕ) (e : k ≡ setupRefusal c) where
+  pub refuses : (k ≡ 0 → ⊥) → refused k ≡ askSetup c rest
+  unfolding setupRefusal
+  refuses = is-refused (setupQuestions c) tt rest k e
+
+  pub lets-pass : k ≡ 0 → (a : Answer A) → a ≡ rest → a ≡ askSetup c rest
+  unfolding setupRefusal
+  lets-pass z a f = f ∙ has-passed (setupQuestions c) tt rest k e z
+
+  -- the same of its number
+  pub setup-no : (k ≡ 0 → ⊥) → k ≡ refusalOf (askSetup c rest)
+  setup-no ne = ap refusalOf (refuses ne)
+
+  pub setup-then : k ≡ 0 → (n : ℕ) → n ≡ refusalOf rest → n ≡ refusalOf (askSetup c rest)
+  setup-then z n f = f ∙ ap refusalOf (lets-pass z rest refl)
 
 module _ (c : Setup) (slot s m : ℕ) where
-  pub place-setup : (k : ℕ) → k ≡ setupRefusal c → (k ≡ 0 → ⊥) → refused k ≡ placeOf c slot s m
-  unfolding placeOf
-  place-setup k e ne = refuses c k _ e ne
-
-  pub place-4 : Valid c → 512 ≤ slot → refused 4 ≡ placeOf c slot s m
-  unfolding placeOf isSlot
-  place-4 v h = rw (le-ltb slot 512 h) (sym (passes v))
-
-  pub place-5 : Valid c → slot < 512 → (n : ℕ) → n ≡ subchannels c → n ≤ s → refused 5 ≡ placeOf c slot s m
-  unfolding placeOf isSlot isSubchannel
-  place-5 v h n e l = rw (lt-ltb slot 512 h, le-ltb s (subchannels c) (subst (λ (x : ℕ). x ≤ s) e l)) (sym (passes v))
-
-  pub place-6 : Valid c → slot < 512 → (n : ℕ) → n ≡ subchannels c → s < n → 48 ≤ m → refused 6 ≡ placeOf c slot s m
-  unfolding placeOf isSlot isSubchannel isIndex
-  place-6 v h n e l g = rw (lt-ltb slot 512 h, lt-ltb s (subchannels c) (subst (λ (x : ℕ). s < x) e l), le-ltb m 48 g) (sym (passes v))
-
   -- what the inner functions ask there, and what they give
   module _ (k : ℕ) (e : k ≡ setupRefusal c) (z : k ≡ 0) (n : ℕ) (q : n ≡ subchannels c) (hs : s < n) (hm : m < 48) where
     pub subchannel-in : s < subchannels c
@@ -63,37 +64,30 @@ size-few v = omega (arith, few v)
 pub column-below : {c : Setup} → Valid c → (b : Band) → b ≡ band c → (u : ℕ) → u < band c .used → (column : ℕ) → column ≡ carrierOf b u → column < c .size
 column-below {c} v b e u h column f = rw (f, e) (carrier-lt (band c) (c .size) (band-law v) u h)
 
-module _ (c : Setup) (y : ℕ) (k : ℤ) where
-  pub locate-setup : (r : ℕ) → r ≡ setupRefusal c → (r ≡ 0 → ⊥) → refused r ≡ locateOf c y k
-  unfolding locateOf
-  locate-setup r e ne = refuses c r _ e ne
+-- the range is asked of what the machine reads, which is the carrier
+module _ (c : Setup) (k : ℤ) (fits : SFits w32 k) (t : Bool) (g : t ≡ inRange (c .size) (toZ w32 (ofZ w32 k))) where
+  asked : t ≡ isCarrier c k
+  unfolding isCarrier
+  asked = g ∙ ap (inRange (c .size)) (toZ-ofZ w32 k fits)
 
-  pub locate-4 : Valid c → (n : ℕ) → n ≡ symbols c → 512 * n ≤ y → refused 4 ≡ locateOf c y k
-  unfolding locateOf isSymbol
-  locate-4 v n e l = rw (le-ltb y (512 * symbols c) (subst (λ (x : ℕ). 512 * x ≤ y) e l)) (sym (passes v))
+  pub carrier-no : not t ≡ true → isCarrier c k ≡ false
+  carrier-no = told-no t asked
 
-  -- the range is asked of what the machine reads, which is the carrier
-  module _ (fits : SFits w32 k) (t : Bool) (g : t ≡ inRange (c .size) (toZ w32 (ofZ w32 k))) where
-    asked : t ≡ isCarrier c k
-    unfolding isCarrier
-    asked = g ∙ ap (inRange (c .size)) (toZ-ofZ w32 k fits)
+  module _ (yes′ : not t ≡ false) where
+    pub carrier-yes : isCarrier c k ≡ true
+    carrier-yes = told-yes t asked yes′
 
-    pub locate-7 : Valid c → (n : ℕ) → n ≡ symbols c → y < 512 * n → not t ≡ true → refused 7 ≡ locateOf c y k
-    unfolding locateOf isSymbol
-    locate-7 v n e l no′ = rw (lt-ltb y (512 * symbols c) (subst (λ (x : ℕ). y < 512 * x) e l), sym asked ∙ not-true _ no′) (sym (passes v))
+    pub carrier-in : inRange (c .size) (toZ w32 (ofZ w32 k)) ≡ true
+    carrier-in = sym g ∙ not-false _ yes′
 
-    module _ (yes′ : not t ≡ false) where
-      pub carrier-in : inRange (c .size) (toZ w32 (ofZ w32 k)) ≡ true
-      carrier-in = sym g ∙ not-false _ yes′
+    module _ (column : ℕ) (f : column ≡ onRow (c .size) (toZ w32 (ofZ w32 k))) where
+      pub column-in : Valid c → column < c .size
+      column-in v = rw f (centred v .0 .column-lt _ carrier-in)
 
-      module _ (column : ℕ) (f : column ≡ onRow (c .size) (toZ w32 (ofZ w32 k))) where
-        pub column-in : Valid c → column < c .size
-        column-in v = rw f (centred v .0 .column-lt _ carrier-in)
-
-        pub locate-done : Valid c → (n : ℕ) → n ≡ symbols c → y < 512 * n → (a : Answer Content) → a ≡ accepted (contentOf c y column) → a ≡ locateOf c y k
-        locate-done v n e l a h =
-            h ∙ ap (λ (x : ℕ). accepted (contentOf c y x)) (f ∙ ap (onRow (c .size)) (toZ-ofZ w32 k fits))
-            ∙ sym (locate-accepts c y k v (subst (λ (x : ℕ). y < 512 * x) e l) (sym asked ∙ not-false _ yes′))
+      pub locate-done : (y : ℕ) → Valid c → (n : ℕ) → n ≡ symbols c → y < 512 * n → (a : Answer Content) → a ≡ accepted (contentOf c y column) → a ≡ locateOf c y k
+      locate-done y v n e l a h =
+          h ∙ ap (λ (x : ℕ). accepted (contentOf c y x)) (f ∙ ap (onRow (c .size)) (toZ-ofZ w32 k fits))
+          ∙ sym (locate-accepts c y k v (subst (λ (x : ℕ). y < 512 * x) e l) carrier-yes)
 
 -- the answers of a column of an accepted symbol's row, test by test
 module _ (c : Setup) (y k : ℕ) (b : Band) (e : b ≡ band c) where

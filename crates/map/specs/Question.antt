@@ -10,15 +10,21 @@ use Rattle.map.specs.declared.Setup.{Setup}
 use Rattle.map.specs.Mode.{cells, subchannels, symbols}
 
 -- 1 Is the mode listed? Document 01 lists 0 to 3, document 02, wish 2, adds 4 to 6.
+abbrev pub isListed : (mode : ℕ) → Bool
+isListed mode = ltb mode 7
+
 unfoldable pub isMode : (setup : Setup) → Bool
-isMode setup = ltb (setup .mode) 7
+isMode setup = isListed (setup .mode)
 
 -- 2 Is the size that mode's? Modes 0 and 1 have 2048, modes 2 to 6 the four sizes.
 unfoldable pub isFourSizes : (size : ℕ) → Bool
 isFourSizes size = pick (eqb size 256) true (pick (eqb size 512) true (pick (eqb size 1024) true (eqb size 2048)))
 
+abbrev pub isSizeOf : (mode size : ℕ) → Bool
+isSizeOf mode size = pick (ltb mode 2) (eqb size 2048) (pick (ltb mode 7) (isFourSizes size) false)
+
 unfoldable pub isSize : (setup : Setup) → Bool
-isSize setup = pick (ltb (setup .mode) 2) (eqb (setup .size) 2048) (pick (ltb (setup .mode) 7) (isFourSizes (setup .size)) false)
+isSize setup = isSizeOf (setup .mode) (setup .size)
 
 -- 3 Is the cell in range?
 unfoldable pub isCell : (setup : Setup) → Bool

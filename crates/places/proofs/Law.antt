@@ -1,6 +1,6 @@
 -- THE LAW OF THE PLACES, from the questions of a row and from where a point stands in the grid.
 use mathlib.Core.Path.{_≡_, refl, sym, ap, _∙_}
-use mathlib.Core.List.{List}
+use mathlib.Core.List.{List, [], _∷_, _++_}
 use mathlib.Core.Logic.{_⊎_, ⊎-elim}
 use Prim.Native.Nat.{ℕ, _%_, _<_}
 use lib.ListN.{length}
@@ -8,16 +8,16 @@ use lib.Ieee.{Float}
 use borrow.Author.Tests.{lt-ltb, ltb-true, eq-eqb}
 use Rattle.base.specs.Answer.{Answer, accepted, refused, refusalOf}
 use Rattle.base.specs.Steps.{entry}
-use Rattle.base.proofs.Chain.{numbered, no-question, question, number-yes, number-is}
+use Rattle.base.proofs.Chain.{Questions, all-numbered, all-yes, number-is}
 use Rattle.base.specs.Tabulate.{tabulate}
 use Rattle.base.proofs.Tabulate.{length-tabulate, getD-tabulate, tabulated, entry-of}
 use Rattle.carriers.specs.Bin.{binPilotPlace, usedOfData}
 use Rattle.map.specs.declared.Setup.{Setup}
 use Rattle.map.specs.Mode.{subchannels, symbols, spotOf}
-use Rattle.map.specs.Question.{isMode, isSize, isCell, isSlot, isSubchannel, isIndex}
+use Rattle.map.specs.Question.{isSlot, isSubchannel, isIndex}
 use Rattle.map.specs.Place.{placeAt, placeOf}
 use Rattle.map.specs.Model.{Valid}
-use Rattle.map.proofs.Accept.{valid}
+use Rattle.map.proofs.Accept.{valid, setupQuestions}
 use Rattle.map.proofs.Alike.{Alike, alike-mod-3, alike-by-threes}
 use Rattle.map.proofs.Law.{placing}
 use Rattle.points.specs.Points.{pointAt}
@@ -61,14 +61,13 @@ module _ (setup : Setup) (slot s : ℕ) where
   unfolding placesOf
   row-long = long-of (standsAt setup slot s) asked
 
-  -- the questions before an answer, as a number
-  asked-before : {A : Type 0} (rest : Answer A) → askPlaces setup slot s rest ≡ numbered (refusalOf asked) rest
-  asked-before rest = question (isMode setup) 0 (question (isSize setup) 1 (question (isCell setup) 2 (question (isSlot slot) 3 (question (isSubchannel setup s) 4 no-question)))) .is
+  abbrev questions : Questions
+  questions = setupQuestions setup ++ ((isSlot slot, 4) ∷ (isSubchannel setup s, 5) ∷ [])
 
   pub refused-alike : (index : ℕ) → index < 48 → placesOf setup slot s .refusal ≡ refusalOf (placeOf setup slot s index)
   unfolding placeOf isIndex
   refused-alike index h =
-      rw (lt-ltb index 48 h) (row-number ∙ sym (ap refusalOf (asked-before (accepted (placeAt setup slot (spotOf setup slot s index)))) ∙ number-is _ _))
+      rw (lt-ltb index 48 h) (row-number ∙ sym (ap refusalOf (all-numbered questions tt (accepted (placeAt setup slot (spotOf setup slot s index)))) ∙ number-is _ _))
 
   -- in another slot of whose symbols the pilots are at the same places
   module _ (other : ℕ) (hs : slot < 512) (ho : other < 512) where
@@ -98,13 +97,10 @@ module _ (setup : Setup) (slot s : ℕ) where
   in-grid : (index : ℕ) → placesOf setup slot s .refusal ≡ 0 → index < 48 → entry row index < gridPoints setup
   unfolding isSlot isSubchannel
   in-grid index z h =
-      let q₁ = number-yes (isMode setup) 0 _ (sym row-number ∙ z) in
-      let q₂ = number-yes (isSize setup) 1 _ (q₁ .1) in
-      let q₃ = number-yes (isCell setup) 2 _ (q₂ .1) in
-      let q₄ = number-yes (isSlot slot) 3 _ (q₃ .1) in
-      let v = valid setup (q₁ .0) (q₂ .0) (q₃ .0) in
-      let l = ltb-true s (subchannels setup) (number-yes (isSubchannel setup s) 4 _ (q₄ .1) .0) in
-      rw (at v (ltb-true slot 512 (q₄ .0)) l index h) (stands-lt setup v slot s index l h)
+      let y = all-yes questions tt (sym row-number ∙ z) in
+      let v = valid setup (y .0) (y .1 .0) (y .1 .1 .0) in
+      let l = ltb-true s (subchannels setup) (y .1 .1 .1 .1 .0) in
+      rw (at v (ltb-true slot 512 (y .1 .1 .1 .0)) l index h) (stands-lt setup v slot s index l h)
 
   is-placed : (index symbol column : ℕ) → PlacedIn setup slot s index symbol column → entry row index ≡ columnPosition setup (symbol % symbols setup) column
   is-placed index symbol column e =

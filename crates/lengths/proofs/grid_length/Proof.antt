@@ -1,5 +1,6 @@
 -- `lengths::grid_length` meets its contract.
-use mathlib.Core.Path.{refl}
+use mathlib.Core.Path.{ap}
+use Prim.Native.Nat.{ℕ, _*_}
 use borrow.Author.Needs.{needs}
 use Rattle.map.proofs.Outcome.{now-valid}
 use Rattle.lengths.specs.Length.{gridLength}
@@ -13,4 +14,4 @@ grid-length-spec =
     tie.close
     (tie.spec
     (λ c κs. search needs) (λ c. unlisted _ _ _ (c .before .refusal .ensures) _ (c .if1 .taken)) (λ c κs. search (now-valid, needs)) (λ c. search needs)
-    (λ c. listed _ _ _ (c .before .before .refusal .ensures) _ (c .before .if1 .left) _ _ _ (c .grid-points .ensures .0) refl))
+    (λ c. listed (now-valid _ _ (c .before .before .refusal .ensures) (c .before .if1 .left)) (ap (λ (n : ℕ). 2 * n) (c .grid-points .ensures .0))))

@@ -1,5 +1,6 @@
 -- `lengths::points_length` meets its contract.
-use mathlib.Core.Path.{refl}
+use mathlib.Core.Path.{ap}
+use Prim.Native.Nat.{ℕ, _*_}
 use native.Mathlib.Omega.{arith}
 use borrow.Author.Needs.{needs}
 use Rattle.map.proofs.ByMode.{few}
@@ -18,4 +19,4 @@ points-length-spec =
     tie.close
     (tie.spec
     (λ c κs. search needs) (λ c. unlisted _ _ _ (c .before .refusal .ensures) _ (c .if1 .taken)) (λ c κs. search needs) mul-result
-    (λ c. listed _ _ _ (c .before .before .refusal .ensures) _ (c .before .if1 .left) _ _ _ (c .subchannels .ensures) refl))
+    (λ c. listed (now-valid _ _ (c .before .before .refusal .ensures) (c .before .if1 .left)) (ap (λ (n : ℕ). 96 * n) (c .subchannels .ensures))))

@@ -1,11 +1,15 @@
 -- `lengths::slot_refusal` meets its contract.
 use borrow.Author.Needs.{needs}
-use Rattle.lengths.proofs.Refusal.{slot-mask, slot-4, slot-0, mask-accepted}
+use Rattle.base.proofs.Chain.{by-number}
+use Rattle.map.specs.Question.{isSlot}
+use Rattle.lengths.specs.Model.{slotRefusal}
+use Rattle.lengths.proofs.Refusal.{mask-no, mask-then}
 use Rattle.lengths.proofs.slot_refusal.Statement.{statement}
 use Rattle.lengths.proofs.slot_refusal.Tie as tie
 
 pub slot-refusal-spec : {M : Type 1} → statement M
+unfolding slotRefusal isSlot
 slot-refusal-spec =
     tie.close
     (tie.spec
-    (λ c κs. search needs) (λ c. search (slot-mask, needs)) (λ c. search (slot-4, mask-accepted, needs)) (λ c. search (slot-0, mask-accepted, needs)))
+    (λ c κs. search needs) (λ c. search (mask-no, needs)) (λ c. search (mask-then, by-number, needs)) (λ c. search (mask-then, by-number, needs)))

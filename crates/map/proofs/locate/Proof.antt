@@ -1,8 +1,11 @@
 -- `map::locate` meets its contract.
 use native.Mathlib.Omega.{arith}
 use borrow.Author.Needs.{needs}
+use Rattle.base.proofs.Chain.{by-answer}
+use Rattle.map.specs.Question.{isSymbol}
+use Rattle.map.specs.Place.{locateOf}
 use Rattle.map.proofs.ByMode.{few}
-use Rattle.map.proofs.Outcome.{now-valid, locate-setup, locate-4, locate-7, size-few, carrier-in, column-in, locate-done}
+use Rattle.map.proofs.Outcome.{now-valid, refuses, lets-pass, carrier-no, size-few, carrier-in, column-in, locate-done}
 use Rattle.map.proofs.locate.Statement.{statement}
 use Rattle.map.proofs.locate.Tie as tie
 
@@ -16,9 +19,10 @@ content-requires : tie.Need-content-requires
 content-requires c κs = (search (now-valid, needs), search (column-in, now-valid, needs))
 
 pub locate-spec : {M : Type 1} → statement M
+unfolding locateOf isSymbol
 locate-spec =
     tie.close
     (tie.spec
-    (λ c κs. search needs) (λ c. search (locate-setup, needs)) (λ c κs. search needs) mul-if2
-    (λ c. search (locate-4, now-valid, needs)) (λ c κs. search (size-few, now-valid, needs)) (λ c. search (locate-7, now-valid, needs))
+    (λ c κs. search needs) (λ c. search (refuses, needs)) (λ c κs. search needs) mul-if2
+    (λ c. search (lets-pass, by-answer, needs)) (λ c κs. search (size-few, now-valid, needs)) (λ c. search (lets-pass, carrier-no, by-answer, needs))
     column-requires content-requires (λ c. search (locate-done, now-valid, needs)))
