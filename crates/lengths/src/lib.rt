@@ -73,7 +73,7 @@ fn mask_refusal(setup: Setup, mask: usize) -> u8
     0
 }
 
-// Of 1, 2, 3, 17 and 4.
+// The number of the first of questions 1, 2, 3, 17 and 4 that is answered no, or 0.
 fn slot_refusal(setup: Setup, mask: usize, slot: usize) -> u8
     ensures { λ r. ⌜ r ≡ slotRefusal setup mask slot ⌝ }
 {
@@ -87,7 +87,7 @@ fn slot_refusal(setup: Setup, mask: usize, slot: usize) -> u8
     0
 }
 
-// Of question 9, which comes last in each call.
+// The number of question 9, which comes last in each call, where it is answered no, or 0.
 fn grid_refusal(setup: Setup, grid: usize) -> u8
     requires { ⌜ Valid setup ⌝ }
     ensures { λ r. ⌜ r ≡ gridRefusal setup grid ⌝ }
@@ -98,7 +98,7 @@ fn grid_refusal(setup: Setup, grid: usize) -> u8
     0
 }
 
-// Of ground's questions: 1, 2, 3, 17, 4, 9.
+// The number of the first of ground's questions, 1, 2, 3, 17, 4, 9, that is answered no, or 0.
 pub fn ground_refusal(setup: Setup, mask: usize, slot: usize, grid: usize) -> u8
     ensures { λ r. ⌜ r ≡ groundRefusal setup mask slot grid ⌝ }
 {
@@ -109,7 +109,7 @@ pub fn ground_refusal(setup: Setup, mask: usize, slot: usize, grid: usize) -> u8
     grid_refusal(setup, grid)
 }
 
-// Of lay's: 1, 2, 3, 17, 4, 5, 8, 9.
+// The number of the first of lay's questions, 1, 2, 3, 17, 4, 5, 8, 9, that is answered no, or 0.
 pub fn lay_refusal(
     setup: Setup,
     mask: usize,
@@ -136,7 +136,7 @@ pub fn lay_refusal(
     grid_refusal(setup, grid)
 }
 
-// Of empty's: 1, 2, 3, 17, 4, 8, 9.
+// The number of the first of empty's questions, 1, 2, 3, 17, 4, 8, 9, that is answered no, or 0.
 pub fn empty_refusal(setup: Setup, mask: usize, slot: usize, points: usize, grid: usize) -> u8
     ensures { λ r. ⌜ r ≡ emptyRefusal setup mask slot points grid ⌝ }
 {
@@ -150,7 +150,7 @@ pub fn empty_refusal(setup: Setup, mask: usize, slot: usize, points: usize, grid
     grid_refusal(setup, grid)
 }
 
-// Of look's: 1, 2, 3, 17, 4, 7, 9.
+// The number of the first of look's questions, 1, 2, 3, 17, 4, 7, 9, that is answered no, or 0.
 pub fn look_refusal(setup: Setup, mask: usize, symbol: usize, carrier: i32, grid: usize) -> u8
     ensures { λ r. ⌜ r ≡ lookRefusal setup mask symbol carrier grid ⌝ }
 {
