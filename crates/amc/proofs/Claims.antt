@@ -4,7 +4,7 @@ use Prim.Native.Nat.{ℕ, _*_, _<_}
 use Rattle.carriers.specs.declared.DataNumber.{DataNumber}
 use Rattle.carriers.specs.declared.Address.{Address}
 use Rattle.amc.specs.declared.Shape.{Shape}
-use Rattle.amc.specs.Map.{dataNumber, addressOf}
+use Rattle.amc.specs.Map.{addressOf}
 use Rattle.amc.specs.Law.{OnePoint, AmcLaw}
 use Rattle.amc.specs.Model.{IsShape}
 use Rattle.amc.proofs.Tables.{printed-list}
