@@ -17,9 +17,10 @@ use Rattle.bursts.specs.Owner.{ownerAt, lookedAt, ownerOf}
 use Rattle.known.specs.Table.{Known, AnyCell, setFrom, groups, indices, bursts, corner, check, owner, owns, refusal}
 use Rattle.carriers.specs.Band as band
 use Rattle.carriers.specs.Bin as bin
+use Rattle.clusters.specs.Cluster as cluster
+use Rattle.clusters.specs.Group as group
+use Rattle.pusc_dl.specs.Inner as inner
 use Rattle.pusc_dl.specs.Map as dl
-use Rattle.pusc_dl.specs.Group as group
-use Rattle.pusc_dl.specs.Cluster as cluster
 use Rattle.pusc_ul.specs.Map as ul
 use Rattle.pusc_ul.specs.Tile as tile
 use Rattle.ofusc.specs.Map as ofusc
@@ -57,7 +58,7 @@ unfolding isUpTo mode.width mode.cells mode.subchannels question.isFourSizes que
 zone-owner = (refl, refl, refl, refl, refl, refl)
 
 pub known : Known
-unfolding each tabulate skip fromDc placeOf usedCarrier placeAt mode.shapeOf mode.width mode.cells mode.subchannels mode.symbols mode.band mode.spotOf question.isMode question.isFourSizes question.isSize question.isCell question.isSlot question.isSubchannel question.isIndex band.carrierOf bin.binPilotPlace bin.usedOfData dl.groupUsed dl.spotOf group.groupIn group.groupSize group.ofSize group.baseOf group.groupData cluster.unrenumber cluster.firstPilot cluster.secondPilot cluster.clusterPlace ul.spotOf tile.tileOf tile.placeSymbol tile.placeTile tile.placeCarrier ofusc.groupOf ofusc.term ofusc.cellTerm ofusc.dataNumber field.modulus field.coefficient field.product field.remainder field.times field.power field.p1 field.p2 amc.off amc.zeroRule amc.elementOf amc.traffic amc.trafficNumber amc.dataNumber element.add element.times element.sequence
+unfolding each tabulate skip fromDc placeOf usedCarrier placeAt mode.shapeOf mode.width mode.cells mode.subchannels mode.symbols mode.band mode.spotOf question.isMode question.isFourSizes question.isSize question.isCell question.isSlot question.isSubchannel question.isIndex band.carrierOf bin.binPilotPlace bin.usedOfData dl.groupUsed dl.spotOf group.groupIn group.groupSize group.ofSize group.baseOf inner.groupData cluster.unrenumber cluster.firstPilot cluster.secondPilot cluster.clusterPlace ul.spotOf tile.tileOf tile.placeSymbol tile.placeTile tile.placeCarrier ofusc.groupOf ofusc.term ofusc.cellTerm ofusc.dataNumber field.modulus field.coefficient field.product field.remainder field.times field.power field.p1 field.p2 amc.off amc.zeroRule amc.elementOf amc.traffic amc.trafficNumber amc.dataNumber element.add element.times element.sequence
 known =
     record {
       line-1 = (refl, refl);

@@ -7,7 +7,7 @@ use lib.Dec.{eqb}
 use borrow.Author.Tests.{eq-eqb, eqb-true}
 use Rattle.base.proofs.Test.{cases}
 use Rattle.carriers.specs.Bin.{binPilotPlace, isBinPilot}
-use Rattle.pusc_dl.proofs.Tables.{pilot-parity}
+use Rattle.clusters.proofs.Tables.{pilot-parity}
 use Rattle.map.specs.declared.Setup.{Setup}
 use Rattle.map.specs.Mode.{setupWith, width, symbols, band, isPilot}
 

@@ -15,8 +15,8 @@ use Rattle.carriers.specs.declared.Address.{Address}
 use Rattle.carriers.specs.Bin.{binPilotPlace, dataOfUsed, binSpot, inOnlySymbol}
 use Rattle.carriers.specs.Law.{NumberLaw}
 use Rattle.carriers.proofs.Bin.{data-lt}
-use Rattle.pusc_dl.specs.Cluster.{isClusterPilot}
-use Rattle.pusc_dl.proofs.Tables.{pilot-parity}
+use Rattle.clusters.specs.Cluster.{isClusterPilot}
+use Rattle.clusters.proofs.Tables.{pilot-parity}
 use Rattle.pusc_ul.specs.Tile.{isTilePilot}
 use Rattle.amc.specs.declared.Shape.{Shape}
 use Rattle.amc.specs.Model.{IsShape}

@@ -10,7 +10,7 @@ use Rattle.carriers.proofs.Bin.{bin-law}
 use Rattle.carriers.proofs.Relabel.{relabel}
 use Rattle.centre.specs.Law.{CentreLaw}
 use Rattle.centre.proofs.Law.{centre-law}
-use Rattle.pusc_dl.proofs.Tables.{pilot-parity}
+use Rattle.clusters.proofs.Tables.{pilot-parity}
 use Rattle.pusc_ul.specs.Tile.{isTilePilot}
 use Rattle.ofusc.proofs.Sequence.{pos}
 use Rattle.map.specs.declared.Setup.{Setup}

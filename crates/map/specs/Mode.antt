@@ -8,7 +8,7 @@ use Rattle.carriers.specs.declared.Spot.{Spot}
 use Rattle.carriers.specs.declared.Address.{Address}
 use Rattle.carriers.specs.Band.{binBand, puscBand, noBand}
 use Rattle.carriers.specs.Bin.{isBinPilot, dataOfUsed, binSpot, inOnlySymbol}
-use Rattle.pusc_dl.specs.Cluster.{isClusterPilot}
+use Rattle.clusters.specs.Cluster.{isClusterPilot}
 use Rattle.pusc_ul.specs.Tile.{isTilePilot}
 use Rattle.amc.specs.declared.Shape.{Shape}
 use Rattle.map.specs.declared.Setup.{Setup}

@@ -262,7 +262,7 @@ fn is_pilot(setup: Setup, symbol: usize, used: usize) -> bool
     ensures { λ r. ⌜ r ≡ isPilot setup symbol used ⌝ }
 {
     if setup.mode == 0 {
-        return pusc_dl::is_pilot(symbol, used);
+        return clusters::is_pilot(symbol, used);
     }
     if setup.mode == 1 {
         return pusc_ul::is_pilot(symbol % 3, used);

@@ -14,12 +14,13 @@ use Rattle.base.proofs.Rank.{rank-law, rank-most, rank-all, rank-as}
 use Rattle.carriers.specs.Band.{carrierOf, usedOf}
 use Rattle.carriers.proofs.Guards.{used-carrier}
 use Rattle.centre.specs.Centre.{onRow}
-use Rattle.pusc_dl.specs.declared.Physical.{Physical}
-use Rattle.pusc_dl.specs.Cluster.{renumber}
-use Rattle.pusc_dl.specs.Group.{clusterStarts, subchannelStarts, groupIn, hasGroup}
+use Rattle.clusters.specs.declared.Physical.{Physical}
+use Rattle.clusters.specs.Cluster.{renumber}
+use Rattle.clusters.specs.Group.{clusterStarts, subchannelStarts, groupIn}
+use Rattle.pusc_dl_lit.specs.Lit.{hasGroup}
 use Rattle.pusc_dl.specs.Map.{logicalOf, usedGroup}
 use Rattle.pusc_dl.proofs.Law.{point-group}
-use Rattle.pusc_dl.proofs.Lit.{all-groups}
+use Rattle.pusc_dl_lit.proofs.Lit.{all-groups}
 use Rattle.map.specs.declared.Setup.{Setup}
 use Rattle.map.specs.Mode.{setupWith, subchannels, band, spotOf}
 use Rattle.map.specs.Place.{Place, usedCarrier, placeAt, contentOf}

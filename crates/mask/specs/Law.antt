@@ -3,9 +3,10 @@ use mathlib.Core.Path.{_≡_}
 use mathlib.Core.Bool.{true}
 use Prim.Native.Nat.{ℕ, _+_, _*_, _<_}
 use Rattle.base.specs.Rank.{RankLaw}
-use Rattle.pusc_dl.specs.declared.Physical.{Physical}
-use Rattle.pusc_dl.specs.Cluster.{renumber}
-use Rattle.pusc_dl.specs.Group.{clusterStarts, groupIn, hasGroup}
+use Rattle.clusters.specs.declared.Physical.{Physical}
+use Rattle.clusters.specs.Cluster.{renumber}
+use Rattle.clusters.specs.Group.{clusterStarts, groupIn}
+use Rattle.pusc_dl_lit.specs.Lit.{hasGroup}
 use Rattle.map.specs.declared.Setup.{Setup}
 use Rattle.map.specs.Mode.{setupWith, subchannels, band}
 use Rattle.map.specs.Place.{usedCarrier, contentOf}

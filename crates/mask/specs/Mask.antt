@@ -5,7 +5,8 @@ use lib.Dec.{eqb}
 use Rattle.base.specs.Choice.{pick, isUpTo}
 use Rattle.base.specs.Rank.{rank, unrank}
 use Rattle.carriers.specs.Band.{usedOf}
-use Rattle.pusc_dl.specs.Group.{subchannelStarts, groupIn, hasGroup}
+use Rattle.clusters.specs.Group.{subchannelStarts, groupIn}
+use Rattle.pusc_dl_lit.specs.Lit.{hasGroup}
 use Rattle.pusc_dl.specs.Map.{usedGroup}
 use Rattle.map.specs.declared.Setup.{Setup}
 use Rattle.map.specs.Mode.{subchannels, band}

@@ -27,7 +27,7 @@ pub fn is_lit(setup: Setup, mask: usize, subchannel: usize) -> bool
     if setup.mode != 0 {
         return true;
     }
-    pusc_dl::is_subchannel_lit(mask, subchannel)
+    pusc_dl_lit::is_subchannel_lit(mask, subchannel)
 }
 
 // Is a used number lit?
@@ -39,7 +39,7 @@ pub fn is_used_lit(setup: Setup, mask: usize, used: usize) -> bool
     if setup.mode != 0 {
         return true;
     }
-    pusc_dl::is_used_lit(setup.cell, mask, used)
+    pusc_dl_lit::is_used_lit(setup.cell, mask, used)
 }
 
 // Is a column lit, by its used number? DC counts as the used number above it.
@@ -100,5 +100,5 @@ pub fn lit_subchannels(setup: Setup, mask: usize) -> usize
     if setup.mode != 0 {
         return map::subchannels(setup);
     }
-    pusc_dl::lit_subchannels(mask)
+    pusc_dl_lit::lit_subchannels(mask)
 }

@@ -7,25 +7,16 @@ use native.Mathlib.Omega.{arith}
 use lib.Arith.{digits-div, digits-mod, digits-lt}
 use Rattle.base.specs.Steps.{entry}
 use Rattle.carriers.specs.Law.{SlotLaw, DataSpot, PointOf}
-use Rattle.pusc_dl.specs.Cluster.{renumber, unrenumber, isClusterPilot, clusterPlace}
-use Rattle.pusc_dl.specs.Group.{clusterStarts, subchannelStarts, groupIn, groupSize, groupData, groupSubchannel}
+use Rattle.clusters.specs.Cluster.{unrenumber, isClusterPilot, clusterPlace}
+use Rattle.clusters.specs.Group.{clusterStarts, subchannelStarts, groupIn, groupSize}
+use Rattle.pusc_dl.specs.Inner.{groupData, groupSubchannel}
 use Rattle.pusc_dl.specs.Map.{spotOf, addressOf, groupUsed, logicalOf, usedGroup, usedData}
-use Rattle.pusc_dl.specs.Law.{Renumbering}
-use Rattle.pusc_dl.specs.declared.Physical.{Physical}
-use Rattle.pusc_dl.specs.declared.Logical.{Logical}
-use Rattle.pusc_dl.proofs.Cluster.{renumber-perm, OnPlace, on-place, OnData, on-data, pilot-place}
-use Rattle.pusc_dl.proofs.Group as group
-
--- THE RENUMBERING AND ITS INVERSE UNDO EACH OTHER.
-pub renumbering : Renumbering
-unfolding renumber unrenumber
-renumbering =
-    record {
-      logical-lt = λ cell p h. renumber-perm cell .to-lt (p .0) h;
-      physical-lt = λ cell l h. renumber-perm cell .from-lt (l .0) h;
-      back = λ cell p h. λ i. record { 0 = renumber-perm cell .back (p .0) h i };
-      forth = λ cell l h. λ i. record { 0 = renumber-perm cell .forth (l .0) h i };
-    }
+use Rattle.clusters.specs.declared.Physical.{Physical}
+use Rattle.clusters.specs.declared.Logical.{Logical}
+use Rattle.clusters.proofs.Cluster.{OnPlace, on-place, OnData, on-data, pilot-place}
+use Rattle.clusters.proofs.Group.{subchannel-runs, cluster-runs}
+use Rattle.clusters.proofs.Law.{renumbering}
+use Rattle.pusc_dl.proofs.Inner as inner
 
 module _ (cell : ℕ) where
   -- data number d of group g, on its used number in symbol y of the slot
@@ -37,7 +28,7 @@ module _ (cell : ℕ) where
     run-lt = omega arith
 
     fits : logical .0 < 120
-    fits = group.cluster-runs .number-lt g (d / 12) hg run-lt
+    fits = cluster-runs .number-lt g (d / 12) hg run-lt
 
     at-place : OnPlace y (d % 12)
     at-place = on-place y (d % 12) hy (omega arith)
@@ -56,7 +47,7 @@ module _ (cell : ℕ) where
 
     used-group : usedGroup cell (groupUsed cell y g d) ≡ g
     unfolding usedGroup
-    used-group = rw used-logical (group.cluster-runs .group-of g (d / 12) hg run-lt)
+    used-group = rw used-logical (cluster-runs .group-of g (d / 12) hg run-lt)
 
     used-data : usedData cell y (groupUsed cell y g d) ≡ d
     unfolding usedData
@@ -76,15 +67,15 @@ module _ (cell : ℕ) where
 
     pub group-lt : usedGroup cell u < 6
     unfolding usedGroup
-    group-lt = group.cluster-runs .group-lt (logicalOf cell u .0) logical-lt
+    group-lt = cluster-runs .group-lt (logicalOf cell u .0) logical-lt
 
     pub data-lt : usedData cell y u < 24 * groupSize (usedGroup cell u)
     unfolding usedData usedGroup
-    data-lt = omega (arith, group.cluster-runs .run-lt (logicalOf cell u .0) logical-lt, at-data .data-lt)
+    data-lt = omega (arith, cluster-runs .run-lt (logicalOf cell u .0) logical-lt, at-data .data-lt)
 
     in-run : entry clusterStarts (usedGroup cell u) + (logicalOf cell u .0 - entry clusterStarts (usedGroup cell u)) ≡ logicalOf cell u .0
     unfolding usedGroup
-    in-run = omega (arith, group.cluster-runs .start-le (logicalOf cell u .0) logical-lt)
+    in-run = omega (arith, cluster-runs .start-le (logicalOf cell u .0) logical-lt)
 
     from-physical : unrenumber cell (logicalOf cell u) ≡ physical
     unfolding logicalOf
@@ -106,25 +97,25 @@ module _ (cell : ℕ) where
     its-subchannel = groupSubchannel (groupSize its-group) cell its-data
 
     subchannel-lt : its-subchannel < 1 * groupSize its-group
-    subchannel-lt = omega (arith, group.subchannel-lt its-group cell its-data)
+    subchannel-lt = omega (arith, inner.subchannel-lt its-group cell its-data)
 
     names : PointOf 60 (addressOf cell y u)
     unfolding addressOf
     names =
         record {
-          subchannel-lt = group.subchannel-runs .number-lt its-group its-subchannel group-lt subchannel-lt;
-          index-lt = omega (arith, group.index-lt its-group cell its-data);
+          subchannel-lt = subchannel-runs .number-lt its-group its-subchannel group-lt subchannel-lt;
+          index-lt = omega (arith, inner.index-lt its-group cell its-data);
         }
 
     placed : spotOf cell (addressOf cell y u .subchannel) (addressOf cell y u .index) ≡ record { offset = y; used = u }
     unfolding spotOf addressOf
     placed =
         rw (
-          group.subchannel-runs .group-of its-group its-subchannel group-lt subchannel-lt,
+          subchannel-runs .group-of its-group its-subchannel group-lt subchannel-lt,
           add-sub-cancel-left (entry subchannelStarts its-group) its-subchannel,
-          digits-div y (group.index-lt its-group cell its-data),
-          digits-mod y (group.index-lt its-group cell its-data),
-          group.data-forth its-group cell its-data data-lt,
+          digits-div y (inner.index-lt its-group cell its-data),
+          digits-mod y (inner.index-lt its-group cell its-data),
+          inner.data-forth its-group cell its-data data-lt,
           used-forth,
         )
 
@@ -146,16 +137,16 @@ module _ (cell : ℕ) where
     k-lt = omega arith
 
     g-lt : g < 6
-    g-lt = group.subchannel-runs .group-lt s hs
+    g-lt = subchannel-runs .group-lt s hs
 
     r-lt : r < groupSize g
-    r-lt = omega (arith, group.subchannel-runs .run-lt s hs)
+    r-lt = omega (arith, subchannel-runs .run-lt s hs)
 
     d-lt : d < 24 * groupSize g
-    d-lt = group.data-lt g cell r (i % 24) r-lt k-lt
+    d-lt = inner.data-lt g cell r (i % 24) r-lt k-lt
 
     s-back : entry subchannelStarts g + r ≡ s
-    s-back = omega (arith, group.subchannel-runs .start-le s hs)
+    s-back = omega (arith, subchannel-runs .start-le s hs)
 
     lies : DataSpot 2 1680 isClusterPilot (spotOf cell s i)
     unfolding spotOf
@@ -173,8 +164,8 @@ module _ (cell : ℕ) where
         rw (
           used-group (i / 24) g d y-lt g-lt d-lt,
           used-data (i / 24) g d y-lt g-lt d-lt,
-          group.subchannel-back g cell r (i % 24) r-lt k-lt,
-          group.index-back g cell r (i % 24) r-lt k-lt,
+          inner.subchannel-back g cell r (i % 24) r-lt k-lt,
+          inner.index-back g cell r (i % 24) r-lt k-lt,
           s-back,
           div-add-mod' i 24,
         )

@@ -1,9 +1,3 @@
--- The law of PUSC downlink, and the facts that it is made of; rows of spots, and the points of a cluster.
-pub mod Tables
-pub mod Cluster
-pub mod Group
+-- The law of PUSC downlink, and the inner permutation, which it is made of.
+pub mod Inner
 pub mod Law
-pub mod Lit
-pub mod Halves
-pub mod Row
-pub mod Points

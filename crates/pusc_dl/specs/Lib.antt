@@ -1,6 +1,2 @@
-pub mod Table
-pub mod Cluster
-pub mod Group
+pub mod Inner
 pub mod Map
-pub mod Law
-pub mod Model

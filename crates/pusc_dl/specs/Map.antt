@@ -3,10 +3,11 @@ use Prim.Native.Nat.{ℕ, _+_, _-_, _*_, _/_, _%_}
 use Rattle.base.specs.Steps.{entry}
 use Rattle.carriers.specs.declared.Spot.{Spot}
 use Rattle.carriers.specs.declared.Address.{Address}
-use Rattle.pusc_dl.specs.Cluster.{renumber, unrenumber, clusterPlace, clusterData}
-use Rattle.pusc_dl.specs.Group.{clusterStarts, subchannelStarts, groupIn, groupSize, groupData, groupSubchannel, groupIndex}
-use Rattle.pusc_dl.specs.declared.Physical.{Physical}
-use Rattle.pusc_dl.specs.declared.Logical.{Logical}
+use Rattle.clusters.specs.Cluster.{renumber, unrenumber, clusterPlace, clusterData}
+use Rattle.clusters.specs.Group.{clusterStarts, subchannelStarts, groupIn, groupSize}
+use Rattle.clusters.specs.declared.Physical.{Physical}
+use Rattle.clusters.specs.declared.Logical.{Logical}
+use Rattle.pusc_dl.specs.Inner.{groupData, groupSubchannel, groupIndex}
 
 -- the used number of group data number d of group g, in a symbol: twelve data numbers a cluster, from the group's lowest logical cluster
 unfoldable pub groupUsed : (cell symbol g d : ℕ) → ℕ

@@ -19,7 +19,7 @@ use Rattle.map.specs.Model.{Valid, pusc-dl, pusc-ul, ofusc, amc}
 use Rattle.map.proofs.Choice.{mode-1, mode-bins}
 use Rattle.map.proofs.ByMode.{bin-width}
 use Rattle.mask.specs.Mask.{isUsedLit}
-use Rattle.pusc_dl.specs.Cluster.{firstPilot, secondPilot}
+use Rattle.clusters.specs.Cluster.{firstPilot, secondPilot}
 use Rattle.rows.specs.Model.{runStep, runCount, runFirst, runSecond, runsOf, runPoints, runNumber, runStride, pointStride, NumbersBelow, RowNumbers, RunPut}
 use Rattle.rows.proofs.Walk.{run-law, bin-runs, bin-apart, runs-bins, one-point, two-points, cluster-apart, tile-points}
 

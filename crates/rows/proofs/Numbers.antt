@@ -27,14 +27,14 @@ use Rattle.map.specs.Model.{IsAmc, Valid, pusc-dl, pusc-ul, ofusc, amc}
 use Rattle.map.proofs.Choice.{amc-shape, mode-0, mode-1, mode-2, mode-amc, mode-bins}
 use Rattle.map.proofs.ByMode.{listed-mode, shape-symbols, in-pusc-ul, bin-width}
 use Rattle.mask.specs.Mask.{isLit, isUsedLit}
-use Rattle.pusc_dl.specs.Cluster.{firstPilot, secondPilot, clusterPlace}
-use Rattle.pusc_dl.specs.Group.{hasGroup}
+use Rattle.clusters.specs.Cluster.{firstPilot, secondPilot, clusterPlace}
+use Rattle.pusc_dl_lit.specs.Lit.{hasGroup}
 use Rattle.pusc_dl.specs.Map.{usedGroup}
 use Rattle.rows.specs.declared.Runs.{Runs}
 use Rattle.rows.specs.Model.{runStep, runCount, tileRuns, runFirst, runSecond, runsOf, runPlace, runPoints, numberAt, runNumber, runStride, pointStride, RowNumbers, runEntries, runEntry, RunTable, placeEntries, placeEntry, PlaceTable}
 use Rattle.rows.proofs.Row.{TableAs, from-table}
 use Rattle.rows.proofs.Walk.{bin-runs, bin-apart, runs-bins, two-points, one-point, all-points, cluster-apart}
-use Rattle.pusc_dl.specs.Model as dl
+use Rattle.pusc_dl_points.specs.Model as dl
 use Rattle.pusc_ul.specs.Tile.{tileSubchannel}
 use Rattle.pusc_ul.specs.Model as ul
 use Rattle.pusc_ul.specs.Map as ul-map

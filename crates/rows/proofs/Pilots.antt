@@ -12,11 +12,11 @@ use Rattle.base.specs.Choice.{pick}
 use Rattle.base.proofs.Test.{cases, true-false}
 use Rattle.base.proofs.Tabulate.{entry-of}
 use Rattle.carriers.specs.Bin.{isBinPilot, binPilotPlace}
-use Rattle.pusc_dl.specs.Cluster.{isClusterPilot, firstPilot, secondPilot}
-use Rattle.pusc_dl.specs.declared.Physical.{Physical}
-use Rattle.pusc_dl.specs.Group.{hasGroup}
+use Rattle.clusters.specs.Cluster.{isClusterPilot, firstPilot, secondPilot}
+use Rattle.clusters.specs.declared.Physical.{Physical}
+use Rattle.pusc_dl_lit.specs.Lit.{hasGroup}
 use Rattle.pusc_dl.specs.Map.{usedGroup}
-use Rattle.pusc_dl.specs.Model.{clusterLit}
+use Rattle.pusc_dl_lit.specs.Model.{clusterLit}
 use Rattle.pusc_ul.specs.Tile.{isTilePilot}
 use Rattle.ofusc.proofs.Sequence.{size}
 use Rattle.map.specs.declared.Setup.{Setup}

@@ -14,9 +14,9 @@ use Rattle.base.proofs.Tabulate.{entry-of}
 use Rattle.base.proofs.LeaveOut.{split, skip-unskip, skip-ne, skip-below, skip-above, unskip-below, unskip-above, skip-before, before-skip}
 use Rattle.carriers.specs.Bin.{binPilotPlace, isBinPilot}
 use Rattle.carriers.proofs.Bin.{pilot-place-le}
-use Rattle.pusc_dl.specs.Cluster.{isClusterPilot, firstPilot, secondPilot}
+use Rattle.clusters.specs.Cluster.{isClusterPilot, firstPilot, secondPilot}
 use Rattle.pusc_dl.specs.Map.{usedGroup, logicalOf}
-use Rattle.pusc_dl.specs.Model.{clusterLit}
+use Rattle.pusc_dl_lit.specs.Model.{clusterLit}
 use Rattle.pusc_ul.specs.Tile.{isTilePilot}
 use Rattle.ofusc.proofs.Sequence.{pos}
 use Rattle.map.specs.declared.Setup.{Setup}

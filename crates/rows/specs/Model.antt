@@ -10,15 +10,15 @@ use Rattle.base.specs.Steps.{entry, skip, unskip}
 use Rattle.base.specs.Tabulate.{tabulate}
 use Rattle.base.specs.Model.{Starts}
 use Rattle.carriers.specs.Bin.{binPilotPlace}
-use Rattle.pusc_dl.specs.Cluster.{firstPilot, secondPilot}
-use Rattle.pusc_dl.specs.Model.{clusterLit}
+use Rattle.clusters.specs.Cluster.{firstPilot, secondPilot}
+use Rattle.pusc_dl_lit.specs.Model.{clusterLit}
 use Rattle.pusc_ul.specs.Tile.{tileSubchannel}
 use Rattle.map.specs.declared.Setup.{Setup}
 use Rattle.map.specs.Mode.{shapeOf, byMode, width, addressOf}
 use Rattle.mask.specs.Mask.{isUsedLit, litRank}
 use Rattle.rows.specs.declared.Comb.{Comb}
 use Rattle.rows.specs.declared.Runs.{Runs}
-use Rattle.pusc_dl.specs.Model as pusc-dl
+use Rattle.pusc_dl_points.specs.Model as pusc-dl
 use Rattle.ofusc.specs.Model as ofusc
 use Rattle.amc.specs.Model as amc
 use Rattle.amc.specs.Map as amc-map

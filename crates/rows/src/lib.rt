@@ -63,7 +63,7 @@ fn spots(setup: Setup, slot: usize, subchannel: usize, table: &[u16; 48]) -> [u1
     ensures { λ r. ⌜ Turned (shiftOf setup subchannel) (λ m. spotNumber (spotOf setup slot subchannel m)) r ⌝ }
 {
     if setup.mode == 0 {
-        return pusc_dl::spots(setup.cell, subchannel);
+        return pusc_dl_rows::spots(setup.cell, subchannel);
     }
     carriers::used_numbers(
         slot,
@@ -100,7 +100,7 @@ pub fn pilot_comb(setup: Setup, symbol: usize) -> Comb
     ensures { λ r. ⌜ r ≡ combOf setup symbol ⌝ }
 {
     if setup.mode == 0 {
-        let p = pusc_dl::pilots(symbol);
+        let p = clusters::pilots(symbol);
         return Comb {
             first: p.first,
             second: p.second,
@@ -160,7 +160,7 @@ pub fn lit_runs(setup: Setup, mask: usize) -> [u8; 120]
     if setup.mode != 0 {
         return [0; 120];
     }
-    pusc_dl::lit_clusters(setup.cell, mask)
+    pusc_dl_lit::lit_clusters(setup.cell, mask)
 }
 
 // 1 where run i is lit, else 0.
@@ -189,7 +189,7 @@ pub fn symbol_runs(setup: Setup, symbol: usize) -> Runs
     ensures { λ r. ⌜ r ≡ runsOf setup symbol ⌝ }
 {
     if setup.mode == 0 {
-        let p = pusc_dl::pilots(symbol);
+        let p = clusters::pilots(symbol);
         return Runs {
             first: p.first,
             second: p.second,
@@ -274,7 +274,7 @@ pub fn run_table(setup: Setup, mask: usize) -> [u16; 120]
     ensures { λ r. ⌜ RunTable setup mask r ⌝ }
 {
     if setup.mode == 0 {
-        return pusc_dl::clusters(setup.cell, mask);
+        return pusc_dl_points::clusters(setup.cell, mask);
     }
     if setup.mode == 1 {
         return pusc_ul::tiles(setup.cell);
@@ -288,7 +288,7 @@ pub fn place_table(setup: Setup) -> [u16; 48]
     ensures { λ r. ⌜ PlaceTable setup r ⌝ }
 {
     if setup.mode == 0 {
-        return pusc_dl::inverses(setup.cell);
+        return pusc_dl_points::inverses(setup.cell);
     }
     if setup.mode == 1 {
         return [0; 48];
@@ -334,7 +334,7 @@ fn run_numbers(
     ensures { λ r. ⌜ (isUsedLit setup mask (i * runStep setup) ≡ true → Starts (runPoints (runsOf setup (slot * symbols setup + row))) (runNumber setup mask (slot * symbols setup + row) i) r) ⌝ }
 {
     if setup.mode == 0 {
-        return pusc_dl::cluster_points(setup.cell, mask, row, i, runs, places);
+        return pusc_dl_points::cluster_points(setup.cell, mask, row, i, runs, places);
     }
     if setup.mode == 2 {
         return ofusc::bin_points(map::width(setup), setup.cell, i, places);

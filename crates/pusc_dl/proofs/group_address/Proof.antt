@@ -3,7 +3,8 @@ use mathlib.Core.Path.{_≡_}
 use Prim.Native.Nat.{ℕ, _*_, _/_, _%_}
 use borrow.Author.Needs.{needs}
 use Rattle.base.specs.Steps.{unrotate}
-use Rattle.pusc_dl.specs.Group.{groupSubchannel, groupIndex, baseInverse}
+use Rattle.pusc_dl.specs.Inner.{groupSubchannel, groupIndex}
+use Rattle.clusters.specs.Group.{baseInverse}
 use Rattle.pusc_dl.proofs.group_address.Statement.{statement}
 use Rattle.pusc_dl.proofs.group_address.Tie as tie
 

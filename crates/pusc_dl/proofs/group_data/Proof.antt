@@ -4,8 +4,9 @@ use Prim.Native.Nat.{ℕ, _+_, _*_, _<_}
 use native.Mathlib.Omega.{arith}
 use lib.Arith.{digits-lt}
 use borrow.Author.Needs.{needs}
-use Rattle.pusc_dl.specs.Group.{groupSize, groupData}
-use Rattle.pusc_dl.specs.Model.{turnedBase}
+use Rattle.clusters.specs.Group.{groupSize}
+use Rattle.pusc_dl.specs.Inner.{groupData}
+use Rattle.clusters.specs.Model.{turnedBase}
 use Rattle.pusc_dl.proofs.group_data.Statement.{statement}
 use Rattle.pusc_dl.proofs.group_data.Tie as tie
 

@@ -4,7 +4,7 @@ use Prim.Native.Nat.{_+_, _/_, _<_}
 use native.Mathlib.Omega.{arith}
 use borrow.Author.Needs.{needs}
 use Rattle.pusc_dl.specs.Map.{groupUsed}
-use Rattle.pusc_dl.proofs.Group.{cluster-runs}
+use Rattle.clusters.proofs.Group.{cluster-runs}
 use Rattle.pusc_dl.proofs.group_used.Statement.{statement}
 use Rattle.pusc_dl.proofs.group_used.Tie as tie
 

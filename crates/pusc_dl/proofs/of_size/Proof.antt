@@ -2,8 +2,8 @@
 use mathlib.Core.Path.{sym, _∙_}
 use native.Mathlib.Omega.{arith}
 use borrow.Author.Needs.{needs}
-use Rattle.pusc_dl.specs.Group.{ofSize}
-use Rattle.pusc_dl.proofs.Group.{size-8}
+use Rattle.clusters.specs.Group.{ofSize}
+use Rattle.clusters.proofs.Group.{size-8}
 use Rattle.pusc_dl.proofs.of_size.Statement.{statement}
 use Rattle.pusc_dl.proofs.of_size.Tie as tie
 

@@ -2,7 +2,7 @@
 use mathlib.Core.Path.{refl, sym, _∙_}
 use native.Mathlib.Omega.{arith}
 use borrow.Author.Needs.{needs}
-use Rattle.pusc_dl.proofs.Group.{size-8}
+use Rattle.clusters.proofs.Group.{size-8}
 use Rattle.pusc_dl.proofs.size_quotient.Statement.{statement}
 use Rattle.pusc_dl.proofs.size_quotient.Tie as tie
 

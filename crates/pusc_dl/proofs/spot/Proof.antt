@@ -2,7 +2,7 @@
 use native.Mathlib.Omega.{arith}
 use borrow.Author.Needs.{needs}
 use Rattle.pusc_dl.specs.Map.{spotOf}
-use Rattle.pusc_dl.proofs.Group.{subchannel-runs}
+use Rattle.clusters.proofs.Group.{subchannel-runs}
 use Rattle.pusc_dl.proofs.spot.Statement.{statement}
 use Rattle.pusc_dl.proofs.spot.Tie as tie
 

@@ -3,11 +3,11 @@ use mathlib.Core.Path.{_≡_, refl}
 use mathlib.Core.Bool.{false}
 use Prim.Native.Nat.{ℕ, _*_, _<_}
 use borrow.Author.Needs.{needs}
-use Rattle.pusc_dl.specs.Cluster.{isClusterPilot}
-use Rattle.pusc_dl.specs.Group.{groupSize}
+use Rattle.clusters.specs.Cluster.{isClusterPilot}
+use Rattle.clusters.specs.Group.{groupSize}
 use Rattle.pusc_dl.specs.Map.{usedGroup, usedData, logicalOf}
-use Rattle.pusc_dl.proofs.Cluster.{pilot-place}
-use Rattle.pusc_dl.proofs.Group.{cluster-runs}
+use Rattle.clusters.proofs.Cluster.{pilot-place}
+use Rattle.clusters.proofs.Group.{cluster-runs}
 use Rattle.pusc_dl.proofs.Law.{group-lt, data-lt}
 use Rattle.pusc_dl.proofs.used_data.Statement.{statement}
 use Rattle.pusc_dl.proofs.used_data.Tie as tie

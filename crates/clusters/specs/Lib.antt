@@ -1,0 +1,5 @@
+pub mod Table
+pub mod Cluster
+pub mod Group
+pub mod Law
+pub mod Model

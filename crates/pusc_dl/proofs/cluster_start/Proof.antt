@@ -1,9 +1,0 @@
--- `pusc_dl::cluster_start` meets its contract.
-use borrow.Author.Needs.{needs}
-use Rattle.pusc_dl.specs.Group.{clusterStarts}
-use Rattle.pusc_dl.proofs.Tables.{start-is}
-use Rattle.pusc_dl.proofs.cluster_start.Statement.{statement}
-use Rattle.pusc_dl.proofs.cluster_start.Tie as tie
-
-pub cluster-start-spec : {M : Type 1} → statement M
-cluster-start-spec = tie.close (tie.spec (λ c. search needs) (λ c. search needs) (λ c. search needs) (λ c. start-is clusterStarts 20 4 tt (c .args .g) (c .pre)))

@@ -1,0 +1,2 @@
+-- What a mask lights.
+pub mod Lit

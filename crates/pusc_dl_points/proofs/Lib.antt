@@ -1,0 +1,2 @@
+-- The points of a cluster.
+mod Points

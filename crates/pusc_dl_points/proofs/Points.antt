@@ -1,0 +1,223 @@
+-- The points of a cluster, by the reverse: from the inverses of the bases and what is noted of the cluster.
+use mathlib.Core.Path.{_≡_, sym, ap, _∙_}
+use mathlib.Core.Bool.{Bool, true}
+use mathlib.Core.List.{List, [], _∷_}
+use Prim.Native.Nat.{ℕ, _+_, _-_, _*_, _/_, _%_, _<_, _≤_}
+use native.Mathlib.Omega.{arith}
+use lib.Arith.{digits-div, digits-mod}
+use lib.Bits.{bitAnd}
+use lib.Dec.{eqb, ltb, eqb→eq, ltb→lt}
+use borrow.Author.Tests.{eq-eqb, ne-eqb, lt-ltb, le-ltb}
+use Rattle.base.specs.Steps.{entry, unrotate}
+use Rattle.base.specs.Rank.{rank}
+use Rattle.base.specs.Tabulate.{tabulate}
+use Rattle.base.specs.Model.{Starts}
+use Rattle.base.proofs.Test.{cases}
+use Rattle.base.proofs.Table.{all, all-at}
+use Rattle.base.proofs.Tabulate.{entry-of}
+use Rattle.base.proofs.Rank.{rank-run, rank-most}
+use Rattle.clusters.specs.Cluster.{renumber, clusterPlace}
+use Rattle.clusters.specs.Group.{clusterStarts, subchannelStarts, groupIn, groupSize, ofSize, baseInverse}
+use Rattle.pusc_dl.specs.Inner.{groupSubchannel, groupIndex}
+use Rattle.pusc_dl_lit.specs.Lit.{hasGroup}
+use Rattle.pusc_dl.specs.Map.{addressOf, logicalOf, usedGroup, usedData}
+use Rattle.pusc_dl_points.specs.Model.{turnedInverse, inverseEntry, pointOfData, subchannelRank, groupRank, logicalEntry, clusterEntry, clusterNumber}
+use Rattle.clusters.specs.declared.Physical.{Physical}
+use Rattle.clusters.specs.declared.Logical.{Logical}
+use Rattle.clusters.proofs.Tables.{b12-perm, b8-perm}
+use Rattle.clusters.proofs.Cluster.{OnPlace, on-place}
+use Rattle.clusters.proofs.Group.{cluster-runs, subchannel-runs}
+use Rattle.pusc_dl.proofs.Inner.{subchannel-lt}
+use Rattle.clusters.proofs.Law.{renumbering}
+
+-- ---- the inverses of the bases
+
+pub index-is : (n s : ℕ) → (n + 11 * s) % 24 ≡ unrotate 24 (13 * s) n
+index-is n s = omega arith
+
+pub inverse-12 : (cell x : ℕ) → x < 24 → inverseEntry cell x ≡ turnedInverse 12 cell x
+unfolding inverseEntry
+inverse-12 cell x h = rw (lt-ltb x 24 h)
+
+pub inverse-8 : (cell x : ℕ) → 24 ≤ x → inverseEntry cell x ≡ turnedInverse 8 cell x
+unfolding inverseEntry
+inverse-8 cell x h = rw (le-ltb x 24 h)
+
+pub turned-12 : (cell x : ℕ) → turnedInverse 12 cell x < 12
+unfolding turnedInverse baseInverse ofSize
+turned-12 cell x = b12-perm .from-lt (unrotate 12 cell (x % 12)) (omega arith)
+
+pub turned-8 : (cell x : ℕ) → turnedInverse 8 cell x < 8
+unfolding turnedInverse baseInverse ofSize
+turned-8 cell x = b8-perm .from-lt (unrotate 8 cell (x % 8)) (omega arith)
+
+-- the entries of their row
+module _ (cell : ℕ) (row : List ℕ) (t : Starts 48 (inverseEntry cell) row) (x : ℕ) where
+  pub entry-12 : x < 24 → (entry row x ≡ turnedInverse 12 cell x) × (entry row x < 12)
+  entry-12 h = let e = t x (omega arith) ∙ inverse-12 cell x h in (e, rw e (turned-12 cell x))
+
+  pub entry-8 : 24 ≤ x → x < 48 → (entry row x ≡ turnedInverse 8 cell x) × (entry row x < 8)
+  entry-8 h l = let e = t x l ∙ inverse-8 cell x h in (e, rw e (turned-8 cell x))
+
+-- the point of data number d, by its quotient and the entry of its remainder
+pub number-of : (size cell first n d x b r : ℕ) → n ≡ d / size → x % size ≡ d % size → b ≡ turnedInverse size cell x
+    → r ≡ first + (unrotate size n b * 48 + unrotate 24 (13 * unrotate size n b) n) → r ≡ first + pointOfData size cell d
+unfolding turnedInverse pointOfData groupSubchannel groupIndex
+number-of size cell first n d x b r en ex eb er = er ∙ rw (eb, ex, en)
+
+-- ---- the ranks of the groups' first subchannels, over all masks
+
+abbrev pub lowerGroups : List ℕ
+lowerGroups = 0 ∷ 1 ∷ 3 ∷ 7 ∷ 15 ∷ 31 ∷ []
+
+abbrev lower : ℕ → ℕ → ℕ
+lower mask g = bitAnd mask (entry lowerGroups g)
+
+pub lower-small : (mask g : ℕ) → mask < 64 → g < 6 → bitAnd mask (entry lowerGroups g) < 64
+lower-small mask g h l =
+    let f : ℕ → ℕ → Bool = λ m g. ltb (lower m g) 64 in
+    ltb→lt _ _ (all-at (f mask) 6 (all-at (λ m. all (f m) 6) 64 tt mask h) g l)
+
+pub lower-rank : (mask g : ℕ) → mask < 64 → g < 6 → rank (λ s. hasGroup (bitAnd mask (entry lowerGroups g)) (groupIn subchannelStarts s)) 60 ≡ groupRank mask g
+unfolding rank hasGroup groupIn
+lower-rank mask g h l =
+    let f : ℕ → ℕ → Bool = λ m g. eqb (rank (λ s. hasGroup (lower m g) (groupIn subchannelStarts s)) 60) (groupRank m g) in
+    eqb→eq _ _ (all-at (f mask) 6 (all-at (λ m. all (f m) 6) 64 tt mask h) g l)
+
+starts-lt : (g : ℕ) → g < 6 → entry subchannelStarts g < 60
+starts-lt g h = ltb→lt _ _ (all-at (λ g. ltb (entry subchannelStarts g) 60) 6 tt g h)
+
+pub rank-small : (mask g : ℕ) → g < 6 → groupRank mask g < 60
+rank-small mask g h = omega (arith, rank-most (λ s. hasGroup mask (groupIn subchannelStarts s)) (entry subchannelStarts g), starts-lt g h)
+
+-- ---- a logical cluster: what is noted of it, and how it is read
+
+module _ (mask : ℕ) (l : Logical) (h : l .0 < 120) where
+  abbrev g : ℕ
+  g = groupIn clusterStarts (l .0)
+
+  -- its place in the group
+  abbrev i : ℕ
+  i = l .0 - entry clusterStarts g
+
+  pub g-lt : g < 6
+  g-lt = cluster-runs .group-lt (l .0) h
+
+  pub start-le : entry clusterStarts g ≤ l .0
+  start-le = cluster-runs .start-le (l .0) h
+
+  place-lt : i < 2 * groupSize g
+  place-lt = cluster-runs .run-lt (l .0) h
+
+  -- twice the group's size, which is 12 or 8
+  pub place-small : i < 24
+  unfolding groupSize
+  place-small = let l = place-lt in cases (eqb (g % 2) 0) (λ e. let l′ : i < 2 * 12 = rw e at l in omega arith) (λ e. let l′ : i < 2 * 8 = rw e at l in omega arith)
+
+  pub place-odd : (g % 2 ≡ 0 → ⊥) → i < 16
+  unfolding groupSize
+  place-odd ne = let l = place-lt in let l′ : i < 2 * 8 = rw (ne-eqb (g % 2) 0 ne) at l in omega arith
+
+  -- each part is read again
+  module _ (e : ℕ) (q : e ≡ logicalEntry mask l) where
+    its-rank : e / 64 ≡ groupRank mask g
+    unfolding logicalEntry
+    its-rank = omega (arith, q, place-small)
+
+    its-parity : e / 32 % 2 ≡ g % 2
+    unfolding logicalEntry
+    its-parity = omega (arith, q, place-small)
+
+    its-place : e % 32 ≡ i
+    unfolding logicalEntry
+    its-place = omega (arith, q, place-small)
+
+-- ---- a physical cluster
+
+module _ (cell mask offset p : ℕ) (ho : offset < 2) (hp : p < 120) where
+  abbrev physical : Physical
+  physical = record { 0 = p }
+
+  abbrev logical : Logical
+  logical = renumber cell physical
+
+  logical-lt : logical .0 < 120
+  logical-lt = renumbering .logical-lt cell physical hp
+
+  abbrev group : ℕ
+  group = g mask logical logical-lt
+
+  abbrev place : ℕ
+  place = i mask logical logical-lt
+
+  -- where it is lit, its numbers start at the rank of the group's first subchannel
+  module _ (lit : hasGroup mask (usedGroup cell (p * 14)) ≡ true) (r : ℕ) (hr : r < 12) where
+    abbrev used : ℕ
+    used = p * 14 + clusterPlace offset r
+
+    at-place : OnPlace offset r
+    at-place = on-place offset r ho hr
+
+    its-logical : logicalOf cell used ≡ logical
+    unfolding logicalOf
+    its-logical = ap (λ (x : ℕ). renumber cell (record { 0 = x })) (digits-div p (at-place .place-lt))
+
+    its-group : usedGroup cell used ≡ group
+    unfolding usedGroup
+    its-group = ap (λ (l : Logical). groupIn clusterStarts (l .0)) its-logical
+
+    its-data : usedData cell offset used ≡ place * 12 + r
+    unfolding usedData
+    its-data = rw (its-group, its-logical, digits-mod p (at-place .place-lt), at-place .back)
+
+    group-lit : hasGroup mask group ≡ true
+    unfolding usedGroup logicalOf
+    group-lit = let z : p * 14 / 14 ≡ p = omega arith in ap (λ (x : ℕ). hasGroup mask (groupIn clusterStarts (renumber cell (record { 0 = x }) .0))) (sym z) ∙ lit
+
+    abbrev s : ℕ
+    s = groupSubchannel (groupSize group) cell (place * 12 + r)
+
+    s-lt : s < groupSize group
+    s-lt = subchannel-lt group cell (place * 12 + r)
+
+    its-rank-on : subchannelRank mask (entry subchannelStarts group + s) ≡ groupRank mask group + s
+    its-rank-on =
+        rank-run (λ x. hasGroup mask (groupIn subchannelStarts x)) (entry subchannelStarts group) s
+        (λ k h. ap (hasGroup mask) (subchannel-runs .group-of group k (g-lt mask logical logical-lt) (omega (arith, s-lt))) ∙ group-lit)
+
+    cluster-number : groupRank mask group * 48 + offset * 24 + pointOfData (groupSize group) cell (place * 12 + r) ≡ clusterNumber cell mask offset p r
+    unfolding clusterNumber addressOf pointOfData
+    cluster-number = rw (its-group, its-data, its-rank-on) (omega arith)
+
+  -- as they are worked out from what is noted
+  module _ (e : ℕ) (q : e ≡ clusterEntry cell mask p) where
+    noted : e ≡ logicalEntry mask logical
+    unfolding clusterEntry
+    noted = q
+
+    pub first-small : e / 64 < 60
+    first-small = rw (its-rank mask logical logical-lt e noted) (rank-small mask group (g-lt mask logical logical-lt))
+
+    pub place-even-lt : e % 32 < 24
+    place-even-lt = rw (its-place mask logical logical-lt e noted) (place-small mask logical logical-lt)
+
+    pub place-odd-lt : (e / 32 % 2 ≡ 0 → ⊥) → e % 32 < 16
+    place-odd-lt ne =
+        rw (its-place mask logical logical-lt e noted)
+        (place-odd mask logical logical-lt (λ z. ne (its-parity mask logical logical-lt e noted ∙ z)))
+
+    numbers-of : (size : ℕ) → groupSize group ≡ size → (row : List ℕ) → row ≡ tabulate 12 (λ r. e / 64 * 48 + offset * 24 + pointOfData size cell (e % 32 * 12 + r))
+        → hasGroup mask (usedGroup cell (p * 14)) ≡ true → Starts 12 (clusterNumber cell mask offset p) row
+    numbers-of size es row er lit r h =
+        entry-of row 12 _ er r h
+        ∙ rw (its-rank mask logical logical-lt e noted, its-place mask logical logical-lt e noted, ← es) (cluster-number lit r h)
+
+    pub numbers-12 : e / 32 % 2 ≡ 0 → (row : List ℕ) → row ≡ tabulate 12 (λ r. e / 64 * 48 + offset * 24 + pointOfData 12 cell (e % 32 * 12 + r))
+        → hasGroup mask (usedGroup cell (p * 14)) ≡ true → Starts 12 (clusterNumber cell mask offset p) row
+    unfolding groupSize
+    numbers-12 z = numbers-of 12 (rw (eq-eqb (group % 2) 0 (sym (its-parity mask logical logical-lt e noted) ∙ z)))
+
+    pub numbers-8 : (e / 32 % 2 ≡ 0 → ⊥) → (row : List ℕ) → row ≡ tabulate 12 (λ r. e / 64 * 48 + offset * 24 + pointOfData 8 cell (e % 32 * 12 + r))
+        → hasGroup mask (usedGroup cell (p * 14)) ≡ true → Starts 12 (clusterNumber cell mask offset p) row
+    unfolding groupSize
+    numbers-8 ne = numbers-of 8 (rw (ne-eqb (group % 2) 0 (λ z. ne (its-parity mask logical logical-lt e noted ∙ z))))

@@ -1,0 +1,2 @@
+-- The spots of a subchannel from the clusters of its group and its bases.
+mod Row
