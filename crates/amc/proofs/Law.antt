@@ -5,14 +5,14 @@ use native.Mathlib.Nat.{pos-of-ne-zero, mod-lt, mul-assoc, mul-comm, div-add-mod
 use native.Mathlib.Omega.{arith}
 use lib.Arith.{digits-div, digits-mod, digits-lt}
 use lib.Dec.{lit<}
-use Rattle.base.specs.Steps.{entry, unrotate}
+use Rattle.base.specs.Steps.{entry}
 use Rattle.base.proofs.Perm.{Perm, rotation}
 use Rattle.carriers.specs.declared.DataNumber.{DataNumber}
 use Rattle.carriers.specs.Law.{NumberLaw}
 use Rattle.amc.specs.declared.Shape.{Shape}
 use Rattle.amc.specs.Table.{positions}
 use Rattle.amc.specs.Element.{Element, baseSeven, twoDigits, add, subtract, sequence}
-use Rattle.amc.specs.Map.{off, zeroRule, sumOf, elementOf, traffic, indexOf, trafficNumber, dataNumber, addressOf}
+use Rattle.amc.specs.Map.{off, sumOf, elementOf, traffic, indexOf, trafficNumber, dataNumber, addressOf}
 use Rattle.amc.specs.Model.{IsShape}
 use Rattle.amc.proofs.Digit.{Proper, number-lt, digits-proper, digits-number, add-proper, subtract-proper, subtract-add, add-subtract, added-differs, subtracted-differs}
 use Rattle.amc.proofs.Tables.{powers, position-lt, at-position}
@@ -34,44 +34,30 @@ module _ (cell : ℕ) (range : cell < 2352) where
   turn-lt j = omega arith
 
   -- the sum of index j is not off, since no entry of P is zero
-  sum : ℕ → Element
+  abbrev sum : ℕ → Element
   sum j = add (sequence (turn j)) o
 
   sum-differs : (j : ℕ) → baseSeven (sum j) ≡ baseSeven o → ⊥
-  unfolding sum
   sum-differs j = added-differs (sequence (turn j)) o (powers (turn j) (turn-lt j) .proper) off-proper (powers (turn j) (turn-lt j) .nonzero)
-
-  sum-is-proper : (j : ℕ) → Proper (sum j)
-  unfolding sum
-  sum-is-proper j = add-proper (sequence (turn j)) o
 
   -- v + 1 is the element read in base seven
   pub traffic-number : (j : ℕ) → traffic cell j + 1 ≡ baseSeven (elementOf cell j)
-  unfolding traffic elementOf sum
-  traffic-number j = let n = rule-nonzero o (sum j) (sum-is-proper j) (sum-differs j) in omega (arith, pos-of-ne-zero n)
+  unfolding traffic elementOf
+  traffic-number j = let n = rule-nonzero o (sum j) (add-proper _ _) (sum-differs j) in omega (arith, pos-of-ne-zero n)
 
   pub element-proper : (j : ℕ) → Proper (elementOf cell j)
-  unfolding elementOf sum
-  element-proper j = rule-proper o (sum j) (sum-is-proper j) (sum-differs j) off-proper
+  unfolding elementOf
+  element-proper j = rule-proper o (sum j) (add-proper _ _) (sum-differs j) off-proper
 
   pub traffic-lt : (j : ℕ) → traffic cell j < 48
   traffic-lt j = omega (arith, traffic-number j, number-lt (elementOf cell j) (element-proper j))
 
-  -- the index of an element, which is that of v at the digits of v + 1
-  index : Element → ℕ
-  index e = unrotate 48 (cell % 48) (entry positions (baseSeven (subtract (sumOf o e) o)))
-
   pub index-traffic : (j : ℕ) → j < 48 → indexOf cell (traffic cell j) ≡ j
-  unfolding indexOf elementOf sum index
+  unfolding indexOf elementOf
   index-traffic j h =
-      let x = sequence (turn j) in
       let q = powers (turn j) (turn-lt j) in
-      ap (λ (v : ℕ). index (twoDigits v)) (traffic-number j)
-      ∙ ap index (digits-number (elementOf cell j) (element-proper j))
-      ∙ ap (λ (y : Element). unrotate 48 (cell % 48) (entry positions (baseSeven (subtract y o)))) (sum-back o (sum j) (sum-is-proper j) (sum-differs j))
-      ∙ ap (λ (y : Element). unrotate 48 (cell % 48) (entry positions (baseSeven y))) (subtract-add x o (q .proper))
-      ∙ ap (λ (y : ℕ). unrotate 48 (cell % 48) y) (q .position)
-      ∙ rotation 48 (cell % 48) (lit< tt) .back j h
+      rw (traffic-number j, digits-number (elementOf cell j) (element-proper j), sum-back o (sum j) (add-proper _ _) (sum-differs j), subtract-add (sequence (turn j)) o (q .proper), q .position)
+      (rotation 48 (cell % 48) (lit< tt) .back j h)
 
   module _ (v : ℕ) (h : v < 48) where
     abbrev pub e : Element
@@ -104,11 +90,7 @@ module _ (cell : ℕ) (range : cell < 2352) where
 
     pub traffic-index : traffic cell (indexOf cell v) ≡ v
     unfolding traffic elementOf
-    traffic-index =
-        ap (λ (s : Element). baseSeven (zeroRule o (add s o)) - 1) entry-at
-        ∙ ap (λ (s : Element). baseSeven (zeroRule o s) - 1) (add-subtract y o y-proper)
-        ∙ ap (λ (s : Element). baseSeven s - 1) (rule-back o e off-proper e-proper e-nonzero)
-        ∙ omega arith
+    traffic-index = rw (entry-at, add-subtract y o y-proper, rule-back o e off-proper e-proper e-nonzero) (omega arith)
 
   pub traffic-perm : Perm 48 (traffic cell) (indexOf cell)
   unfolding indexOf
