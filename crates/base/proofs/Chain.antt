@@ -114,6 +114,22 @@ pub yes-parts : (qs rs : Questions) → AllYes (qs ++ rs) → AllYes qs × AllYe
 yes-parts [] rs y = (tt, y)
 yes-parts (q ∷ qs) rs y = let p = yes-parts qs rs (y .1) in ((y .0, p .0), p .1)
 
+pub yes-both : (qs rs : Questions) → AllYes qs → AllYes rs → AllYes (qs ++ rs)
+yes-both [] rs y z = z
+yes-both (q ∷ qs) rs y z = (y .0, yes-both qs rs (y .1) z)
+
+-- where the answer is a value, all were answered yes and what comes after gave it
+pub all-accepted : {A : Type 0} (qs : Questions) (rest : Answer A) {a : A} → askAll qs rest ≡ accepted a → AllYes qs × (rest ≡ accepted a)
+all-accepted [] rest e = (tt, e)
+all-accepted (q ∷ qs) rest e =
+    let y = ask-yes (q .0) (q .1) (askAll qs rest) e in
+    let p = all-accepted qs rest (y .1) in
+    ((y .0, p .0), p .1)
+
+pub all-pass : {A : Type 0} (qs : Questions) (rest : Answer A) → AllYes qs → rest ≡ askAll qs rest
+all-pass [] rest y = refl
+all-pass (q ∷ qs) rest y = rw (y .0) (all-pass qs rest (y .1))
+
 -- before what comes after it, by the number that a function gave
 module _ {A : Type 0} (qs : Questions) (t : T (counted qs)) (rest : Answer A) (k : ℕ) (e : k ≡ firstNo qs) where
   pub is-refused : (k ≡ 0 → ⊥) → refused k ≡ askAll qs rest

@@ -10,10 +10,10 @@ use Rattle.map.specs.Mode.{subchannels}
 use Rattle.map.specs.Question.{isSlot}
 use Rattle.map.proofs.ByMode.{few}
 use Rattle.map.proofs.Accept.{slot-yes}
-use Rattle.plan.specs.declared.Zone.{Zone}
-use Rattle.plan.specs.Zone.{setupOf, askFields, fieldsRefusal}
-use Rattle.plan.proofs.Number.{fields-numbered}
-use Rattle.plan.proofs.Judge.{fields-valid, fields-slots}
+use Rattle.zone.specs.declared.Zone.{Zone}
+use Rattle.zone.specs.Zone.{setupOf, askFields, fieldsRefusal}
+use Rattle.zone.proofs.Number.{fields-numbered}
+use Rattle.zone.proofs.Judge.{fields-valid, fields-slots}
 use Rattle.bursts.specs.declared.Owned.{Owned}
 use Rattle.bursts.specs.Burst.{burstAt, burstCount, isCovering, checkOf}
 use Rattle.bursts.specs.Owner.{position, noOwner, ownerAt, lookedAt, askOwner, owned, ownerOf, rowAt, askOwners, ownerRow, ownersOf}

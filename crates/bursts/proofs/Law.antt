@@ -16,9 +16,9 @@ use Rattle.base.proofs.Chain.{number-yes, numbered-zero, chain-yes}
 use Rattle.map.specs.Mode.{subchannels}
 use Rattle.map.specs.Question.{isSlot, isSubchannel}
 use Rattle.map.proofs.Accept.{slot-yes, subchannel-yes}
-use Rattle.plan.specs.declared.Zone.{Zone}
-use Rattle.plan.specs.Zone.{setupOf, askFields, fieldsRefusal}
-use Rattle.plan.proofs.Number.{fields-numbered}
+use Rattle.zone.specs.declared.Zone.{Zone}
+use Rattle.zone.specs.Zone.{setupOf, askFields, fieldsRefusal}
+use Rattle.zone.proofs.Number.{fields-numbered}
 use Rattle.bursts.specs.declared.Owned.{Owned}
 use Rattle.bursts.specs.declared.OwnerRow.{OwnerRow}
 use Rattle.bursts.specs.Burst.{burstAt, burstCount, isCovering, isInside, isOverlap, isApart, askBursts, checkOf}

@@ -16,8 +16,8 @@ use Rattle.base.proofs.Test.{cases, true-false}
 use Rattle.base.proofs.Tabulate.{getD-tabulate, tabulated, length-tabulate}
 use Rattle.map.specs.Mode.{subchannels}
 use Rattle.map.specs.Question.{isSubchannel}
-use Rattle.plan.specs.declared.Zone.{Zone}
-use Rattle.plan.specs.Zone.{setupOf, fieldsRefusal}
+use Rattle.zone.specs.declared.Zone.{Zone}
+use Rattle.zone.specs.Zone.{setupOf, fieldsRefusal}
 use Rattle.base.specs.First.{firstOf}
 use Rattle.bursts.specs.Burst.{burstAt, burstCount, isOf, isCovering, isOverlap, isApart}
 use Rattle.bursts.specs.Owner.{noOwner, ownerAt, lookedAt, rowAt}

@@ -8,8 +8,8 @@ use Rattle.base.specs.Choice.{pick}
 use Rattle.base.specs.Answer.{Answer, accepted, ask, refusalOf}
 use Rattle.base.specs.Steps.{entry}
 use Rattle.map.specs.Mode.{subchannels}
-use Rattle.plan.specs.declared.Zone.{Zone}
-use Rattle.plan.specs.Zone.{setupOf, askFields}
+use Rattle.zone.specs.declared.Zone.{Zone}
+use Rattle.zone.specs.Zone.{setupOf, askFields}
 use Rattle.bursts.specs.declared.Burst.{Burst}
 use Rattle.base.specs.First.{isNone}
 

@@ -7,8 +7,8 @@ use lib.ListN.{length}
 use Rattle.base.specs.Steps.{entry}
 use Rattle.map.specs.Mode.{subchannels}
 use Rattle.mask.specs.Mask.{isMask}
-use Rattle.plan.specs.declared.Zone.{Zone}
-use Rattle.plan.specs.Zone.{setupOf, fieldsRefusal}
+use Rattle.zone.specs.declared.Zone.{Zone}
+use Rattle.zone.specs.Zone.{setupOf, fieldsRefusal}
 use Rattle.bursts.specs.Burst.{burstAt, burstCount, isCovering, checkOf}
 use Rattle.bursts.specs.Owner.{noOwner, ownerOf, ownersOf}
 

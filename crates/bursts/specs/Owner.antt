@@ -6,8 +6,8 @@ use Rattle.base.specs.Choice.{pick}
 use Rattle.base.specs.Answer.{Answer, accepted, refused, ask}
 use Rattle.base.specs.Tabulate.{tabulate}
 use Rattle.map.specs.Question.{isSlot, isSubchannel}
-use Rattle.plan.specs.declared.Zone.{Zone}
-use Rattle.plan.specs.Zone.{setupOf, askFields}
+use Rattle.zone.specs.declared.Zone.{Zone}
+use Rattle.zone.specs.Zone.{setupOf, askFields}
 use Rattle.bursts.specs.declared.Owned.{Owned}
 use Rattle.bursts.specs.declared.OwnerRow.{OwnerRow}
 use Rattle.base.specs.First.{firstOf}

@@ -1,12 +1,12 @@
 // Bursts: a list of rectangles of subchannels by slots in one zone, and which of them owns a subchannel in a slot.
 use map::Setup;
-use plan::Zone;
+use zone::Zone;
 ghost use mathlib.Core.Path.{_≡_};
 ghost use Prim.Native.Nat.{_+_, _*_, _<_, _≤_};
 ghost use lib.ListN.{length};
 ghost use Rattle.base.specs.Tabulate.{tabulate};
 ghost use Rattle.map.specs.Mode.{subchannels as Subchannels};
-ghost use Rattle.plan.specs.Zone.{setupOf};
+ghost use Rattle.zone.specs.Zone.{setupOf};
 ghost use Rattle.base.specs.First.{isNone};
 ghost use Rattle.bursts.specs.Burst.{burstAt, isOf, isCovering, isWithin, isInside, isShared, checkOf};
 ghost use Rattle.bursts.specs.Owner.{position as Position, noOwner, ownerAt, lookedAt, ownerOf, ownersOf};
@@ -183,7 +183,7 @@ fn subchannels(size: usize, zone: Zone) -> usize
 pub fn check(size: usize, zone: Zone, bursts: &[u32]) -> u8
     ensures { λ r. ⌜ r ≡ checkOf size zone (now (bursts .entry)) ⌝ }
 {
-    let fields = plan::fields_refusal(size, zone);
+    let fields = zone::fields_refusal(size, zone);
     if fields != 0 {
         return fields;
     }
@@ -226,7 +226,7 @@ fn first_owner(slot: usize, subchannel: usize, bursts: &[u32]) -> Owned
 pub fn owner(size: usize, zone: Zone, slot: usize, subchannel: usize, bursts: &[u32]) -> Owned
     ensures { λ r. ⌜ r ≡ ownerOf size zone slot subchannel (now (bursts .entry)) ⌝ }
 {
-    let fields = plan::fields_refusal(size, zone);
+    let fields = zone::fields_refusal(size, zone);
     if fields != 0 {
         return refused(fields);
     }
@@ -301,7 +301,7 @@ fn refused_row(number: u8) -> OwnerRow
 pub fn owners(size: usize, zone: Zone, slot: usize, bursts: &[u32]) -> OwnerRow
     ensures { λ r. ⌜ r ≡ ownersOf size zone slot (now (bursts .entry)) ⌝ }
 {
-    let fields = plan::fields_refusal(size, zone);
+    let fields = zone::fields_refusal(size, zone);
     if fields != 0 {
         return refused_row(fields);
     }

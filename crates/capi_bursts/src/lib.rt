@@ -1,5 +1,5 @@
 // The C calls over lists of bursts. Each returns 0, or document 01's refusal number; on a refusal nothing is written.
-use plan::Zone;
+use zone::Zone;
 ghost use mathlib.Core.Path.{_≡_};
 ghost use Rattle.bursts.specs.Burst.{checkOf};
 ghost use Rattle.bursts.specs.Owner.{ownerOf, ownersOf};

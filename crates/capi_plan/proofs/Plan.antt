@@ -4,11 +4,11 @@ use mathlib.Core.List.{List}
 use Prim.Native.Nat.{ℕ, _≤_}
 use borrow.Author.Tests.{eq-eqb, ne-eqb}
 use Rattle.plan.specs.declared.Plan.{Plan}
-use Rattle.plan.specs.declared.ReadPlan.{ReadPlan}
-use Rattle.plan.specs.declared.Written.{Written}
-use Rattle.plan.specs.declared.Written.the-variants.{Bytes}
-use Rattle.plan.specs.Write.{writeOf, written}
-use Rattle.plan.proofs.Round.{written-51}
+use Rattle.plan_read.specs.declared.ReadPlan.{ReadPlan}
+use Rattle.plan_write.specs.declared.Written.{Written}
+use Rattle.plan_write.specs.declared.Written.the-variants.{Bytes}
+use Rattle.plan_write.specs.Write.{writeOf, written}
+use Rattle.plan_write.proofs.Round.{written-51}
 use Rattle.plan_numbers.specs.Numbers.{numbersOf}
 use Rattle.capi_plan.specs.Plan.{readOut, writeOut}
 

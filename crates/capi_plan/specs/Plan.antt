@@ -4,8 +4,8 @@ use Prim.Native.Nat.{ℕ}
 use lib.Dec.{eqb}
 use Rattle.base.specs.Answer.{Answer, accepted, refused}
 use Rattle.base.specs.Choice.{pick}
-use Rattle.plan.specs.declared.ReadPlan.{ReadPlan}
-use Rattle.plan.specs.Write.{AfterWrite}
+use Rattle.plan_read.specs.declared.ReadPlan.{ReadPlan}
+use Rattle.plan_write.specs.Write.{AfterWrite}
 use Rattle.plan_numbers.specs.Numbers.{numbersOf}
 
 pub record ReadOut : Type 0 where

@@ -1,8 +1,8 @@
 // The C calls over zone plans. Each returns 0, or document 01's refusal number; on a refusal nothing is written.
-use plan::Written;
+use plan_write::Written;
 ghost use mathlib.Core.Path.{_≡_};
-ghost use Rattle.plan.specs.Read.{planOf, answered};
-ghost use Rattle.plan.specs.Write.{writeOf};
+ghost use Rattle.plan_read.specs.Read.{planOf, answered};
+ghost use Rattle.plan_write.specs.Write.{writeOf};
 ghost use Rattle.plan_numbers.specs.Numbers.{planIn};
 ghost use Rattle.capi_plan.specs.Plan.{ReadOut, readOut, WriteOut, writeOut};
 
@@ -15,7 +15,7 @@ pub extern "C" fn bp_zone_plan_read(
 ) -> u32
     ensures { λ r. ⌜ record { refusal = r; count = now (count .exit); size = now (size .exit); zones = now (zones .exit) } ≡ readOut (answered (planOf (now (bytes .entry)))) (now (count .entry)) (now (size .entry)) (now (zones .entry)) ⌝ }
 {
-    let answer = plan::read(bytes);
+    let answer = plan_read::read(bytes);
     if answer.refusal != 0 {
         return answer.refusal as u32;
     }
@@ -38,7 +38,7 @@ pub extern "C" fn bp_zone_plan_write(
     ensures { λ r. ⌜ record { refusal = r; written = now (written .exit); dest = now (dest .exit) } ≡ writeOut (writeOf (planIn count size (now (zones .entry))) (now (dest .entry))) (now (written .entry)) ⌝ }
 {
     let plan = plan_numbers::plan_in(count, size, zones);
-    let answer = plan::write(plan, dest);
+    let answer = plan_write::write(plan, dest);
     match answer {
         Written::Bytes(n) => {
             *written = n as u32;

@@ -10,8 +10,9 @@ use Rattle.centre.specs.Centre.{fromDc, inRange, onRow}
 use Rattle.map.specs.Place.{usedCarrier, placeOf, locateOf, placeAt, contentOf, dataAt}
 use Rattle.collision.specs.Collision.{countOf, indexIn, columnIn, ofuscHit, amcHit, answerOf, ofuscOf, amcOf}
 use Rattle.mask.specs.Mask.{isMask}
-use Rattle.plan.specs.Zone.{isZoneMode, each}
-use Rattle.plan.proofs.Points.{any-first-cell, first-refusals, amc-after-amc, others-after-amc, faults-in-order, mask-outside, masks-refused}
+use Rattle.zone.specs.Zone.{isZoneMode}
+use Rattle.plan.specs.Plan.{each}
+use Rattle.plan_read.proofs.Points.{any-first-cell, first-refusals, amc-after-amc, others-after-amc, faults-in-order, mask-outside, masks-refused}
 use Rattle.base.specs.First.{firstOf}
 use Rattle.bursts.specs.Owner.{ownerAt, lookedAt, ownerOf}
 use Rattle.known.specs.Table.{Known, AnyCell, setFrom, groups, indices, bursts, corner, check, owner, owns, refusal}

@@ -8,7 +8,7 @@ use lib.ListN.{length, take, getD, length-append}
 use lib.Seq.{take-suc, take-all}
 use Rattle.text.specs.Text.{Put}
 use Rattle.text.proofs.Laws.{put-none, put-then}
-use Rattle.plan.specs.Zone.{each}
+use Rattle.plan.specs.Plan.{each}
 
 module _ {A : Type 0} (part : A → List ℕ) where
   each-append : (xs ys : List A) → each part (xs ++ ys) ≡ each part xs ++ each part ys

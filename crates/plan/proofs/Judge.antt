@@ -1,149 +1,103 @@
--- The questions put to zones, and what a yes to all of them says.
-use mathlib.Core.Path.{_≡_, refl, _∙_}
+-- The questions put to a plan as a list, what a yes to all of them says, and what they come to by the numbers that functions gave.
+use mathlib.Core.Path.{_≡_, refl, sym, ap, _∙_}
 use mathlib.Core.Bool.{true}
-use mathlib.Core.List.{List, [], _∷_}
-use Prim.Native.Nat.{ℕ, zero, suc, _+_, _-_, _*_, _/_, _<_, _≤_}
-use native.Mathlib.Nat.{mul-le-mul}
+use mathlib.Core.List.{List, [], _∷_, _++_}
+use Prim.Native.Nat.{ℕ, zero, suc, _+_, _-_, _<_, _≤_}
 use native.Mathlib.Omega.{arith}
-use lib.Dec.{eqb, ltb}
-use lib.ListN.{length, drop, getD}
-use lib.Seq.{getD-take, getD-drop, length-take-le}
-use borrow.Author.Tests.{eqb-true, lt-ltb, ltb-true, ltb-false}
-use Rattle.base.specs.Answer.{Answer, accepted}
-use Rattle.base.proofs.Chain.{ask-yes, yes-all, number-yes}
+use lib.Dec.{T, ltb}
+use lib.ListN.{length, take, drop, getD}
+use lib.Seq.{getD-take, getD-drop}
+use borrow.Author.Tests.{ltb-true, ltb-false}
+use Rattle.base.specs.Answer.{Answer, accepted, refused, refusalOf}
+use Rattle.base.proofs.Chain.{Questions, askAll, firstNo, AllYes, counted, all-yes, yes-parts, all-accepted, all-pass, is-refused}
 use Rattle.base.proofs.Test.{cases, both-true, up-to}
-use Rattle.map.specs.declared.Setup.{Setup}
-use Rattle.map.specs.Mode.{cells, width}
-use Rattle.map.specs.Question.{isMode, isFourSizes, isSize, isCell}
-use Rattle.map.specs.Model.{Valid}
-use Rattle.map.proofs.Accept.{valid, size-most}
-use Rattle.mask.specs.Mask.{isMask}
-use Rattle.mask.proofs.Law.{mask-small}
-use Rattle.plan.specs.declared.Zone.{Zone}
+use Rattle.map.specs.Question.{isFourSizes, isSize}
+use Rattle.map.proofs.Accept.{size-most}
+use Rattle.zone.specs.declared.Zone.{Zone}
+use Rattle.zone.specs.declared.Before.{Before}
+use Rattle.zone.specs.declared.Before.the-variants.{First, After}
+use Rattle.zone.specs.Zone.{askZone, unused, isUnused}
+use Rattle.zone.specs.Model.{zoneRefusal, Small}
+use Rattle.zone.proofs.Number.{zoneQuestions, zone-no, zone-passed}
+use Rattle.zone.proofs.Judge.{small, unused-is, small-unused}
 use Rattle.plan.specs.declared.Plan.{Plan}
-use Rattle.plan.specs.declared.Before.{Before}
-use Rattle.plan.specs.declared.Before.the-variants.{First, After}
-use Rattle.plan.specs.Zone.{isCount, isZoneMode, setupOf, isSlots, isOrder, fieldsRefusal, askZone, unused}
-use Rattle.plan.specs.Write.{isUnused, areUnused, usedZones, askZones, askPlan}
-use Rattle.plan.specs.Model.{planRefusal, Small}
-use Rattle.plan.proofs.Places.{unused-is}
-use Rattle.plan.proofs.Number.{plan-numbered}
+use Rattle.plan.specs.Plan.{isCount, areUnused, usedZones, askZones, askPlan}
+use Rattle.plan.specs.Model.{zonesRefusal, planRefusal}
+use Rattle.plan.proofs.Places.{used-next, used-none}
 
--- a zone that every question lets pass
-pub record Passed (size : ℕ) (before : Before) (z : Zone) : Type 0 where
-  pub mode-is : isZoneMode (z .mode) ≡ true
-  pub size-is : isSize (setupOf size z) ≡ true
-  pub cell-is : isCell (setupOf size z) ≡ true
-  pub slots-are : isSlots (z .slots) ≡ true
-  pub mask-is : isMask (z .mode) (z .mask) ≡ true
-  pub order-is : isOrder before size z ≡ true
+-- ---- the zones one after the other
 
-module _ {A : Type 0} (size : ℕ) (before : Before) (z : Zone) (rest : Answer A) where
-  pub zone-yes : {a : A} → askZone size before z rest ≡ accepted a → Passed size before z × (rest ≡ accepted a)
-  zone-yes e =
-      let e₁ = ask-yes (isZoneMode (z .mode)) 1 _ e in
-      let e₂ = ask-yes (isSize (setupOf size z)) 2 _ (e₁ .1) in
-      let e₃ = ask-yes (isCell (setupOf size z)) 3 _ (e₂ .1) in
-      let e₄ = ask-yes (isSlots (z .slots)) 13 _ (e₃ .1) in
-      let e₅ = ask-yes (isMask (z .mode) (z .mask)) 17 _ (e₄ .1) in
-      let e₆ = ask-yes (isOrder before size z) 14 rest (e₅ .1) in
-      (record { mode-is = e₁ .0; size-is = e₂ .0; cell-is = e₃ .0; slots-are = e₄ .0; mask-is = e₅ .0; order-is = e₆ .0 }, e₆ .1)
+abbrev pub zonesQuestions : (size : ℕ) (before : Before) (zones : List Zone) → Questions
+zonesQuestions size before [] = []
+zonesQuestions size before (z ∷ zones) = zoneQuestions size before z ++ zonesQuestions size (After (z .mode)) zones
 
-  pub zone-passes : Passed size before z → askZone size before z rest ≡ rest
-  zone-passes p = rw (p .mode-is, p .size-is, p .cell-is, p .slots-are, p .mask-is, p .order-is)
-
--- zones that every question lets pass, one after the other
-pub data Judged (size : ℕ) : Before → List Zone → Type 0 where
-  none : {before : Before} → Judged size before []
-  then : {before : Before} {z : Zone} {zones : List Zone} → Passed size before z → Judged size (After (z .mode)) zones → Judged size before (z ∷ zones)
-
-zones-yes : {A : Type 0} (size : ℕ) (before : Before) (zones : List Zone) (rest : Answer A) {a : A} → askZones size before zones rest ≡ accepted a → Judged size before zones × (rest ≡ accepted a)
+zones-asked : {A : Type 0} (size : ℕ) (before : Before) (zones : List Zone) (rest : Answer A) → askZones size before zones rest ≡ askAll (zonesQuestions size before zones) rest
 unfolding askZones
-zones-yes size before [] rest e = (none, e)
-zones-yes size before (z ∷ zones) rest e =
-    let h = zone-yes size before z (askZones size (After (z .mode)) zones rest) e in
-    let k = zones-yes size (After (z .mode)) zones rest (h .1) in
-    (then (h .0) (k .0), k .1)
+zones-asked size before [] rest = refl
+zones-asked size before (z ∷ zones) rest = ap (askZone size before z) (zones-asked size (After (z .mode)) zones rest)
 
-zones-pass : {A : Type 0} {size : ℕ} {before : Before} {zones : List Zone} (rest : Answer A) → Judged size before zones → askZones size before zones rest ≡ rest
-unfolding askZones
-zones-pass rest none = refl
-zones-pass rest (then {before = before} {z = z} {zones = zones} p j) = zone-passes _ before z (askZones _ (After (z .mode)) zones rest) p ∙ zones-pass rest j
+zones-counted : (size : ℕ) (before : Before) (zones : List Zone) → T (counted (zonesQuestions size before zones))
+zones-counted size before [] = tt
+zones-counted size before (z ∷ zones) = zones-counted size (After (z .mode)) zones
 
--- the values of such a zone are small
-mode-small : (m : ℕ) → isZoneMode m ≡ true → m < 7
-unfolding isZoneMode
-mode-small m e =
-    cases (eqb m 1)
-    (λ t. omega (arith, eqb-true m 1 t))
-    (λ f. ltb-true m 7 (rw f at e))
+zones-small : (size : ℕ) (before : Before) (zones : List Zone) (k : ℕ) → AllYes (zonesQuestions size before zones) → Small (getD zones k unused)
+zones-small size before [] k y = small-unused
+zones-small size before (z ∷ zones) zero y = small size z before (yes-parts (zoneQuestions size before z) (zonesQuestions size (After (z .mode)) zones) y .0)
+zones-small size before (z ∷ zones) (suc k) y = zones-small size (After (z .mode)) zones k (yes-parts (zoneQuestions size before z) (zonesQuestions size (After (z .mode)) zones) y .1)
 
--- where a zone's own questions are all answered yes, its setup is valid and its slots are few
-module _ (size : ℕ) (z : Zone) (e : fieldsRefusal size z ≡ 0) where
-  fields-passed : (isZoneMode (z .mode) ≡ true) × (isSize (setupOf size z) ≡ true) × (isCell (setupOf size z) ≡ true) × (isSlots (z .slots) ≡ true)
-  unfolding fieldsRefusal
-  fields-passed =
-      let e₁ = number-yes (isZoneMode (z .mode)) 0 _ e in
-      let e₂ = number-yes (isSize (setupOf size z)) 1 _ (e₁ .1) in
-      let e₃ = number-yes (isCell (setupOf size z)) 2 _ (e₂ .1) in
-      let e₄ = number-yes (isSlots (z .slots)) 12 _ (e₃ .1) in
-      (e₁ .0, e₂ .0, e₃ .0, e₄ .0)
+module _ (size : ℕ) (before : Before) (zones : List Zone) (count k : ℕ) (m : count ≤ length zones) where
+  module _ {n : ℕ} (h : k < count) (e : n ≡ zoneRefusal size before (getD zones k unused)) where
+    pub zones-no : (n ≡ 0 → ⊥) → n ≡ zonesRefusal size before (drop k (take count zones))
+    unfolding zonesRefusal askZones
+    zones-no f = rw (used-next zones count k h m) (ap refusalOf (zone-no size before (getD zones k unused) _ n e f))
 
-  pub fields-valid : Valid (setupOf size z)
-  unfolding isMode
-  fields-valid = valid (setupOf size z) (lt-ltb (z .mode) 7 (mode-small (z .mode) (fields-passed .0))) (fields-passed .1) (fields-passed .2)
+    pub zones-next : n ≡ 0 → zonesRefusal size (After (getD zones k unused .mode)) (drop (k + 1) (take count zones)) ≡ zonesRefusal size before (drop k (take count zones))
+    unfolding zonesRefusal askZones
+    zones-next z = rw (used-next zones count k h m) (ap refusalOf (zone-passed size before (getD zones k unused) _ n e z))
 
-  pub fields-slots : z .slots ≤ 512
-  fields-slots = up-to 512 (z .slots) (fields-passed .3)
+  pub zones-end : count ≤ k → 0 ≡ zonesRefusal size before (drop k (take count zones))
+  unfolding zonesRefusal askZones
+  zones-end h = rw (used-none zones count k h m)
 
-cells-small : (setup : Setup) → setup .size ≤ 2048 → cells setup ≤ 2352
-unfolding cells width
-cells-small setup h =
-    cases (eqb (setup .mode) 0)
-    (λ e₀. rw e₀ (omega arith))
-    (λ n₀. cases (eqb (setup .mode) 1)
-    (λ e₁. rw (n₀, e₁) (omega arith))
-    (λ n₁. cases (eqb (setup .mode) 2)
-    (λ e₂. rw (n₀, n₁, e₂) (omega (arith, square)))
-    (λ n₂. cases (ltb (setup .mode) 7)
-    (λ e₃. rw (n₀, n₁, n₂, e₃) (omega arith))
-    (λ n₃. rw (n₀, n₁, n₂, n₃) (omega arith)))))
-  where
-    square : setup .size / 64 * (setup .size / 64) ≤ 32 * 32
-    square = mul-le-mul {n₂ = 32} {m₂ = 32} (omega arith) (omega arith)
+-- ---- the plan
 
-pub small : {size : ℕ} {before : Before} {z : Zone} → Passed size before z → Small z
-unfolding isCell
-small {size} {before} {z} p =
-    record {
-      mode-most = mode-small (z .mode) (p .mode-is);
-      cell-most = omega (arith, ltb-true (z .cell) (cells (setupOf size z)) (p .cell-is), cells-small (setupOf size z) (size-most (setupOf size z) (p .size-is)));
-      slots-most = up-to 512 (z .slots) (p .slots-are);
-      mask-most = omega (arith, mask-small (z .mode) (z .mask) (p .mask-is));
-    }
+abbrev pub planQuestions : (p : Plan) → Questions
+planQuestions p = (isCount (p .count), 12) ∷ (areUnused (drop (p .count) (p .zones)), 12) ∷ (isFourSizes (p .size), 2) ∷ zonesQuestions (p .size) First (usedZones p)
 
-zones-small : {size : ℕ} {before : Before} (zones : List Zone) (k : ℕ) → Judged size before zones → k < length zones → Small (getD zones k unused)
-zones-small [] k none h = absurd (omega arith)
-zones-small (z ∷ zones) zero (then p j) h = small p
-zones-small (z ∷ zones) (suc k) (then p j) h = zones-small zones k j (omega arith)
+pub plan-asked : {A : Type 0} (p : Plan) (rest : Answer A) → askPlan p rest ≡ askAll (planQuestions p) rest
+plan-asked p rest = rw (zones-asked (p .size) First (usedZones p) rest)
 
 -- a plan that every question lets pass
 pub record Fit (p : Plan) : Type 0 where
   pub count-is : isCount (p .count) ≡ true
   pub unused-are : areUnused (drop (p .count) (p .zones)) ≡ true
   pub size-is : isFourSizes (p .size) ≡ true
-  pub judged : Judged (p .size) First (usedZones p)
+  pub judged : AllYes (zonesQuestions (p .size) First (usedZones p))
 
-pub plan-yes : {A : Type 0} (p : Plan) (rest : Answer A) {a : A} → askPlan p rest ≡ accepted a → Fit p × (rest ≡ accepted a)
-plan-yes p rest e =
-    let e₁ = ask-yes (isCount (p .count)) 12 _ e in
-    let e₂ = ask-yes (areUnused (drop (p .count) (p .zones))) 12 _ (e₁ .1) in
-    let e₃ = ask-yes (isFourSizes (p .size)) 2 _ (e₂ .1) in
-    let e₄ = zones-yes (p .size) First (usedZones p) rest (e₃ .1) in
-    (record { count-is = e₁ .0; unused-are = e₂ .0; size-is = e₃ .0; judged = e₄ .0 }, e₄ .1)
+module _ (p : Plan) where
+  fit : AllYes (planQuestions p) → Fit p
+  fit y = record { count-is = y .0; unused-are = y .1 .0; size-is = y .1 .1 .0; judged = y .1 .1 .1 }
 
-pub plan-passes : {A : Type 0} {p : Plan} (rest : Answer A) → Fit p → askPlan p rest ≡ rest
-plan-passes rest f = rw (f .count-is, f .unused-are, f .size-is) (zones-pass rest (f .judged))
+  module _ {A : Type 0} (rest : Answer A) where
+    pub plan-yes : {a : A} → askPlan p rest ≡ accepted a → Fit p × (rest ≡ accepted a)
+    plan-yes e = let y = all-accepted (planQuestions p) rest (sym (plan-asked p rest) ∙ e) in (fit (y .0), y .1)
+
+    pub plan-passes : Fit p → rest ≡ askPlan p rest
+    plan-passes f = all-pass (planQuestions p) rest (f .count-is, (f .unused-are, (f .size-is, f .judged))) ∙ sym (plan-asked p rest)
+
+  -- by the number that a function gave
+  counted-all : T (counted (planQuestions p))
+  counted-all = zones-counted (p .size) First (usedZones p)
+
+  number-is : planRefusal p ≡ firstNo (planQuestions p)
+  unfolding planRefusal
+  number-is = ap refusalOf (plan-asked p (accepted tt))
+
+  pub fit-of : planRefusal p ≡ 0 → Fit p
+  fit-of e = fit (all-yes (planQuestions p) counted-all (sym number-is ∙ e))
+
+  pub plan-no : {A : Type 0} (rest : Answer A) (k : ℕ) → k ≡ planRefusal p → (k ≡ 0 → ⊥) → refused k ≡ askPlan p rest
+  plan-no rest k e h = is-refused (planQuestions p) counted-all rest k (e ∙ number-is) h ∙ sym (plan-asked p rest)
 
 pub count-most : (n : ℕ) → isCount n ≡ true → n ≤ 8
 count-most n e = up-to 8 n e
@@ -152,21 +106,12 @@ pub size-small : (size : ℕ) → isFourSizes size ≡ true → size ≤ 2048
 unfolding isSize
 size-small z e = size-most (record { mode = 2; size = z; cell = 0 }) e
 
--- a plan whose number is 0 is such a plan
-pub fit-of : (p : Plan) → planRefusal p ≡ 0 → Fit p
-fit-of p e =
-    let end : Answer (Unit {0}) = accepted tt in
-    plan-yes p end {a = tt} (plan-numbered p end ∙ yes-all (planRefusal p) end e) .0
+-- the values of its zones are small, and so are those of all its places
+pub fit-small : {p : Plan} → Fit p → (k : ℕ) → Small (getD (usedZones p) k unused)
+fit-small {p} f k = zones-small (p .size) First (usedZones p) k (f .judged)
 
--- and the values of all its places are small
-pub used-small : (p : Plan) (k : ℕ) → Fit p → length (p .zones) ≡ 8 → k < p .count → Small (getD (p .zones) k unused)
-used-small p k f e h =
-    let most = count-most (p .count) (f .count-is) in
-    rw (getD-take (p .count) (p .zones) k unused h) at
-    (zones-small (usedZones p) k (f .judged) (rw (length-take-le (p .count) (p .zones) (omega arith)) h))
-
-small-unused : Small unused
-small-unused = record { mode-most = omega arith; cell-most = omega arith; slots-most = omega arith; mask-most = omega arith }
+pub used-small : {p : Plan} → Fit p → (k : ℕ) → k < p .count → Small (getD (p .zones) k unused)
+used-small {p} f k h = rw (getD-take (p .count) (p .zones) k unused h) at (fit-small f k)
 
 pub unused-small : (zones : List Zone) (k : ℕ) → areUnused zones ≡ true → Small (getD zones k unused)
 unfolding areUnused
@@ -174,9 +119,9 @@ unused-small [] k e = small-unused
 unused-small (z ∷ zones) zero e = rw (← unused-is z (both-true (isUnused z) (areUnused zones) e .0)) small-unused
 unused-small (z ∷ zones) (suc k) e = unused-small zones k (both-true (isUnused z) (areUnused zones) e .1)
 
-pub all-small : (p : Plan) → Fit p → length (p .zones) ≡ 8 → (k : ℕ) → Small (getD (p .zones) k unused)
-all-small p f l k =
+pub all-small : {p : Plan} → Fit p → (k : ℕ) → Small (getD (p .zones) k unused)
+all-small {p} f k =
     cases (ltb k (p .count))
-    (λ e. used-small p k f l (ltb-true k (p .count) e))
+    (λ e. used-small f k (ltb-true k (p .count) e))
     (λ e. let past : p .count + (k - p .count) ≡ k = omega (arith, ltb-false k (p .count) e) in
     rw (getD-drop (p .count) (p .zones) (k - p .count) unused, past) at (unused-small (drop (p .count) (p .zones)) (k - p .count) (f .unused-are)))

@@ -1,10 +1,3 @@
-pub mod Points
 pub mod Places
-pub mod Number
 pub mod Judge
-pub mod Step
 pub mod Each
-pub mod Bytes
-pub mod Round
-pub mod Decide
-pub mod Law

@@ -1,19 +1,17 @@
 -- The laws of a plan's places.
 use mathlib.Core.Path.{_≡_, refl, sym, ap, ap₂, _∙_}
-use mathlib.Core.Bool.{Bool, true, false}
+use mathlib.Core.Bool.{true, false}
 use mathlib.Core.List.{List, [], _∷_, _++_, map}
 use Prim.Native.Nat.{ℕ, zero, suc, _+_, _<_, _≤_}
 use native.Mathlib.Omega.{arith}
-use lib.Dec.{eqb}
 use native.Mathlib.Numerals.{add-one}
 use lib.ListN.{length, take, drop, getD, set, length-map, drop-of-length-le}
 use lib.Seq.{drop-cons, getD-take, length-take-le}
-use borrow.Author.Tests.{eqb-true}
-use Rattle.base.specs.Choice.{pick}
 use Rattle.base.proofs.Test.{both-true}
-use Rattle.plan.specs.declared.Zone.{Zone}
-use Rattle.plan.specs.Zone.{unused, inPlaces}
-use Rattle.plan.specs.Write.{isUnused, areUnused}
+use Rattle.zone.specs.declared.Zone.{Zone}
+use Rattle.zone.specs.Zone.{unused, isUnused}
+use Rattle.zone.proofs.Judge.{unused-is}
+use Rattle.plan.specs.Plan.{inPlaces, areUnused}
 
 -- what owning an array of structs tells of its length
 pub length-mapped : (X Y : Type 0) (f : X → Y) (l : List X) (n : ℕ) → length (map f l) ≡ n → length l ≡ n
@@ -54,14 +52,6 @@ drop-places zero [] h = refl
 drop-places (suc n) [] h = drop-places n [] (omega arith)
 drop-places zero (z ∷ zones) h = absurd (omega arith)
 drop-places (suc n) (z ∷ zones) h = drop-places n zones (omega arith)
-
-pub unused-is : (z : Zone) → isUnused z ≡ true → unused ≡ z
-unfolding isUnused
-unused-is z e =
-    let h = both-true (eqb (z .mode) 0) (pick (eqb (z .cell) 0) (pick (eqb (z .slots) 0) (eqb (z .mask) 0) false) false) e in
-    let k = both-true (eqb (z .cell) 0) (pick (eqb (z .slots) 0) (eqb (z .mask) 0) false) (h .1) in
-    let l = both-true (eqb (z .slots) 0) (eqb (z .mask) 0) (k .1) in
-    rw (eqb-true (z .mode) 0 (h .0), eqb-true (z .cell) 0 (k .0), eqb-true (z .slots) 0 (l .0), eqb-true (z .mask) 0 (l .1))
 
 -- the places from the k-th on are unused where the k-th is, and those after it
 module _ (zones : List Zone) (k : ℕ) (e : length zones ≡ 8) where

@@ -1,5 +1,2 @@
-pub mod Zone
-pub mod Read
-pub mod Write
-pub mod Law
+pub mod Plan
 pub mod Model

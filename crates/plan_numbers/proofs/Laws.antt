@@ -11,16 +11,17 @@ use Rattle.base.specs.Tabulate.{tabulate}
 use Rattle.base.proofs.Tabulate.{length-tabulate, getD-tabulate}
 use Rattle.text.specs.Text.{put}
 use Rattle.text.proofs.Laws.{take-put}
-use Rattle.plan.specs.declared.Zone.{Zone}
+use Rattle.zone.specs.declared.Zone.{Zone}
 use Rattle.plan.specs.declared.Plan.{Plan}
-use Rattle.plan.specs.declared.ReadPlan.{ReadPlan}
-use Rattle.plan.specs.Zone.{valuesOf, unused, each}
-use Rattle.plan.specs.Read.{planWith, planOf, answered}
-use Rattle.plan.specs.Model.{Small}
+use Rattle.plan_read.specs.declared.ReadPlan.{ReadPlan}
+use Rattle.zone.specs.Zone.{valuesOf, unused}
+use Rattle.plan.specs.Plan.{each}
+use Rattle.plan_read.specs.Read.{planWith, planOf, answered}
+use Rattle.zone.specs.Model.{Small}
 use Rattle.plan.proofs.Places.{drop-places}
 use Rattle.plan.proofs.Judge.{unused-small, all-small, count-most, size-small}
 use Rattle.plan.proofs.Each.{each-more}
-use Rattle.plan.proofs.Round.{plan-of}
+use Rattle.plan_write.proofs.Round.{plan-of}
 use Rattle.plan_numbers.specs.Numbers.{numbersOf, placeIn, placesIn}
 use Rattle.plan_numbers.specs.Model.{AllSmall}
 
@@ -101,7 +102,7 @@ read-small s r e = by (planOf s) refl
     by (accepted p) q =
         let same : r ≡ record { refusal = 0; plan = p } = e ∙ ap answered q in
         let t = plan-of s q in
-        rw same (record { count-is = count-most (p .count) (t .fit .count-is); size-is = size-small (p .size) (t .fit .size-is); zones-are = all-small p (t .fit) (t .eight) })
+        rw same (record { count-is = count-most (p .count) (t .fit .count-is); size-is = size-small (p .size) (t .fit .size-is); zones-are = all-small (t .fit) })
     by (refused k) q =
         let same : r ≡ record { refusal = k; plan = planWith 0 0 [] } = e ∙ ap answered q in
         rw same (record { count-is = omega arith; size-is = omega arith; zones-are = λ i. unused-small (planWith 0 0 [] .zones) i (drop-places 8 [] (omega arith)) })

@@ -2,9 +2,9 @@
 use mathlib.Core.List.{List}
 use Prim.Native.Nat.{ℕ}
 use lib.ListN.{getD}
-use Rattle.plan.specs.declared.Zone.{Zone}
-use Rattle.plan.specs.Zone.{unused}
-use Rattle.plan.specs.Model.{Small}
+use Rattle.zone.specs.declared.Zone.{Zone}
+use Rattle.zone.specs.Zone.{unused}
+use Rattle.zone.specs.Model.{Small}
 
 -- Each of the places has numbers that fit into 32 bits.
 abbrev pub AllSmall : (zones : List Zone) → Type 0

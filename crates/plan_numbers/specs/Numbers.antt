@@ -3,9 +3,10 @@ use mathlib.Core.List.{List}
 use Prim.Native.Nat.{ℕ, _+_, _*_}
 use lib.ListN.{getD}
 use Rattle.base.specs.Tabulate.{tabulate}
-use Rattle.plan.specs.declared.Zone.{Zone}
+use Rattle.zone.specs.declared.Zone.{Zone}
 use Rattle.plan.specs.declared.Plan.{Plan}
-use Rattle.plan.specs.Zone.{valuesOf, each}
+use Rattle.zone.specs.Zone.{valuesOf}
+use Rattle.plan.specs.Plan.{each}
 
 -- A place of a plan is four numbers: mode, cell, slots and mask.
 abbrev pub numbersOf : (zones : List Zone) → List ℕ

@@ -1,7 +1,7 @@
 // A plan as C hands it over: its eight places are a row of 32 numbers, mode, cell, slots and mask of each.
 use plan::Plan;
-use plan::UNUSED;
-use plan::Zone;
+use zone::UNUSED;
+use zone::Zone;
 ghost use mathlib.Core.Path.{_≡_};
 ghost use Rattle.plan_numbers.specs.Numbers.{numbersOf, placesIn, planIn};
 ghost use Rattle.plan_numbers.specs.Model.{AllSmall};

@@ -6,8 +6,8 @@ use native.Mathlib.Omega.{arith}
 use lib.ListN.{length, drop, length-append}
 use borrow.Author.Tests.{eq-eqb, ne-eqb}
 use Rattle.text.specs.Text.{put, Put}
-use Rattle.plan.specs.declared.ReadPlan.{ReadPlan}
-use Rattle.plan.specs.Write.{usedZones}
+use Rattle.plan_read.specs.declared.ReadPlan.{ReadPlan}
+use Rattle.plan.specs.Plan.{usedZones}
 use Rattle.plan_text.specs.Lines.{linesOf, refusalLine, textOf}
 
 -- the two kinds of answer

@@ -4,10 +4,9 @@ use Prim.Native.Nat.{ℕ}
 use lib.Dec.{eqb}
 use Rattle.base.specs.Choice.{pick}
 use Rattle.text.specs.Text.{decimal}
-use Rattle.plan.specs.declared.Zone.{Zone}
-use Rattle.plan.specs.declared.ReadPlan.{ReadPlan}
-use Rattle.plan.specs.Zone.{each}
-use Rattle.plan.specs.Write.{usedZones}
+use Rattle.zone.specs.declared.Zone.{Zone}
+use Rattle.plan_read.specs.declared.ReadPlan.{ReadPlan}
+use Rattle.plan.specs.Plan.{usedZones, each}
 
 -- The space and the line feed are ASCII's.
 abbrev pub space : ℕ

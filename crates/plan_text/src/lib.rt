@@ -1,11 +1,11 @@
 // A plan as text: one line a zone, "mode cell slots mask" in base ten, or the line "refused N".
 use plan::Plan;
-use plan::ReadPlan;
-use plan::Zone;
+use plan_read::ReadPlan;
+use zone::Zone;
 ghost use Prim.Native.Nat.{_+_, _≤_};
 ghost use lib.ListN.{length};
 ghost use Rattle.text.specs.Text.{Put};
-ghost use Rattle.plan.specs.Write.{usedZones};
+ghost use Rattle.plan.specs.Plan.{usedZones};
 ghost use Rattle.plan_text.specs.Lines.{field, lineOf, linesOf, refusalLine, textOf};
 
 // Puts a number in base ten and one byte behind it, 21 bytes at most.

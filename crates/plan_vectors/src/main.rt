@@ -9,14 +9,14 @@
 // Each line is written back with its answer behind a colon. The input and what must come out are
 // made by tests/vectors.py.
 use plan::Plan;
-use plan::ReadPlan;
-use plan::UNUSED;
-use plan::Written;
-use plan::Zone;
+use plan_read::ReadPlan;
+use plan_write::Written;
 use vector_lines::fields;
 use vector_lines::line_end;
 use vector_lines::print;
 use vector_lines::print_number;
+use zone::UNUSED;
+use zone::Zone;
 ghost use Prim.Native.Nat.{_<_, _≤_};
 ghost use lib.ListN.{length};
 
@@ -57,7 +57,7 @@ fn answer(operation: u8, f: [usize; 64]) {
 fn answer_read(f: [usize; 64]) {
     let bytes = bytes_of(f);
     let n = least(f[0], 63);
-    print_read(plan::read(&bytes[..n]));
+    print_read(plan_read::read(&bytes[..n]));
 }
 
 // The bytes behind the first number of a line.
@@ -80,7 +80,7 @@ fn answer_write(f: [usize; 64]) {
     };
     let mut dest = [238u8; 56];
     let n = least(f[0], 56);
-    let answer = plan::write(plan, &mut dest[..n]);
+    let answer = plan_write::write(plan, &mut dest[..n]);
     print_written(answer);
     print_bytes(dest);
 }

@@ -7,10 +7,10 @@ use libc::STDOUT_FILENO;
 fn main() {
     let mut input = [0u8; 128];
     let n = io::read_full(STDIN_FILENO, &mut input);
-    print(plan::read(&input[..n]));
+    print(plan_read::read(&input[..n]));
 }
 
-fn print(answer: plan::ReadPlan) {
+fn print(answer: plan_read::ReadPlan) {
     let mut out = [0u8; 672];
     let end = plan_text::lines(answer, &mut out);
     io::write_all(STDOUT_FILENO, &out[..end]);

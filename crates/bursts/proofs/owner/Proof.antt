@@ -6,8 +6,8 @@ use Rattle.base.proofs.Chain.{chain-no, chain-yes}
 use Rattle.map.specs.Mode.{subchannels}
 use Rattle.map.specs.Question.{isSlot, isSubchannel}
 use Rattle.map.proofs.Accept.{slot-no, subchannel-no, subchannel-yes}
-use Rattle.plan.specs.Zone.{setupOf, askFields}
-use Rattle.plan.proofs.Number.{fields-numbered}
+use Rattle.zone.specs.Zone.{setupOf, askFields}
+use Rattle.zone.proofs.Number.{fields-numbered}
 use Rattle.bursts.specs.Model.{listRefusal}
 use Rattle.bursts.proofs.Each.{list-numbered, list-most}
 use Rattle.bursts.proofs.Answer.{list-asks, past-zone, past-slot, owner-by}

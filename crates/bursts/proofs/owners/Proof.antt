@@ -6,8 +6,8 @@ use Rattle.base.proofs.Chain.{chain-no, chain-yes}
 use Rattle.map.specs.Mode.{subchannels}
 use Rattle.map.specs.Question.{isSlot}
 use Rattle.map.proofs.Accept.{slot-no}
-use Rattle.plan.specs.Zone.{setupOf, askFields, fieldsRefusal}
-use Rattle.plan.proofs.Number.{fields-numbered}
+use Rattle.zone.specs.Zone.{setupOf, askFields, fieldsRefusal}
+use Rattle.zone.proofs.Number.{fields-numbered}
 use Rattle.bursts.specs.Model.{listRefusal}
 use Rattle.bursts.proofs.Each.{list-numbered}
 use Rattle.bursts.proofs.Answer.{list-asks, past-zone, past-slot, row-by}

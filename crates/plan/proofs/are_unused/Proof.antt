@@ -5,7 +5,7 @@ use borrow.Author.Needs.{needs}
 use borrow.Author.Tests.{not-true, not-false}
 use lib.ListN.{length, drop}
 use Rattle.plan.proofs.Places.{length-mapped, unused-next, unused-no, unused-end}
-use Rattle.plan.specs.Write.{areUnused}
+use Rattle.plan.specs.Plan.{areUnused}
 use Rattle.plan.proofs.are_unused.Statement.{statement}
 use Rattle.plan.proofs.are_unused.Tie as tie
 

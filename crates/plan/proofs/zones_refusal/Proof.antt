@@ -4,10 +4,10 @@ use Prim.Native.Nat.{_-_, _≤_}
 use native.Mathlib.Omega.{arith}
 use borrow.Author.Needs.{needs}
 use lib.ListN.{length, take, drop}
-use Rattle.plan.specs.declared.Before.the-variants.{First}
+use Rattle.zone.specs.declared.Before.the-variants.{First}
 use Rattle.plan.specs.Model.{zonesRefusal}
 use Rattle.plan.proofs.Places.{length-mapped}
-use Rattle.plan.proofs.Number.{zones-no, zones-next, zones-end}
+use Rattle.plan.proofs.Judge.{zones-no, zones-next, zones-end}
 use Rattle.plan.proofs.zones_refusal.Statement.{statement}
 use Rattle.plan.proofs.zones_refusal.Tie as tie
 

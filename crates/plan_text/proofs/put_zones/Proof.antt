@@ -2,7 +2,7 @@
 use Prim.Native.Nat.{_-_, _*_, _≤_}
 use native.Mathlib.Omega.{arith}
 use borrow.Author.Needs.{needs}
-use Rattle.plan.specs.Zone.{unused}
+use Rattle.zone.specs.Zone.{unused}
 use Rattle.plan.proofs.Places.{length-mapped}
 use Rattle.plan.proofs.Each.{Putting, put-begin, put-again, put-all, put-end}
 use Rattle.plan_text.specs.Lines.{lineOf}

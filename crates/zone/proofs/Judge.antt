@@ -1,0 +1,70 @@
+-- What a yes to all of a zone's questions says: its setup is valid, its values are small.
+use mathlib.Core.Path.{_≡_}
+use mathlib.Core.Bool.{true, false}
+use mathlib.Core.List.{[], _∷_}
+use Prim.Native.Nat.{ℕ, _<_, _≤_}
+use native.Mathlib.Nat.{mul-le-mul}
+use native.Mathlib.Omega.{arith}
+use lib.Dec.{eqb, ltb}
+use borrow.Author.Tests.{eqb-true, lt-ltb}
+use Rattle.base.specs.Choice.{pick}
+use Rattle.base.proofs.Chain.{AllYes, all-yes, yes-parts}
+use Rattle.base.proofs.Test.{cases, both-true, up-to}
+use Rattle.map.specs.declared.Setup.{Setup}
+use Rattle.map.specs.Question.{isMode}
+use Rattle.map.specs.Model.{Valid, pusc-dl, pusc-ul, ofusc, amc}
+use Rattle.map.proofs.Accept.{valid}
+use Rattle.map.proofs.ByMode.{few}
+use Rattle.mask.proofs.Law.{mask-small}
+use Rattle.zone.specs.declared.Zone.{Zone}
+use Rattle.zone.specs.declared.Before.{Before}
+use Rattle.zone.specs.Zone.{isZoneMode, setupOf, isOrder, fieldsRefusal, unused, isUnused}
+use Rattle.zone.specs.Model.{Small}
+use Rattle.zone.proofs.Number.{fieldQuestions, zoneQuestions}
+
+valid-small : {c : Setup} → Valid c → (c .mode < 7) × (c .cell < 2352)
+valid-small (pusc-dl h) = omega arith
+valid-small (pusc-ul h) = omega arith
+valid-small (ofusc {n = n} w h) = let few-of = few (ofusc w h) .size-few in omega (arith, mul-le-mul {n₁ = n} {m₁ = n} {n₂ = 32} {m₂ = 32} (omega arith) (omega arith))
+valid-small (amc q w h) = (q .1, h)
+
+zone-mode : (m : ℕ) → isZoneMode m ≡ true → ltb m 7 ≡ true
+unfolding isZoneMode
+zone-mode m e = cases (eqb m 1) (λ t. lt-ltb m 7 (omega (arith, eqb-true m 1 t))) (λ f. rw f at e)
+
+module _ (size : ℕ) (z : Zone) where
+  module _ (y : AllYes (fieldQuestions size z)) where
+    own-valid : Valid (setupOf size z)
+    unfolding isMode
+    own-valid = valid (setupOf size z) (zone-mode (z .mode) (y .0)) (y .1 .0) (y .1 .1 .0)
+
+    own-small : Small z
+    own-small =
+        let few = valid-small own-valid in
+        record { mode-most = few .0; cell-most = few .1; slots-most = up-to 512 (z .slots) (y .1 .1 .1 .0); mask-most = omega (arith, mask-small (z .mode) (z .mask) (y .1 .1 .1 .1 .0)) }
+
+  pub small : (before : Before) → AllYes (zoneQuestions size before z) → Small z
+  small before y = own-small (yes-parts (fieldQuestions size z) ((isOrder before size z, 14) ∷ []) y .0)
+
+  module _ (e : fieldsRefusal size z ≡ 0) where
+    own : AllYes (fieldQuestions size z)
+    unfolding fieldsRefusal
+    own = all-yes (fieldQuestions size z) tt e
+
+    pub fields-valid : Valid (setupOf size z)
+    fields-valid = own-valid own
+
+    pub fields-slots : z .slots ≤ 512
+    fields-slots = own-small own .slots-most
+
+-- an unused place is all zero
+pub unused-is : (z : Zone) → isUnused z ≡ true → unused ≡ z
+unfolding isUnused
+unused-is z e =
+    let h = both-true (eqb (z .mode) 0) (pick (eqb (z .cell) 0) (pick (eqb (z .slots) 0) (eqb (z .mask) 0) false) false) e in
+    let k = both-true (eqb (z .cell) 0) (pick (eqb (z .slots) 0) (eqb (z .mask) 0) false) (h .1) in
+    let l = both-true (eqb (z .slots) 0) (eqb (z .mask) 0) (k .1) in
+    rw (eqb-true (z .mode) 0 (h .0), eqb-true (z .cell) 0 (k .0), eqb-true (z .slots) 0 (l .0), eqb-true (z .mask) 0 (l .1))
+
+pub small-unused : Small unused
+small-unused = omega arith

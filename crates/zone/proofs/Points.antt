@@ -1,0 +1,25 @@
+-- The modes of AMC as document 02 lists them.
+use mathlib.Core.Path.{_≡_, refl}
+use mathlib.Core.Bool.{true}
+use Prim.Native.Nat.{ℕ, zero, suc, _≤_}
+use native.Mathlib.Omega.{arith}
+use Rattle.zone.specs.Zone.{isAmc}
+
+-- a mode from 2 to 6, and one of AMC's, by cases
+pub by-mode : (P : ℕ → Type 0) → P 2 → P 3 → P 4 → P 5 → P 6 → (mode : ℕ) → 2 ≤ mode → mode ≤ 6 → P mode
+by-mode P a b c d e zero h l = absurd (omega arith)
+by-mode P a b c d e (suc zero) h l = absurd (omega arith)
+by-mode P a b c d e (suc (suc zero)) h l = a
+by-mode P a b c d e (suc (suc (suc zero))) h l = b
+by-mode P a b c d e (suc (suc (suc (suc zero)))) h l = c
+by-mode P a b c d e (suc (suc (suc (suc (suc zero))))) h l = d
+by-mode P a b c d e (suc (suc (suc (suc (suc (suc zero)))))) h l = e
+by-mode P a b c d e (suc (suc (suc (suc (suc (suc (suc mode))))))) h l = absurd (omega arith)
+
+pub by-amc : (P : ℕ → Type 0) → P 3 → P 4 → P 5 → P 6 → (mode : ℕ) → 3 ≤ mode → mode ≤ 6 → P mode
+by-amc P b c d e mode h l = by-mode (λ m. 3 ≤ m → P m) (λ h. absurd (omega arith)) (λ h. b) (λ h. c) (λ h. d) (λ h. e) mode (omega arith) l h
+
+-- Document 02, wish 2: AMC's modes are 3 to 6.
+pub amc-modes : (mode : ℕ) → 3 ≤ mode → mode ≤ 6 → isAmc mode ≡ true
+unfolding isAmc
+amc-modes = by-amc (λ mode. isAmc mode ≡ true) refl refl refl refl
