@@ -30,27 +30,59 @@ tabulated d l n f e h =
     ext-getD d l (tabulate n f) (e ∙ sym (length-tabulate n f))
     (λ k l′. let lt : k < n = rw (← e) l′ in h k lt ∙ sym (getD-tabulate n f k d lt))
 
--- A list of n entries whose first m are f 0, f 1, ..: what holds before each turn of a loop that writes entry m in turn m.
-pub record Written (n : ℕ) (f : ℕ → ℕ) (l : List ℕ) (m : ℕ) : Type 0 where
+-- A list of `size` entries into which f 0, f 1, .. are written at their places, m of these n so far: what holds before each turn of a loop that
+-- writes one entry a turn.
+pub record WrittenAt {A : Type 0} (d : A) (size n : ℕ) (place : ℕ → ℕ) (f : ℕ → A) (l : List A) (m : ℕ) : Type 0 where
   pub within : m ≤ n
-  pub long : length l ≡ n
-  pub entries : (k : ℕ) → k < m → getD l k 0 ≡ f k
+  pub long : length l ≡ size
+  pub entries : (k : ℕ) → k < m → getD l (place k) d ≡ f k
+
+-- The same over a list of before, of which all else stays.
+pub record WrittenOver {A : Type 0} (d : A) (size n : ℕ) (place : ℕ → ℕ) (f : ℕ → A) (before l : List A) (m : ℕ) : Type 0 where
+  pub written : WrittenAt d size n place f l m
+  pub others : (p : ℕ) → ((k : ℕ) → k < m → p ≡ place k → ⊥) → getD l p d ≡ getD before p d
+
+module _ {A : Type 0} {d : A} {size n : ℕ} {place : ℕ → ℕ} {f : ℕ → A} where
+  pub at-none : {l : List A} → length l ≡ size → WrittenAt d size n place f l 0
+  at-none e = record { within = omega arith; long = e; entries = below-none _ }
+
+  pub at-next : {l : List A} {m : ℕ} → WrittenAt d size n place f l m → m < n → place m < size → ((k : ℕ) → k < m → place k ≡ place m → ⊥)
+      → (x : A) → x ≡ f m → WrittenAt d size n place f (set l (place m) x) (m + 1)
+  at-next {l} {m} w h room apart x e =
+      record {
+        within = omega arith;
+        long = length-set l (place m) x ∙ w .long;
+        entries = below-more (λ k. getD (set l (place m) x) (place k) d ≡ f k) m
+            (λ k k-lt. getD-set-other l (place m) (place k) x d (apart k k-lt) ∙ w .entries k k-lt)
+            (getD-set-same l (place m) x d (omega (arith, w .long)) ∙ e);
+      }
+
+  pub over-none : {before : List A} → length before ≡ size → WrittenOver d size n place f before before 0
+  over-none e = record { written = at-none e; others = λ p h. refl }
+
+  pub over-next : {before l : List A} {m : ℕ} → WrittenOver d size n place f before l m → m < n → place m < size → ((k : ℕ) → k < m → place k ≡ place m → ⊥)
+      → (x : A) → x ≡ f m → WrittenOver d size n place f before (set l (place m) x) (m + 1)
+  over-next {l = l} {m = m} w h room apart x e =
+      record {
+        written = at-next (w .written) h room apart x e;
+        others = λ p h′. getD-set-other l (place m) p x d (h′ m (omega arith)) ∙ w .others p (λ k k-lt. h′ k (omega arith));
+      }
+
+pub all-written : {A : Type 0} {d : A} {n : ℕ} {f : ℕ → A} {l : List A} {m : ℕ} → WrittenAt d n n (λ k. k) f l m → n ≤ m → l ≡ tabulate n f
+all-written {d = d} {n = n} {f = f} {l = l} w h = tabulated d l n f (w .long) (λ k k-lt. w .entries k (omega (arith, w .within)))
+
+-- a list of n numbers that is written from its first to its last
+abbrev pub Written : (n : ℕ) (f : ℕ → ℕ) (l : List ℕ) (m : ℕ) → Type 0
+Written n f l m = WrittenAt 0 n n (λ k. k) f l m
 
 pub written-none : (n : ℕ) (f : ℕ → ℕ) → Written n f (replicate n 0) 0
-written-none n f = record { within = omega arith; long = length-replicate n 0; entries = below-none _ }
+written-none n f = at-none (length-replicate n 0)
 
 pub written-next : {n : ℕ} {f : ℕ → ℕ} {l : List ℕ} {m : ℕ} → Written n f l m → m < n → (x : ℕ) → x ≡ f m → Written n f (set l m x) (m + 1)
-written-next {f = f} {l = l} {m = m} w h x e =
-    record {
-      within = omega arith;
-      long = length-set l m x ∙ w .long;
-      entries = below-more (λ k. getD (set l m x) k 0 ≡ f k) m
-          (λ k k-lt. getD-set-other l m k x 0 (λ q. omega arith) ∙ w .entries k k-lt)
-          (getD-set-same l m x 0 (omega (arith, w .long)) ∙ e);
-    }
+written-next w h x e = at-next w h h (λ k l q. omega arith) x e
 
 pub written-all : {n : ℕ} {f : ℕ → ℕ} {l : List ℕ} {m : ℕ} → Written n f l m → n ≤ m → l ≡ tabulate n f
-written-all {n = n} {f = f} {l = l} w h = tabulated 0 l n f (w .long) (λ k k-lt. w .entries k (omega (arith, w .within)))
+written-all w h = all-written w h
 
 -- the first entries, where the loop ends before the list does
 pub written-starts : {n : ℕ} {f : ℕ → ℕ} {l : List ℕ} {m : ℕ} → Written n f l m → (k : ℕ) → k ≤ m → Starts k f l

@@ -5,10 +5,9 @@ use Prim.Native.Nat.{ℕ, _+_, _*_, _<_, _≤_}
 use native.Mathlib.Omega.{arith}
 use native.Mathlib.Numerals.{add-one, add-two, add-three}
 use lib.ListN.{length, take, getD, set, length-set}
-use lib.Seq.{take-suc, take-all, take-suc-set, sets-eq}
+use lib.Seq.{take-all, sets-eq}
 use Rattle.base.specs.Answer.{Answer, accepted, refused}
-use Rattle.base.specs.Tabulate.{tabulate}
-use Rattle.base.proofs.Tabulate.{length-tabulate, getD-tabulate}
+use Rattle.base.proofs.Tabulate.{WrittenAt, at-next, all-written}
 use Rattle.text.specs.Text.{put}
 use Rattle.text.proofs.Laws.{take-put}
 use Rattle.zone.specs.declared.Zone.{Zone}
@@ -62,32 +61,17 @@ module _ {zones : List Zone} {numbers : List ℕ} {k : ℕ} (f : Row zones numbe
   row-end h = sym (take-all (4 * k) numbers (omega (arith, f .room))) ∙ f .done ∙ ap numbersOf (take-all k zones (omega (arith, f .places)))
 
 -- While places are taken: the first k are.
-pub record Placing (numbers : List ℕ) (zones : List Zone) (k : ℕ) : Type 0 where
-  pub room : length zones ≡ 8
-  pub done : take k zones ≡ take k (placesIn numbers)
+abbrev pub Placing : (numbers : List ℕ) (zones : List Zone) (k : ℕ) → Type 0
+Placing numbers zones k = WrittenAt unused 8 8 (λ j. j) (placeIn numbers) zones k
 
-pub placing : (numbers : List ℕ) (zones : List Zone) → length zones ≡ 8 → Placing numbers zones 0
-placing numbers zones r = record { room = r; done = refl }
-
-module _ {numbers : List ℕ} {zones : List Zone} {k : ℕ} (p : Placing numbers zones k) where
+module _ (numbers : List ℕ) {zones : List Zone} {k : ℕ} (p : Placing numbers zones k) where
   pub placing-again : {m c n b : ℕ} → k < 8 → m ≡ getD numbers (4 * k) 0 → c ≡ getD numbers (4 * k + 1) 0 → n ≡ getD numbers (4 * k + 2) 0 → b ≡ getD numbers (4 * k + 3) 0
       → Placing numbers (set zones k (record { mode = m; cell = c; slots = n; mask = b })) (k + 1)
-  unfolding placesIn
-  placing-again {m} {c} {n} {b} h e₁ e₂ e₃ e₄ =
-      let e : _≡_ {A = Zone} (record { mode = m; cell = c; slots = n; mask = b }) (placeIn numbers k) = cc in
-      record {
-        room = simp length-set (p .room);
-        done =
-            rw (e, add-one)
-            (take-suc-set zones k (placeIn numbers k) (omega (arith, p .room))
-            ∙ ap (λ l. l ++ (placeIn numbers k ∷ [])) (p .done)
-            ∙ ap (λ z. take k (tabulate 8 (placeIn numbers)) ++ (z ∷ [])) (sym (getD-tabulate 8 (placeIn numbers) k unused h))
-            ∙ sym (take-suc (tabulate 8 (placeIn numbers)) k unused (rw (length-tabulate 8 (placeIn numbers)) h)));
-      }
+  placing-again h e₁ e₂ e₃ e₄ = at-next p h h (λ j l q. omega arith) _ cc
 
   pub placing-end : 8 ≤ k → zones ≡ placesIn numbers
   unfolding placesIn
-  placing-end h = sym (take-all k zones (omega (arith, p .room))) ∙ p .done ∙ take-all k (placesIn numbers) (rw (length-tabulate 8 (placeIn numbers)) h)
+  placing-end h = all-written p h
 
 -- The numbers of a plan that was read are small, and those of a refusal are zero.
 pub record Read-small (p : Plan) : Type 0 where

@@ -131,16 +131,8 @@ puts-as place place′ source source′ (suc m) l e f =
 
 -- ---- a buffer cleared from the front
 
-pub cleared-more : (l : List Float) (j : ℕ) → j < length l → ((k : ℕ) → k < j → getD l k nan ≡ zero32) → (k : ℕ) → k < j + 1 → getD (set l j zero32) k nan ≡ zero32
-cleared-more l j room h k lt =
-    cases (eqb k j)
-    (λ t. let e = eqb-true k j t in rw e (getD-set-same l j zero32 nan room))
-    (λ t. let e = eqb-false k j t in getD-set-other l j k zero32 nan e ∙ h k (omega arith))
-
-pub cleared-all : (l : List Float) (n : ℕ) → length l ≡ n → ((k : ℕ) → k < n → getD l k nan ≡ zero32) → l ≡ replicate n zero32
-cleared-all l n e h =
-    ext-getD nan l (replicate n zero32) (e ∙ sym (length-replicate n zero32))
-    (λ k lt. h k (rw (← e) lt) ∙ sym (getD-replicate n k zero32 nan (rw (← e) lt)))
+pub cleared-all : (l : List Float) (n : ℕ) → l ≡ tabulate n (λ k. zero32) → l ≡ replicate n zero32
+cleared-all l n e = e ∙ sym (tabulated nan (replicate n zero32) n (λ k. zero32) (length-replicate n zero32) (λ k h. getD-replicate n k zero32 nan h))
 
 pub point-cleared : (n k : ℕ) → k * 2 + 1 < n → pointAt (replicate n zero32) k ≡ zeroPoint
 unfolding pointAt

@@ -3,12 +3,13 @@ use Prim.Native.Nat.{_-_}
 use borrow.Author.Tests.{ne-eqb}
 use borrow.Author.Needs.{needs}
 use Rattle.capi_collisions.specs.Collision.{collisionOut}
-use Rattle.capi_collisions.proofs.Collision.{Written, start, step, handed}
+use Rattle.base.proofs.Tabulate.{written-none, written-next}
+use Rattle.capi_collisions.proofs.Collision.{byte-is, MarksWritten, handed}
 use Rattle.capi_collisions.proofs.hand_over.Statement.{statement}
 use Rattle.capi_collisions.proofs.hand_over.Tie as tie
 
 abbrev Inv-loop : tie.InvT-loop
-Inv-loop answer hits count number marks bytes₀ k₀ bytes k = Written marks k bytes
+Inv-loop answer hits count number marks bytes₀ k₀ bytes k = MarksWritten marks k bytes
 
 abbrev μ-loop : tie.MeasureT-loop
 μ-loop answer hits count number marks bytes₀ k₀ bytes k = 48 - k
@@ -18,13 +19,13 @@ unfolding collisionOut
 returns c = rw (ne-eqb _ _ (c .if1 .taken))
 
 loop-holds : tie.Need-loop-holds Inv-loop μ-loop
-loop-holds c = start _
+loop-holds c = written-none 48 _
 
 cast-bytes : tie.Need-cast-bytes Inv-loop μ-loop
 cast-bytes c = tt
 
 loop-again : tie.Need-loop-again Inv-loop μ-loop
-loop-again c = step _ _ _ (c .before .loop .inv) (c .loop-test .taken)
+loop-again c = written-next (c .before .loop .inv) (c .loop-test .taken) _ (byte-is _)
 
 returns-2 : tie.Need-returns-2 Inv-loop μ-loop
 returns-2 c =

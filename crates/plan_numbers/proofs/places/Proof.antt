@@ -1,7 +1,8 @@
 -- `plan_numbers::places` meets its contract.
 use Prim.Native.Nat.{_-_}
 use borrow.Author.Needs.{needs}
-use Rattle.plan_numbers.proofs.Laws.{Placing, placing, placing-again, placing-end}
+use Rattle.base.proofs.Tabulate.{at-none}
+use Rattle.plan_numbers.proofs.Laws.{Placing, placing-again, placing-end}
 use Rattle.plan_numbers.proofs.places.Statement.{statement}
 use Rattle.plan_numbers.proofs.places.Tie as tie
 
@@ -12,13 +13,13 @@ abbrev μ-loop : tie.MeasureT-loop
 μ-loop numbers zones₀ k₀ zones k = 8 - k
 
 loop-holds : tie.Need-loop-holds Inv-loop μ-loop
-loop-holds c = placing _ _ (search needs)
+loop-holds c = at-none (search needs)
 
 loop-again : tie.Need-loop-again Inv-loop μ-loop
 loop-again c = search (placing-again, needs)
 
 returns : tie.Need-returns Inv-loop μ-loop
-returns c = placing-end (c .before .loop .inv) (c .loop-test .left)
+returns c = placing-end _ (c .before .loop .inv) (c .loop-test .left)
 
 pub places-spec : {M : Type 1} → statement M
 places-spec =
