@@ -21,7 +21,8 @@ use Rattle.ofusc_rows.specs.Model.{cellNumber, groupNumber}
 use Rattle.ofusc.proofs.Sequence.{pos}
 use Rattle.ofusc.proofs.Law.{element-lt}
 use Rattle.ofusc_rows.proofs.Row.{with-subchannel}
-use Rattle.map.specs.Mode.{width, symbols, band, spotOf, setupWith}
+use Rattle.map.specs.Setup.{setupWith}
+use Rattle.map.specs.Mode.{width, symbols, band, spotOf}
 use Rattle.map.proofs.Accept.{width-is}
 use Rattle.collision.specs.Collision.{indexIn, columnIn, ofuscHit}
 

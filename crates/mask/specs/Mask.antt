@@ -8,7 +8,7 @@ use Rattle.carriers.specs.Band.{usedOf}
 use Rattle.clusters.specs.Group.{subchannelStarts, groupIn}
 use Rattle.pusc_dl_lit.specs.Lit.{hasGroup}
 use Rattle.pusc_dl.specs.Map.{usedGroup}
-use Rattle.map.specs.declared.Setup.{Setup}
+use Rattle.map.specs.Setup.{Setup}
 use Rattle.map.specs.Mode.{subchannels, band}
 use Rattle.map.specs.Place.{Content, guard, contentOf}
 

@@ -104,7 +104,7 @@ count-most n e = up-to 8 n e
 
 pub size-small : (size : ℕ) → isFourSizes size ≡ true → size ≤ 2048
 unfolding isSize
-size-small z e = size-most (record { mode = 2; size = z; cell = 0 }) e
+size-small z e = size-most (setupWith 2 z 0) e
 
 -- the values of its zones are small, and so are those of all its places
 pub fit-small : {p : Plan} → Fit p → (k : ℕ) → Small (getD (usedZones p) k unused)
