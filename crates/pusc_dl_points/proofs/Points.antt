@@ -1,6 +1,6 @@
 -- The points of a cluster, by the reverse: from the inverses of the bases and what is noted of the cluster.
-use mathlib.Core.Path.{_≡_, sym, ap, _∙_}
-use mathlib.Core.Bool.{Bool, true}
+use mathlib.Core.Path.{_≡_, refl, sym, ap, _∙_}
+use mathlib.Core.Bool.{true}
 use mathlib.Core.List.{List, [], _∷_}
 use Prim.Native.Nat.{ℕ, _+_, _-_, _*_, _/_, _%_, _<_, _≤_}
 use native.Mathlib.Omega.{arith}
@@ -24,7 +24,7 @@ use Rattle.pusc_dl.specs.Map.{addressOf, logicalOf, usedGroup, usedData}
 use Rattle.pusc_dl_points.specs.Model.{turnedInverse, inverseEntry, pointOfData, subchannelRank, groupRank, logicalEntry, clusterEntry, clusterNumber}
 use Rattle.clusters.specs.declared.Physical.{Physical}
 use Rattle.clusters.specs.declared.Logical.{Logical}
-use Rattle.clusters.proofs.Tables.{b12-perm, b8-perm}
+use Rattle.clusters.proofs.Tables.{b12-perm, b8-perm, all-pairs}
 use Rattle.clusters.proofs.Cluster.{OnPlace, on-place}
 use Rattle.clusters.proofs.Group.{cluster-runs, subchannel-runs}
 use Rattle.pusc_dl.proofs.Inner.{subchannel-lt}
@@ -35,29 +35,21 @@ use Rattle.clusters.proofs.Law.{renumbering}
 pub index-is : (n s : ℕ) → (n + 11 * s) % 24 ≡ unrotate 24 (13 * s) n
 index-is n s = omega arith
 
-pub inverse-12 : (cell x : ℕ) → x < 24 → inverseEntry cell x ≡ turnedInverse 12 cell x
-unfolding inverseEntry
-inverse-12 cell x h = rw (lt-ltb x 24 h)
+pub inverse-12 : (cell x : ℕ) → x < 24 → (inverseEntry cell x ≡ turnedInverse 12 cell x) × (inverseEntry cell x < 12)
+unfolding inverseEntry turnedInverse baseInverse ofSize
+inverse-12 cell x h = rw (lt-ltb x 24 h) (refl, b12-perm .from-lt (unrotate 12 cell (x % 12)) (omega arith))
 
-pub inverse-8 : (cell x : ℕ) → 24 ≤ x → inverseEntry cell x ≡ turnedInverse 8 cell x
-unfolding inverseEntry
-inverse-8 cell x h = rw (le-ltb x 24 h)
-
-pub turned-12 : (cell x : ℕ) → turnedInverse 12 cell x < 12
-unfolding turnedInverse baseInverse ofSize
-turned-12 cell x = b12-perm .from-lt (unrotate 12 cell (x % 12)) (omega arith)
-
-pub turned-8 : (cell x : ℕ) → turnedInverse 8 cell x < 8
-unfolding turnedInverse baseInverse ofSize
-turned-8 cell x = b8-perm .from-lt (unrotate 8 cell (x % 8)) (omega arith)
+pub inverse-8 : (cell x : ℕ) → 24 ≤ x → (inverseEntry cell x ≡ turnedInverse 8 cell x) × (inverseEntry cell x < 8)
+unfolding inverseEntry turnedInverse baseInverse ofSize
+inverse-8 cell x h = rw (le-ltb x 24 h) (refl, b8-perm .from-lt (unrotate 8 cell (x % 8)) (omega arith))
 
 -- the entries of their row
 module _ (cell : ℕ) (row : List ℕ) (t : Starts 48 (inverseEntry cell) row) (x : ℕ) where
   pub entry-12 : x < 24 → (entry row x ≡ turnedInverse 12 cell x) × (entry row x < 12)
-  entry-12 h = let e = t x (omega arith) ∙ inverse-12 cell x h in (e, rw e (turned-12 cell x))
+  entry-12 h = rw (t x (omega arith)) (inverse-12 cell x h)
 
   pub entry-8 : 24 ≤ x → x < 48 → (entry row x ≡ turnedInverse 8 cell x) × (entry row x < 8)
-  entry-8 h l = let e = t x l ∙ inverse-8 cell x h in (e, rw e (turned-8 cell x))
+  entry-8 h l = rw (t x l) (inverse-8 cell x h)
 
 -- the point of data number d, by its quotient and the entry of its remainder
 pub number-of : (size cell first n d x b r : ℕ) → n ≡ d / size → x % size ≡ d % size → b ≡ turnedInverse size cell x
@@ -74,15 +66,11 @@ abbrev lower : ℕ → ℕ → ℕ
 lower mask g = bitAnd mask (entry lowerGroups g)
 
 pub lower-small : (mask g : ℕ) → mask < 64 → g < 6 → bitAnd mask (entry lowerGroups g) < 64
-lower-small mask g h l =
-    let f : ℕ → ℕ → Bool = λ m g. ltb (lower m g) 64 in
-    ltb→lt _ _ (all-at (f mask) 6 (all-at (λ m. all (f m) 6) 64 tt mask h) g l)
+lower-small mask g h l = ltb→lt _ _ (all-pairs (λ m g. ltb (lower m g) 64) 64 (λ m. 6) tt mask g h l)
 
 pub lower-rank : (mask g : ℕ) → mask < 64 → g < 6 → rank (λ s. hasGroup (bitAnd mask (entry lowerGroups g)) (groupIn subchannelStarts s)) 60 ≡ groupRank mask g
 unfolding rank hasGroup groupIn
-lower-rank mask g h l =
-    let f : ℕ → ℕ → Bool = λ m g. eqb (rank (λ s. hasGroup (lower m g) (groupIn subchannelStarts s)) 60) (groupRank m g) in
-    eqb→eq _ _ (all-at (f mask) 6 (all-at (λ m. all (f m) 6) 64 tt mask h) g l)
+lower-rank mask g h l = eqb→eq _ _ (all-pairs (λ m g. eqb (rank (λ s. hasGroup (lower m g) (groupIn subchannelStarts s)) 60) (groupRank m g)) 64 (λ m. 6) tt mask g h l)
 
 starts-lt : (g : ℕ) → g < 6 → entry subchannelStarts g < 60
 starts-lt g h = ltb→lt _ _ (all-at (λ g. ltb (entry subchannelStarts g) 60) 6 tt g h)
