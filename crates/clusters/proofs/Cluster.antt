@@ -7,12 +7,9 @@ use lib.Dec.{T, eqb, ltb, eqb→eq, ltb→lt}
 use Rattle.base.specs.Choice.{pick}
 use Rattle.base.specs.Steps.{skip, unskip}
 use Rattle.base.proofs.Test.{failed}
-use Rattle.base.proofs.Table.{all, all-at}
+use Rattle.base.proofs.Table.{all}
 use Rattle.clusters.specs.Cluster.{isClusterPilot, firstPilot, secondPilot, clusterPlace, clusterData}
-
--- a test at each number below n, in both symbols
-at : (f : ℕ → ℕ → Bool) (n : ℕ) → T (all (λ y. all (f y) n) 2) → (y r : ℕ) → y < 2 → r < n → T (f y r)
-at f n test y r hy hr = all-at (f y) n (all-at (λ y. all (f y) n) 2 test y hy) r hr
+use Rattle.clusters.proofs.Tables.{all-pairs}
 
 -- data number r lies on a data place, which knows it
 pub record OnPlace (y r : ℕ) : Type 0 where
@@ -24,10 +21,13 @@ pub on-place : (y r : ℕ) → y < 2 → r < 12 → OnPlace y r
 unfolding isClusterPilot firstPilot secondPilot clusterPlace clusterData skip unskip
 on-place y r hy hr =
     record {
-      place-lt = ltb→lt _ _ (at (λ y r. ltb (clusterPlace y r) 14) 12 tt y r hy hr);
-      no-pilot = failed _ (at (λ y r. not (isClusterPilot y (clusterPlace y r))) 12 tt y r hy hr);
-      back = eqb→eq _ _ (at (λ y r. eqb (clusterData y (clusterPlace y r)) r) 12 tt y r hy hr);
+      place-lt = ltb→lt _ _ (passed (λ y r. ltb (clusterPlace y r) 14) tt);
+      no-pilot = failed _ (passed (λ y r. not (isClusterPilot y (clusterPlace y r))) tt);
+      back = eqb→eq _ _ (passed (λ y r. eqb (clusterData y (clusterPlace y r)) r) tt);
     }
+  where
+    passed : (f : ℕ → ℕ → Bool) → T (all (λ y. all (f y) 12) 2) → T (f y r)
+    passed f test = all-pairs f 2 (λ y. 12) test y r hy hr
 
 -- a data place has a data number, which knows it
 pub record OnData (y w : ℕ) : Type 0 where
@@ -43,7 +43,7 @@ on-data y w hy hw e =
     }
   where
     passed : (f : ℕ → ℕ → Bool) → T (all (λ y. all (λ w. pick (isClusterPilot y w) true (f y w)) 14) 2) → T (f y w)
-    passed f test = rw e at (at (λ y w. pick (isClusterPilot y w) true (f y w)) 14 test y w hy hw)
+    passed f test = rw e at (all-pairs (λ y w. pick (isClusterPilot y w) true (f y w)) 2 (λ y. 14) test y w hy hw)
 
 -- a pilot is known by the place in its cluster
 pub pilot-place : (y u : ℕ) → isClusterPilot y u ≡ isClusterPilot y (u % 14)

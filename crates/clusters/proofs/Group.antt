@@ -1,6 +1,5 @@
 -- Major groups: their sizes, and numbers and groups, each one for one.
 use mathlib.Core.Path.{_≡_, _∙_}
-use mathlib.Core.Bool.{Bool}
 use mathlib.Core.List.{List}
 use Prim.Native.Nat.{ℕ, _+_, _-_, _*_, _%_, _<_, _≤_}
 use native.Mathlib.Omega.{arith}
@@ -10,7 +9,7 @@ use Rattle.base.proofs.Perm.{Perm}
 use Rattle.base.proofs.Table.{all, all-at}
 use Rattle.base.proofs.Test.{cases}
 use Rattle.clusters.specs.Group.{clusterStarts, subchannelStarts, groupIn, groupSize, ofSize, baseOf, baseInverse}
-use Rattle.clusters.proofs.Tables.{b12-perm, b8-perm}
+use Rattle.clusters.proofs.Tables.{b12-perm, b8-perm, all-pairs}
 
 pub size-pos : (g : ℕ) → 0 < groupSize g
 unfolding groupSize
@@ -47,24 +46,17 @@ module _ (starts : List ℕ) (w total : ℕ) where
     pub number-lt : (g r : ℕ) → g < 6 → r < run g → number g r < total
     pub group-of : (g r : ℕ) → g < 6 → r < run g → groupIn starts (number g r) ≡ g
 
-  -- a test at each number of each run
-  abbrev every-run : (ℕ → ℕ → Bool) → ℕ → Bool
-  every-run f g = all (f g) (run g)
-
   runs : T (all (λ x. ltb (groupIn starts x) 6) total) → T (all (λ x. leb (start x) x) total)
       → T (all (λ x. ltb (x - start x) (run (groupIn starts x))) total)
-      → T (all (every-run (λ g r. ltb (number g r) total)) 6) → T (all (every-run (λ g r. eqb (groupIn starts (number g r)) g)) 6) → Runs
+      → T (all (λ g. all (λ r. ltb (number g r) total) (run g)) 6) → T (all (λ g. all (λ r. eqb (groupIn starts (number g r)) g) (run g)) 6) → Runs
   runs t₁ t₂ t₃ t₄ t₅ =
       record {
         group-lt = λ x h. ltb→lt _ _ (all-at (λ x. ltb (groupIn starts x) 6) total t₁ x h);
         start-le = λ x h. leb→le _ _ (all-at (λ x. leb (start x) x) total t₂ x h);
         run-lt = λ x h. ltb→lt _ _ (all-at (λ x. ltb (x - start x) (run (groupIn starts x))) total t₃ x h);
-        number-lt = λ g r hg hr. ltb→lt _ _ (at (λ g r. ltb (number g r) total) t₄ g r hg hr);
-        group-of = λ g r hg hr. eqb→eq _ _ (at (λ g r. eqb (groupIn starts (number g r)) g) t₅ g r hg hr);
+        number-lt = λ g r hg hr. ltb→lt _ _ (all-pairs (λ g r. ltb (number g r) total) 6 run t₄ g r hg hr);
+        group-of = λ g r hg hr. eqb→eq _ _ (all-pairs (λ g r. eqb (groupIn starts (number g r)) g) 6 run t₅ g r hg hr);
       }
-    where
-      at : (f : ℕ → ℕ → Bool) → T (all (every-run f) 6) → (g r : ℕ) → g < 6 → r < run g → T (f g r)
-      at f test g r hg hr = all-at (f g) (run g) (all-at (every-run f) 6 test g hg) r hr
 
 pub subchannel-runs : Runs subchannelStarts 1 60
 unfolding groupIn groupSize

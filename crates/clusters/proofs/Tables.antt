@@ -1,17 +1,16 @@
 -- R and the bases B are permutations, by one computed test for each direction; a base goes on past M; and pilots go by the parity of the symbol.
 use mathlib.Core.Path.{_≡_, refl}
+use mathlib.Core.Bool.{Bool}
 use mathlib.Core.List.{List}
 use Prim.Native.Nat.{ℕ, _+_, _*_, _%_, _<_}
-use native.Mathlib.Nat.{mod-lt}
 use native.Mathlib.Omega.{arith}
-use lib.Dec.{T, eqb, eqb→eq, lit<}
+use lib.Dec.{T, eqb, ltb, eqb→eq, ltb→lt}
 use Rattle.base.specs.Steps.{entry}
 use Rattle.base.proofs.Perm.{Perm}
 use Rattle.base.proofs.Table.{all, all-at, table-perm, permutation}
 use Rattle.clusters.specs.Table.{renumbering, renumberingInverse, base12, base12Inverse, base8, base8Inverse}
 use Rattle.clusters.specs.Cluster.{isClusterPilot, firstPilot, secondPilot}
 use Rattle.clusters.specs.Law.{TableRules}
-use Rattle.clusters.specs.Model.{base12Thrice, base8FourTimes}
 
 pub r-perm : Perm 120 (entry renumbering) (entry renumberingInverse)
 r-perm = table-perm 120 renumbering renumberingInverse refl refl tt tt
@@ -32,21 +31,14 @@ tables =
     }
 
 -- a base on past M goes by i mod M
-pub record GoesOn (m n : ℕ) (long base : List ℕ) : Type 0 where
-  pub is : (i : ℕ) → i < n → entry long i ≡ entry base (i % m)
-  pub below : (i : ℕ) → i < n → entry long i < m
+pub goes-on : (m n : ℕ) (long base : List ℕ) → T (all (λ i. eqb (entry long i) (entry base (i % m))) n) → T (all (λ i. ltb (entry long i) m) n)
+    → (i : ℕ) → i < n → (entry long i ≡ entry base (i % m)) × (entry long i < m)
+goes-on m n long base same below i h =
+    (eqb→eq _ _ (all-at (λ i. eqb (entry long i) (entry base (i % m))) n same i h), ltb→lt _ _ (all-at (λ i. ltb (entry long i) m) n below i h))
 
-goes-on : (m n : ℕ) (long base inverse : List ℕ) → 0 < m → T (all (λ i. eqb (entry long i) (entry base (i % m))) n) → Perm m (entry base) (entry inverse) → GoesOn m n long base
-goes-on m n long base inverse pos test perm =
-    let same : (i : ℕ) → i < n → entry long i ≡ entry base (i % m) =
-    λ i h. eqb→eq _ _ (all-at (λ i. eqb (entry long i) (entry base (i % m))) n test i h) in
-    record { is = same; below = λ i h. rw (same i h) (perm .to-lt (i % m) (mod-lt i pos)) }
-
-pub b12-goes-on : GoesOn 12 36 base12Thrice base12
-b12-goes-on = goes-on 12 36 base12Thrice base12 base12Inverse (lit< tt) tt b12-perm
-
-pub b8-goes-on : GoesOn 8 32 base8FourTimes base8
-b8-goes-on = goes-on 8 32 base8FourTimes base8 base8Inverse (lit< tt) tt b8-perm
+-- a test at each pair of numbers, of which the first bounds the second
+pub all-pairs : (f : ℕ → ℕ → Bool) (m : ℕ) (n : ℕ → ℕ) → T (all (λ x. all (f x) (n x)) m) → (x y : ℕ) → x < m → y < n x → T (f x y)
+all-pairs f m n test x y hx hy = all-at (f x) (n x) (all-at (λ x. all (f x) (n x)) m test x hx) y hy
 
 -- the starts of the six groups by their formula, a·g + b·(g mod 2), by one computed test for each list
 pub start-is : (starts : List ℕ) (a b : ℕ) → T (all (λ g. eqb (a * g + b * (g % 2)) (entry starts g)) 6) → (g : ℕ) → g < 6 → a * g + b * (g % 2) ≡ entry starts g

@@ -1,6 +1,6 @@
 -- What a mask lights, by computed tests over all 64 masks.
-use mathlib.Core.Path.{_≡_, ap, _∙_}
-use mathlib.Core.Bool.{Bool, true, not}
+use mathlib.Core.Path.{_≡_, refl, ap, _∙_}
+use mathlib.Core.Bool.{Bool, true, false, not}
 use mathlib.Core.List.{List}
 use Prim.Native.Nat.{ℕ, _+_, _*_, _/_, _%_, _^_, _<_}
 use native.Mathlib.Omega.{arith}
@@ -11,8 +11,7 @@ use Rattle.base.specs.Choice.{pick}
 use Rattle.base.specs.Steps.{entry}
 use Rattle.base.specs.Tabulate.{tabulate}
 use Rattle.base.specs.Rank.{rank}
-use Rattle.base.proofs.Test.{cases}
-use Rattle.base.proofs.Table.{all, all-at}
+use Rattle.base.proofs.Table.{all-at}
 use Rattle.base.proofs.Tabulate.{entry-of}
 use Rattle.clusters.specs.Cluster.{renumber}
 use Rattle.clusters.specs.Group.{clusterStarts, subchannelStarts, groupIn}
@@ -21,6 +20,7 @@ use Rattle.pusc_dl.specs.Map.{logicalOf, usedGroup}
 use Rattle.pusc_dl_lit.specs.Model.{groupBit, clusterLit}
 use Rattle.clusters.specs.declared.Physical.{Physical}
 use Rattle.clusters.specs.declared.Logical.{Logical}
+use Rattle.clusters.proofs.Tables.{all-pairs}
 use Rattle.clusters.proofs.Group.{cluster-runs}
 use Rattle.clusters.proofs.Law.{renumbering}
 
@@ -38,9 +38,7 @@ bit-in mask bit = boolByte (not (eqb (bitAnd mask bit) 0))
 
 bit-lit : (mask g : ℕ) → mask < 64 → g < 6 → bit-in mask (2 ^ g) ≡ pick (hasGroup mask g) 1 0
 unfolding hasGroup
-bit-lit mask g h l =
-    let f : ℕ → ℕ → Bool = λ m g. eqb (bit-in m (2 ^ g)) (pick (hasGroup m g) 1 0) in
-    eqb→eq _ _ (all-at (f mask) 6 (all-at (λ m. all (f m) 6) 64 tt mask h) g l)
+bit-lit mask g h l = eqb→eq _ _ (all-pairs (λ m g. eqb (bit-in m (2 ^ g)) (pick (hasGroup m g) 1 0)) 64 (λ m. 6) tt mask g h l)
 
 -- the bit of a logical cluster's group: 1 and the bits of the groups below sum up to it
 abbrev past : ℕ → ℕ → ℕ → ℕ
@@ -69,18 +67,15 @@ cluster-lit once bits e e′ cell mask p h l =
     ∙ bit-lit mask (groupIn clusterStarts (logical .0)) h (cluster-runs .group-lt (logical .0) (renumbering .logical-lt 0 (at (j % 120)) (omega arith)))
     ∙ ap lit (same-logical cell p ∙ ap (λ (x : ℕ). renumber cell (at x)) same)
 
+-- what holds of both holds of the choice
+either : (P : ℕ → Type 0) {x y : ℕ} (b : Bool) → P x → P y → P (pick b x y)
+either P true p q = p
+either P false p q = q
+
 -- 63 has every group
 pub all-groups : (starts : List ℕ) (x : ℕ) → hasGroup 63 (groupIn starts x) ≡ true
 unfolding groupIn hasGroup
 all-groups starts x =
-    cases (ltb x (entry starts 1))
-    (λ e. rw e)
-    (λ e₁. cases (ltb x (entry starts 2))
-    (λ e. rw (e₁, e))
-    (λ e₂. cases (ltb x (entry starts 3))
-    (λ e. rw (e₁, e₂, e))
-    (λ e₃. cases (ltb x (entry starts 4))
-    (λ e. rw (e₁, e₂, e₃, e))
-    (λ e₄. cases (ltb x (entry starts 5))
-    (λ e. rw (e₁, e₂, e₃, e₄, e))
-    (λ e. rw (e₁, e₂, e₃, e₄, e))))))
+    let at : ℕ → Bool = λ i. ltb x (entry starts i) in
+    let lit : ℕ → Type 0 = λ g. hasGroup 63 g ≡ true in
+    either lit (at 1) refl (either lit (at 2) refl (either lit (at 3) refl (either lit (at 4) refl (either lit (at 5) refl refl))))

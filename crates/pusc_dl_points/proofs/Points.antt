@@ -1,6 +1,6 @@
 -- The points of a cluster, by the reverse: from the inverses of the bases and what is noted of the cluster.
-use mathlib.Core.Path.{_≡_, sym, ap, _∙_}
-use mathlib.Core.Bool.{Bool, true}
+use mathlib.Core.Path.{_≡_, refl, sym, ap, _∙_}
+use mathlib.Core.Bool.{true}
 use mathlib.Core.List.{List, [], _∷_}
 use Prim.Native.Nat.{ℕ, _+_, _-_, _*_, _/_, _%_, _<_, _≤_}
 use native.Mathlib.Omega.{arith}
@@ -12,8 +12,7 @@ use Rattle.base.specs.Steps.{entry, unrotate}
 use Rattle.base.specs.Rank.{rank}
 use Rattle.base.specs.Tabulate.{tabulate}
 use Rattle.base.specs.Model.{Starts}
-use Rattle.base.proofs.Test.{cases}
-use Rattle.base.proofs.Table.{all, all-at}
+use Rattle.base.proofs.Table.{all-at}
 use Rattle.base.proofs.Tabulate.{entry-of}
 use Rattle.base.proofs.Rank.{rank-run, rank-most}
 use Rattle.clusters.specs.Cluster.{renumber, clusterPlace}
@@ -24,9 +23,9 @@ use Rattle.pusc_dl.specs.Map.{addressOf, logicalOf, usedGroup, usedData}
 use Rattle.pusc_dl_points.specs.Model.{turnedInverse, inverseEntry, pointOfData, subchannelRank, groupRank, logicalEntry, clusterEntry, clusterNumber}
 use Rattle.clusters.specs.declared.Physical.{Physical}
 use Rattle.clusters.specs.declared.Logical.{Logical}
-use Rattle.clusters.proofs.Tables.{b12-perm, b8-perm}
+use Rattle.clusters.proofs.Tables.{b12-perm, b8-perm, all-pairs}
 use Rattle.clusters.proofs.Cluster.{OnPlace, on-place}
-use Rattle.clusters.proofs.Group.{cluster-runs, subchannel-runs}
+use Rattle.clusters.proofs.Group.{size-most, cluster-runs, subchannel-runs}
 use Rattle.pusc_dl.proofs.Inner.{subchannel-lt}
 use Rattle.clusters.proofs.Law.{renumbering}
 
@@ -35,29 +34,21 @@ use Rattle.clusters.proofs.Law.{renumbering}
 pub index-is : (n s : ℕ) → (n + 11 * s) % 24 ≡ unrotate 24 (13 * s) n
 index-is n s = omega arith
 
-pub inverse-12 : (cell x : ℕ) → x < 24 → inverseEntry cell x ≡ turnedInverse 12 cell x
-unfolding inverseEntry
-inverse-12 cell x h = rw (lt-ltb x 24 h)
+pub inverse-12 : (cell x : ℕ) → x < 24 → (inverseEntry cell x ≡ turnedInverse 12 cell x) × (inverseEntry cell x < 12)
+unfolding inverseEntry turnedInverse baseInverse ofSize
+inverse-12 cell x h = rw (lt-ltb x 24 h) (refl, b12-perm .from-lt (unrotate 12 cell (x % 12)) (omega arith))
 
-pub inverse-8 : (cell x : ℕ) → 24 ≤ x → inverseEntry cell x ≡ turnedInverse 8 cell x
-unfolding inverseEntry
-inverse-8 cell x h = rw (le-ltb x 24 h)
-
-pub turned-12 : (cell x : ℕ) → turnedInverse 12 cell x < 12
-unfolding turnedInverse baseInverse ofSize
-turned-12 cell x = b12-perm .from-lt (unrotate 12 cell (x % 12)) (omega arith)
-
-pub turned-8 : (cell x : ℕ) → turnedInverse 8 cell x < 8
-unfolding turnedInverse baseInverse ofSize
-turned-8 cell x = b8-perm .from-lt (unrotate 8 cell (x % 8)) (omega arith)
+pub inverse-8 : (cell x : ℕ) → 24 ≤ x → (inverseEntry cell x ≡ turnedInverse 8 cell x) × (inverseEntry cell x < 8)
+unfolding inverseEntry turnedInverse baseInverse ofSize
+inverse-8 cell x h = rw (le-ltb x 24 h) (refl, b8-perm .from-lt (unrotate 8 cell (x % 8)) (omega arith))
 
 -- the entries of their row
 module _ (cell : ℕ) (row : List ℕ) (t : Starts 48 (inverseEntry cell) row) (x : ℕ) where
   pub entry-12 : x < 24 → (entry row x ≡ turnedInverse 12 cell x) × (entry row x < 12)
-  entry-12 h = let e = t x (omega arith) ∙ inverse-12 cell x h in (e, rw e (turned-12 cell x))
+  entry-12 h = rw (t x (omega arith)) (inverse-12 cell x h)
 
   pub entry-8 : 24 ≤ x → x < 48 → (entry row x ≡ turnedInverse 8 cell x) × (entry row x < 8)
-  entry-8 h l = let e = t x l ∙ inverse-8 cell x h in (e, rw e (turned-8 cell x))
+  entry-8 h l = rw (t x l) (inverse-8 cell x h)
 
 -- the point of data number d, by its quotient and the entry of its remainder
 pub number-of : (size cell first n d x b r : ℕ) → n ≡ d / size → x % size ≡ d % size → b ≡ turnedInverse size cell x
@@ -74,15 +65,11 @@ abbrev lower : ℕ → ℕ → ℕ
 lower mask g = bitAnd mask (entry lowerGroups g)
 
 pub lower-small : (mask g : ℕ) → mask < 64 → g < 6 → bitAnd mask (entry lowerGroups g) < 64
-lower-small mask g h l =
-    let f : ℕ → ℕ → Bool = λ m g. ltb (lower m g) 64 in
-    ltb→lt _ _ (all-at (f mask) 6 (all-at (λ m. all (f m) 6) 64 tt mask h) g l)
+lower-small mask g h l = ltb→lt _ _ (all-pairs (λ m g. ltb (lower m g) 64) 64 (λ m. 6) tt mask g h l)
 
 pub lower-rank : (mask g : ℕ) → mask < 64 → g < 6 → rank (λ s. hasGroup (bitAnd mask (entry lowerGroups g)) (groupIn subchannelStarts s)) 60 ≡ groupRank mask g
 unfolding rank hasGroup groupIn
-lower-rank mask g h l =
-    let f : ℕ → ℕ → Bool = λ m g. eqb (rank (λ s. hasGroup (lower m g) (groupIn subchannelStarts s)) 60) (groupRank m g) in
-    eqb→eq _ _ (all-at (f mask) 6 (all-at (λ m. all (f m) 6) 64 tt mask h) g l)
+lower-rank mask g h l = eqb→eq _ _ (all-pairs (λ m g. eqb (rank (λ s. hasGroup (lower m g) (groupIn subchannelStarts s)) 60) (groupRank m g)) 64 (λ m. 6) tt mask g h l)
 
 starts-lt : (g : ℕ) → g < 6 → entry subchannelStarts g < 60
 starts-lt g h = ltb→lt _ _ (all-at (λ g. ltb (entry subchannelStarts g) 60) 6 tt g h)
@@ -100,37 +87,23 @@ module _ (mask : ℕ) (l : Logical) (h : l .0 < 120) where
   abbrev i : ℕ
   i = l .0 - entry clusterStarts g
 
-  pub g-lt : g < 6
+  g-lt : g < 6
   g-lt = cluster-runs .group-lt (l .0) h
-
-  pub start-le : entry clusterStarts g ≤ l .0
-  start-le = cluster-runs .start-le (l .0) h
 
   place-lt : i < 2 * groupSize g
   place-lt = cluster-runs .run-lt (l .0) h
 
-  -- twice the group's size, which is 12 or 8
   pub place-small : i < 24
-  unfolding groupSize
-  place-small = let l = place-lt in cases (eqb (g % 2) 0) (λ e. let l′ : i < 2 * 12 = rw e at l in omega arith) (λ e. let l′ : i < 2 * 8 = rw e at l in omega arith)
+  place-small = omega (arith, place-lt, size-most g)
 
-  pub place-odd : (g % 2 ≡ 0 → ⊥) → i < 16
+  place-odd : (g % 2 ≡ 0 → ⊥) → i < 16
   unfolding groupSize
   place-odd ne = let l = place-lt in let l′ : i < 2 * 8 = rw (ne-eqb (g % 2) 0 ne) at l in omega arith
 
   -- each part is read again
-  module _ (e : ℕ) (q : e ≡ logicalEntry mask l) where
-    its-rank : e / 64 ≡ groupRank mask g
-    unfolding logicalEntry
-    its-rank = omega (arith, q, place-small)
-
-    its-parity : e / 32 % 2 ≡ g % 2
-    unfolding logicalEntry
-    its-parity = omega (arith, q, place-small)
-
-    its-place : e % 32 ≡ i
-    unfolding logicalEntry
-    its-place = omega (arith, q, place-small)
+  parts : (e : ℕ) → e ≡ logicalEntry mask l → (e / 64 ≡ groupRank mask g) × (e / 32 % 2 ≡ g % 2) × (e % 32 ≡ i)
+  unfolding logicalEntry
+  parts e q = let lt = place-small in (omega arith, omega arith, omega arith)
 
 -- ---- a physical cluster
 
@@ -191,33 +164,29 @@ module _ (cell mask offset p : ℕ) (ho : offset < 2) (hp : p < 120) where
 
   -- as they are worked out from what is noted
   module _ (e : ℕ) (q : e ≡ clusterEntry cell mask p) where
-    noted : e ≡ logicalEntry mask logical
+    its-parts : (e / 64 ≡ groupRank mask group) × (e / 32 % 2 ≡ group % 2) × (e % 32 ≡ place)
     unfolding clusterEntry
-    noted = q
+    its-parts = parts mask logical logical-lt e q
 
     pub first-small : e / 64 < 60
-    first-small = rw (its-rank mask logical logical-lt e noted) (rank-small mask group (g-lt mask logical logical-lt))
+    first-small = rw (its-parts .0) (rank-small mask group (g-lt mask logical logical-lt))
 
     pub place-even-lt : e % 32 < 24
-    place-even-lt = rw (its-place mask logical logical-lt e noted) (place-small mask logical logical-lt)
+    place-even-lt = rw (its-parts .2) (place-small mask logical logical-lt)
 
     pub place-odd-lt : (e / 32 % 2 ≡ 0 → ⊥) → e % 32 < 16
-    place-odd-lt ne =
-        rw (its-place mask logical logical-lt e noted)
-        (place-odd mask logical logical-lt (λ z. ne (its-parity mask logical logical-lt e noted ∙ z)))
+    place-odd-lt ne = rw (its-parts .2) (place-odd mask logical logical-lt (λ z. ne (its-parts .1 ∙ z)))
 
     numbers-of : (size : ℕ) → groupSize group ≡ size → (row : List ℕ) → row ≡ tabulate 12 (λ r. e / 64 * 48 + offset * 24 + pointOfData size cell (e % 32 * 12 + r))
         → hasGroup mask (usedGroup cell (p * 14)) ≡ true → Starts 12 (clusterNumber cell mask offset p) row
-    numbers-of size es row er lit r h =
-        entry-of row 12 _ er r h
-        ∙ rw (its-rank mask logical logical-lt e noted, its-place mask logical logical-lt e noted, ← es) (cluster-number lit r h)
+    numbers-of size es row er lit r h = entry-of row 12 _ er r h ∙ rw (its-parts .0, its-parts .2, ← es) (cluster-number lit r h)
 
     pub numbers-12 : e / 32 % 2 ≡ 0 → (row : List ℕ) → row ≡ tabulate 12 (λ r. e / 64 * 48 + offset * 24 + pointOfData 12 cell (e % 32 * 12 + r))
         → hasGroup mask (usedGroup cell (p * 14)) ≡ true → Starts 12 (clusterNumber cell mask offset p) row
     unfolding groupSize
-    numbers-12 z = numbers-of 12 (rw (eq-eqb (group % 2) 0 (sym (its-parity mask logical logical-lt e noted) ∙ z)))
+    numbers-12 z = numbers-of 12 (rw (eq-eqb (group % 2) 0 (sym (its-parts .1) ∙ z)))
 
     pub numbers-8 : (e / 32 % 2 ≡ 0 → ⊥) → (row : List ℕ) → row ≡ tabulate 12 (λ r. e / 64 * 48 + offset * 24 + pointOfData 8 cell (e % 32 * 12 + r))
         → hasGroup mask (usedGroup cell (p * 14)) ≡ true → Starts 12 (clusterNumber cell mask offset p) row
     unfolding groupSize
-    numbers-8 ne = numbers-of 8 (rw (ne-eqb (group % 2) 0 (λ z. ne (its-parity mask logical logical-lt e noted ∙ z))))
+    numbers-8 ne = numbers-of 8 (rw (ne-eqb (group % 2) 0 (λ z. ne (its-parts .1 ∙ z))))

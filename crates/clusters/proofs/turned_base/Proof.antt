@@ -1,56 +1,46 @@
 -- `clusters::turned_base` meets its contract.
-use mathlib.Core.Path.{_≡_, refl, sym, ap, _∙_}
-use mathlib.Core.List.{List}
+use mathlib.Core.Path.{_≡_, sym, _∙_}
 use Prim.Native.Nat.{ℕ, _+_, _%_, _<_}
 use native.Mathlib.Nat.{add-mod-mod}
 use native.Mathlib.Omega.{arith}
 use borrow.Author.Needs.{needs}
 use Rattle.base.specs.Steps.{entry}
+use Rattle.clusters.specs.Table.{base12, base8}
 use Rattle.clusters.specs.Group.{groupSize, ofSize, baseOf}
-use Rattle.clusters.specs.Model.{turnedBase}
-use Rattle.clusters.proofs.Tables.{GoesOn, b12-goes-on, b8-goes-on}
+use Rattle.clusters.specs.Model.{base12Thrice, base8FourTimes, turnedBase}
+use Rattle.clusters.proofs.Tables.{goes-on}
 use Rattle.clusters.proofs.Group.{size-8}
 use Rattle.clusters.proofs.turned_base.Statement.{statement}
 use Rattle.clusters.proofs.turned_base.Tie as tie
 
--- an entry of a base that goes on past M, turned by the cell
-base-turned : {m n : ℕ} {long base : List ℕ} → GoesOn m n long base → (g cell i x r : ℕ) → groupSize g ≡ m → ((j : ℕ) → baseOf m j ≡ entry base j) → i < n
-    → x ≡ entry long i → (r ≡ (x + cell % m) % m) × (r < m) → (r ≡ turnedBase g cell i) × (r < groupSize g)
+-- an entry of B, turned by the cell
+turned : (g m cell i x r : ℕ) → groupSize g ≡ m → x ≡ baseOf m (i % m) → (r ≡ (x + cell % m) % m) × (r < m) → (r ≡ turnedBase g cell i) × (r < groupSize g)
 unfolding turnedBase
-base-turned {m = m} t g cell i x r e b h q p = rw e (p .0 ∙ rw (q, t .is i h, b (i % m), add-mod-mod), p .1)
+turned g m cell i x r e q p = rw e (p .0 ∙ rw (q, add-mod-mod), p .1)
 
--- the size of the group, in each arm
+-- the size of the group, in each arm, and the base's entry
 twelve : (c : tie.Then1) → groupSize (c .before .before .args .g) ≡ 12
 twelve c = sym (c .before .group-size .ensures .0) ∙ c .if1 .taken
 
 eight : (c : tie.Else1) → groupSize (c .before .before .args .g) ≡ 8
 eight c = size-8 _ _ (c .before .group-size .ensures .0) (c .if1 .left)
 
-twelve-lt : (c : tie.Then1) → entry (c .before .before .args .twelve .now) (c .before .before .args .i) < 12
-twelve-lt c = rw (c .before .before .pre .0) (b12-goes-on .below (c .before .before .args .i) (omega (arith, twelve c)))
+of-twelve : (c : tie.Then1) → let a = c .before .before .args in
+    (entry (a .twelve .now) (a .i) ≡ entry base12 (a .i % 12)) × (entry (a .twelve .now) (a .i) < 12)
+of-twelve c = rw (c .before .before .pre .0) (goes-on 12 36 base12Thrice base12 tt tt (c .before .before .args .i) (omega (arith, twelve c)))
 
-eight-lt : (c : tie.Else1) → entry (c .before .before .args .eight .now) (c .before .before .args .i) < 8
-eight-lt c = rw (c .before .before .pre .1) (b8-goes-on .below (c .before .before .args .i) (omega (arith, eight c)))
-
-returns : tie.Need-returns
-unfolding ofSize baseOf
-returns c =
-    let t = c .before .before in
-    let s = t .before .before in
-    base-turned b12-goes-on (s .args .g) (s .args .cell) (s .args .i) _ _ (twelve t) (λ j. refl) (omega (arith, twelve t)) (ap (λ l. entry l (s .args .i)) (s .pre .0)) (c .reduce16 .ensures)
-
-returns-2 : tie.Need-returns-2
-unfolding ofSize baseOf
-returns-2 c =
-    let t = c .before .before in
-    let s = t .before .before in
-    base-turned b8-goes-on (s .args .g) (s .args .cell) (s .args .i) _ _ (eight t) (λ j. refl) (omega (arith, eight t)) (ap (λ l. entry l (s .args .i)) (s .pre .1)) (c .reduce162 .ensures)
+of-eight : (c : tie.Else1) → let a = c .before .before .args in
+    (entry (a .eight .now) (a .i) ≡ entry base8 (a .i % 8)) × (entry (a .eight .now) (a .i) < 8)
+of-eight c = rw (c .before .before .pre .1) (goes-on 8 32 base8FourTimes base8 tt tt (c .before .before .args .i) (omega (arith, eight c)))
 
 pub turned-base-spec : {M : Type 1} → statement M
+unfolding ofSize baseOf
 turned-base-spec =
     tie.close
     (tie.spec
-    (λ c κs. search needs) (λ c. search needs) (λ c. omega (arith, twelve-lt (c .before))) (λ c. search needs)
-    (λ c. omega (arith, twelve-lt (c .before))) (λ c κs. omega (arith, twelve-lt (c .before)))
-    (λ c. omega (arith, eight c)) (λ c. omega (arith, eight-lt (c .before))) (λ c. search needs)
-    (λ c. omega (arith, eight-lt (c .before))) (λ c κs. omega (arith, eight-lt (c .before))) returns returns-2)
+    (λ c κs. search needs) (λ c. search needs) (λ c. omega (arith, of-twelve (c .before) .1)) (λ c. search needs)
+    (λ c. omega (arith, of-twelve (c .before) .1)) (λ c κs. omega (arith, of-twelve (c .before) .1))
+    (λ c. omega (arith, eight c)) (λ c. omega (arith, of-eight (c .before) .1)) (λ c. search needs)
+    (λ c. omega (arith, of-eight (c .before) .1)) (λ c κs. omega (arith, of-eight (c .before) .1))
+    (λ c. turned _ 12 _ _ _ _ (twelve (c .before .before)) (of-twelve (c .before .before) .0) (c .reduce16 .ensures))
+    (λ c. turned _ 8 _ _ _ _ (eight (c .before .before)) (of-eight (c .before .before) .0) (c .reduce162 .ensures)))
