@@ -2,7 +2,6 @@
 use mathlib.Core.Path.{_≡_, sym, ap, _∙_}
 use mathlib.Core.Bool.{Bool, true, false}
 use Prim.Native.Nat.{ℕ, suc, _+_, _-_, _%_, _/_, _<_, _≤_}
-use native.Mathlib.Nat.{add-assoc, mod-add-mod, add-mod-mod}
 use native.Mathlib.Omega.{arith}
 use lib.Dec.{lit<, eqb}
 use borrow.Author.Tests.{eqb-true, eqb-false, eq-eqb}
@@ -35,6 +34,10 @@ same-place i j hi hj e = sym (powers i hi .position) ∙ ap (λ (x : Element). e
 same-turn : (d i j : ℕ) → i < 48 → j < 48 → (i + d) % 48 ≡ (j + d) % 48 → i ≡ j
 same-turn d i j hi hj e = omega arith
 
+-- from one turn to another
+onto : (p q j : ℕ) → p < 48 → q < 48 → (j + q) % 48 ≡ ((j + p) % 48 + suc ((q + 47 - p) % 48)) % 48
+onto p q j hp hq = omega arith
+
 -- the zero rule fires at index j
 fires : ℕ → ℕ → Bool
 fires cell j = eqb (baseSeven (sumAt cell j)) 0
@@ -57,11 +60,9 @@ agree a b j = eqb (baseSeven (sumAt a j)) (baseSeven (sumAt b j))
 -- equal sums: the difference of the entries is that of the offsets
 crossed-digit : (x y o p : ℕ) → x < 7 → p < 7 → (x + o) % 7 ≡ (y + p) % 7 → unrotate 7 y x ≡ unrotate 7 o p
 crossed-digit x y o p hx hp e =
+    let forward : (z : ℕ) → (z + y) % 7 ≡ x → (z + o) % 7 ≡ p = λ z q. omega arith in
     sym (rotation 7 o (lit< tt) .back (unrotate 7 y x) (omega arith))
     ∙ ap (unrotate 7 o) (forward (unrotate 7 y x) (rotation 7 y (lit< tt) .forth x hx))
-  where
-    forward : (z : ℕ) → (z + y) % 7 ≡ x → (z + o) % 7 ≡ p
-    forward z q = omega arith
 
 crossed : (x y o p : Element) → Proper x → Proper p → add x o ≡ add y p → subtract x y ≡ subtract p o
 unfolding add subtract
@@ -71,12 +72,11 @@ crossed x y o p hx hp e = λ i. element
 
 same-offset : (x o p : Element) → Proper o → Proper p → add x o ≡ add x p → o ≡ p
 unfolding add
-same-offset x o p ho hp e = λ i. element
+same-offset x o p ho hp e =
+    let digit : (x o p : ℕ) → o < 7 → p < 7 → (x + o) % 7 ≡ (x + p) % 7 → o ≡ p = λ x o p ho hp e. omega arith in
+    λ i. element
     (digit (x .high) (o .high) (p .high) (ho .high-lt) (hp .high-lt) (ap (λ (s : Element). s .high) e) i)
     (digit (x .low) (o .low) (p .low) (ho .low-lt) (hp .low-lt) (ap (λ (s : Element). s .low) e) i)
-  where
-    digit : (x o p : ℕ) → o < 7 → p < 7 → (x + o) % 7 ≡ (x + p) % 7 → o ≡ p
-    digit x o p ho hp e = omega arith
 
 module _ (a b : ℕ) (ha : a < 2352) (hb : b < 2352) (other : a ≡ b → ⊥) where
   agreed : (j : ℕ) → agree a b j ≡ true → sumAt a j ≡ sumAt b j
@@ -110,21 +110,10 @@ module _ (a b : ℕ) (ha : a < 2352) (hb : b < 2352) (other : a ≡ b → ⊥) w
 
       at : (j : ℕ) → agree a b j ≡ true → (a % 48 ≡ b % 48 → ⊥) → entry positions (baseSeven (subtract (off b) (off a))) ≡ (turned a j + distance (suc d)) % 48
       at j e ne =
-          ap (λ (x : Element). entry positions (baseSeven x)) (sym (entries j e) ∙ ap (λ (k : ℕ). subtract (sequence (turned a j)) (sequence k)) (onto j))
-          ∙ difference d (turned a j) (short ne) (turn-lt a ha j)
-        where
-          near : (p q : ℕ) → p < 48 → q < 48 → (p + suc ((q + 47 - p) % 48)) % 48 ≡ q
-          near p q hp hq = omega arith
-
-          onto : (j : ℕ) → turned b j ≡ (turned a j + suc d) % 48
-          onto j = sym
-              (mod-add-mod (j + a % 48) 48 (suc d)
-              ∙ ap (λ (t : ℕ). t % 48) (add-assoc j (a % 48) (suc d))
-              ∙ sym (add-mod-mod j (a % 48 + suc d) 48)
-              ∙ ap (λ (t : ℕ). (j + t) % 48) (near (a % 48) (b % 48) (omega arith) (omega arith)))
-
-          short : (a % 48 ≡ b % 48 → ⊥) → d < 47
-          short ne = omega arith
+          let short : d < 47 = omega arith in
+          let on = onto (a % 48) (b % 48) j (omega arith) (omega arith) in
+          ap (λ (x : Element). entry positions (baseSeven x)) (sym (entries j e) ∙ ap (λ (k : ℕ). subtract (sequence (turned a j)) (sequence k)) on)
+          ∙ difference d (turned a j) short (turn-lt a ha j)
 
       turn : (a % 48 ≡ b % 48 → ⊥) → turned a i ≡ turned a j
       turn ne = same-turn (distance (suc d)) (turned a i) (turned a j) (turn-lt a ha i) (turn-lt a ha j) (sym (at i p ne) ∙ at j q ne)
