@@ -2,28 +2,25 @@
 use mathlib.Core.Path.{_≡_, refl, sym, ap, _∙_}
 use mathlib.Core.Bool.{true}
 use mathlib.Core.List.{List, [], _∷_, _++_}
-use Prim.Native.Nat.{ℕ, zero, suc, _+_, _-_, _<_, _≤_}
-use native.Mathlib.Omega.{arith}
-use lib.Dec.{T, ltb}
+use Prim.Native.Nat.{ℕ, zero, suc, _+_, _<_, _≤_}
+use lib.Dec.{T}
 use lib.ListN.{length, take, drop, getD}
-use lib.Seq.{getD-take, getD-drop}
-use borrow.Author.Tests.{ltb-true, ltb-false}
 use Rattle.base.specs.Answer.{Answer, accepted, refused, refusalOf}
 use Rattle.base.proofs.Chain.{Questions, askAll, firstNo, AllYes, counted, all-yes, yes-parts, all-accepted, all-pass, is-refused}
-use Rattle.base.proofs.Test.{cases, both-true, up-to}
+use Rattle.base.proofs.Test.{up-to}
 use Rattle.map.specs.Question.{isFourSizes, isSize}
 use Rattle.map.proofs.Accept.{size-most}
 use Rattle.zone.specs.declared.Zone.{Zone}
 use Rattle.zone.specs.declared.Before.{Before}
 use Rattle.zone.specs.declared.Before.the-variants.{First, After}
-use Rattle.zone.specs.Zone.{askZone, unused, isUnused}
+use Rattle.zone.specs.Zone.{askZone, unused}
 use Rattle.zone.specs.Model.{zoneRefusal, Small}
 use Rattle.zone.proofs.Number.{zoneQuestions, zone-no, zone-passed}
-use Rattle.zone.proofs.Judge.{small, unused-is, small-unused}
+use Rattle.zone.proofs.Judge.{small, small-unused}
 use Rattle.plan.specs.declared.Plan.{Plan}
-use Rattle.plan.specs.Plan.{isCount, areUnused, usedZones, askZones, askPlan}
+use Rattle.plan.specs.Plan.{isCount, inPlaces, areUnused, usedZones, askZones, askPlan}
 use Rattle.plan.specs.Model.{zonesRefusal, planRefusal}
-use Rattle.plan.proofs.Places.{used-next, used-none}
+use Rattle.plan.proofs.Places.{used-next, used-none, places-of}
 
 -- ---- the zones one after the other
 
@@ -110,18 +107,16 @@ size-small z e = size-most (setupWith 2 z 0) e
 pub fit-small : {p : Plan} → Fit p → (k : ℕ) → Small (getD (usedZones p) k unused)
 fit-small {p} f k = zones-small (p .size) First (usedZones p) k (f .judged)
 
-pub used-small : {p : Plan} → Fit p → (k : ℕ) → k < p .count → Small (getD (p .zones) k unused)
-used-small {p} f k h = rw (getD-take (p .count) (p .zones) k unused h) at (fit-small f k)
+places-small : (n : ℕ) (zones : List Zone) → ((k : ℕ) → Small (getD zones k unused)) → (k : ℕ) → Small (getD (inPlaces n zones) k unused)
+unfolding inPlaces
+places-small zero zones s k = small-unused
+places-small (suc n) [] s zero = small-unused
+places-small (suc n) [] s (suc k) = places-small n [] s k
+places-small (suc n) (z ∷ zones) s zero = s 0
+places-small (suc n) (z ∷ zones) s (suc k) = places-small n zones (λ j. s (suc j)) k
 
-pub unused-small : (zones : List Zone) (k : ℕ) → areUnused zones ≡ true → Small (getD zones k unused)
-unfolding areUnused
-unused-small [] k e = small-unused
-unused-small (z ∷ zones) zero e = rw (← unused-is z (both-true (isUnused z) (areUnused zones) e .0)) small-unused
-unused-small (z ∷ zones) (suc k) e = unused-small zones k (both-true (isUnused z) (areUnused zones) e .1)
+pub none-small : (n k : ℕ) → Small (getD (inPlaces n []) k unused)
+none-small n = places-small n [] (λ k. small-unused)
 
-pub all-small : {p : Plan} → Fit p → (k : ℕ) → Small (getD (p .zones) k unused)
-all-small {p} f k =
-    cases (ltb k (p .count))
-    (λ e. used-small f k (ltb-true k (p .count) e))
-    (λ e. let past : p .count + (k - p .count) ≡ k = omega (arith, ltb-false k (p .count) e) in
-    rw (getD-drop (p .count) (p .zones) (k - p .count) unused, past) at (unused-small (drop (p .count) (p .zones)) (k - p .count) (f .unused-are)))
+pub all-small : {p : Plan} → Fit p → length (p .zones) ≡ 8 → (k : ℕ) → Small (getD (p .zones) k unused)
+all-small {p} f l k = rw (places-of 8 (p .count) (p .zones) l (f .unused-are)) at (places-small 8 (usedZones p) (fit-small f) k)

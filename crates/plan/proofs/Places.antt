@@ -40,18 +40,12 @@ set-places (suc n) [] z h = refl
 set-places (suc n) (y ∷ zones) z h = ap (λ l. y ∷ l) (set-places n zones z (omega arith))
 
 -- the used places are the zones, and the others are unused
-pub take-places : (n : ℕ) (zones : List Zone) → length zones ≤ n → take (length zones) (inPlaces n zones) ≡ zones
-unfolding inPlaces
-take-places n [] h = refl
-take-places zero (z ∷ zones) h = absurd (omega arith)
-take-places (suc n) (z ∷ zones) h = ap (λ l. z ∷ l) (take-places n zones (omega arith))
-
-pub drop-places : (n : ℕ) (zones : List Zone) → length zones ≤ n → areUnused (drop (length zones) (inPlaces n zones)) ≡ true
+pub places-are : (n : ℕ) (zones : List Zone) → length zones ≤ n → (take (length zones) (inPlaces n zones) ≡ zones) × (areUnused (drop (length zones) (inPlaces n zones)) ≡ true)
 unfolding inPlaces areUnused isUnused
-drop-places zero [] h = refl
-drop-places (suc n) [] h = drop-places n [] (omega arith)
-drop-places zero (z ∷ zones) h = absurd (omega arith)
-drop-places (suc n) (z ∷ zones) h = drop-places n zones (omega arith)
+places-are zero [] h = (refl, refl)
+places-are (suc n) [] h = (refl, places-are n [] (omega arith) .1)
+places-are zero (z ∷ zones) h = absurd (omega arith)
+places-are (suc n) (z ∷ zones) h = let p = places-are n zones (omega arith) in (ap (λ l. z ∷ l) (p .0), p .1)
 
 -- the places from the k-th on are unused where the k-th is, and those after it
 module _ (zones : List Zone) (k : ℕ) (e : length zones ≡ 8) where

@@ -17,8 +17,7 @@ use Rattle.zone.specs.Zone.{valuesOf, unused}
 use Rattle.plan.specs.Plan.{each}
 use Rattle.plan_read.specs.Read.{planWith, planOf, answered}
 use Rattle.zone.specs.Model.{Small}
-use Rattle.plan.proofs.Places.{drop-places}
-use Rattle.plan.proofs.Judge.{unused-small, all-small, count-most, size-small}
+use Rattle.plan.proofs.Judge.{none-small, all-small, count-most, size-small}
 use Rattle.plan.proofs.Each.{each-more}
 use Rattle.plan_write.proofs.Round.{plan-of}
 use Rattle.plan_numbers.specs.Numbers.{numbersOf, placeIn, placesIn}
@@ -86,7 +85,7 @@ read-small s r e = by (planOf s) refl
     by (accepted p) q =
         let same : r ≡ record { refusal = 0; plan = p } = e ∙ ap answered q in
         let t = plan-of s q in
-        rw same (record { count-is = count-most (p .count) (t .fit .count-is); size-is = size-small (p .size) (t .fit .size-is); zones-are = all-small (t .fit) })
+        rw same (record { count-is = count-most (p .count) (t .fit .count-is); size-is = size-small (p .size) (t .fit .size-is); zones-are = all-small (t .fit) (t .eight) })
     by (refused k) q =
         let same : r ≡ record { refusal = k; plan = planWith 0 0 [] } = e ∙ ap answered q in
-        rw same (record { count-is = omega arith; size-is = omega arith; zones-are = λ i. unused-small (planWith 0 0 [] .zones) i (drop-places 8 [] (omega arith)) })
+        rw same (record { count-is = omega arith; size-is = omega arith; zones-are = none-small 8 })

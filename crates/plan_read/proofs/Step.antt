@@ -72,30 +72,30 @@ zonesAt s at count size = readZones count size First (drop at s) (finish count s
 pub record Reading (s : List ℕ) (at count size : ℕ) (zones : List Zone) (prior : Before) (next k : ℕ) : Type 0 where
   pub done : List Zone
   pub number-done : length done ≡ k
-  pub below : k ≤ count
   pub places : zones ≡ inPlaces 8 done
   pub rest : zonesAt s at count size ≡ readZones (count - k) size prior (drop next s) (λ further s₁. finish count size (done ++ further) s₁)
 
 pub begin : (s : List ℕ) (at count size : ℕ) {zones : List Zone} → zones ≡ inPlaces 8 [] → Reading s at count size zones First at 0
-begin s at count size e = record { done = []; number-done = refl; below = omega arith; places = e; rest = ap (λ n. readZones n size First (drop at s) (finish count size)) (omega arith) }
+begin s at count size e = record { done = []; number-done = refl; places = e; rest = ap (λ n. readZones n size First (drop at s) (finish count size)) (omega arith) }
 
 module _ {s : List ℕ} {at count size : ℕ} {zones : List Zone} {prior : Before} {next k : ℕ} (h : Reading s at count size zones prior next k) where
   -- one zone more is to be read
   module _ (l : k < count) (r : ZoneFound) (f : ZoneAt s next r) where
-    ahead : zonesAt s at count size ≡ readZones (suc (count - suc k)) size prior (drop next s) (λ further s₁. finish count size (h .done ++ further) s₁)
-    ahead = h .rest ∙ ap (λ n. readZones n size prior (drop next s) (λ further s₁. finish count size (h .done ++ further) s₁)) (omega arith)
-
     abbrev go : Zone → List ℕ → Answer Plan
     go z s₁ = askZone size prior z (readZones (count - suc k) size (After (z .mode)) s₁ (λ further s₂. finish count size (h .done ++ z ∷ further) s₂))
 
-    pub zone-none : {n : ℕ} → r ≡ Refused n → refused n ≡ zonesAt s at count size
+    zone-ahead : zonesAt s at count size ≡ zoneFound s r go
     unfolding readZones
-    zone-none q = sym (ahead ∙ sym (f go) ∙ ap (λ x. zoneFound s x go) q)
+    zone-ahead =
+        let one : count - k ≡ suc (count - suc k) = omega arith in
+        h .rest ∙ ap (λ n. readZones n size prior (drop next s) (λ further s₁. finish count size (h .done ++ further) s₁)) one ∙ sym (f go)
+
+    pub zone-none : {n : ℕ} → r ≡ Refused n → refused n ≡ zonesAt s at count size
+    zone-none q = rw (zone-ahead, q)
 
     module _ {z : Zone} {after n : ℕ} (q : r ≡ Found z after) (e : n ≡ zoneRefusal size prior z) where
       asked : zonesAt s at count size ≡ go z (drop after s)
-      unfolding readZones
-      asked = ahead ∙ sym (f go) ∙ ap (λ x. zoneFound s x go) q
+      asked = zone-ahead ∙ ap (λ x. zoneFound s x go) q
 
       pub zone-refused : (n ≡ 0 → ⊥) → refused n ≡ zonesAt s at count size
       zone-refused nonzero = zone-no size prior z _ n e nonzero ∙ sym asked
@@ -105,7 +105,6 @@ module _ {s : List ℕ} {at count size : ℕ} {zones : List Zone} {prior : Befor
           record {
             done = h .done ++ z ∷ [];
             number-done = simp length-append (omega (arith, h .number-done));
-            below = omega arith;
             places = rw (h .places, ← h .number-done) (set-places 8 (h .done) z (omega (arith, h .number-done)));
             rest = simp (append-snoc, add-one) (asked ∙ sym (zone-passed size prior z _ n e zero));
           }
@@ -114,10 +113,7 @@ module _ {s : List ℕ} {at count size : ℕ} {zones : List Zone} {prior : Befor
   module _ (l : count ≤ k) where
     ended : zonesAt s at count size ≡ finish count size (h .done) (drop next s)
     unfolding readZones
-    ended = h .rest ∙ ap (λ n. readZones n size prior (drop next s) (λ further s₁. finish count size (h .done ++ further) s₁)) none ∙ ap (λ list. finish count size list (drop next s)) (append-nil (h .done))
-      where
-        none : count - k ≡ 0
-        none = omega arith
+    ended = let none : count - k ≡ 0 = omega arith in rw (h .rest, none, append-nil)
 
     pub too-long : next < length s → refused 15 ≡ zonesAt s at count size
     too-long t = rw (ended, length-drop, ne-eqb (length s - next) 0 (λ z. omega arith))

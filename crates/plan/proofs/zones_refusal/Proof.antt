@@ -17,27 +17,18 @@ Inv-loop count size zones prior₀ k₀ prior k = (length zones ≡ 8) × (count
 abbrev μ-loop : tie.MeasureT-loop
 μ-loop count size zones prior₀ k₀ prior k = count - k
 
-loop-holds : tie.Need-loop-holds Inv-loop μ-loop
-loop-holds c = (search (length-mapped, needs) depth 8, c .before .pre, refl)
-
-returns : tie.Need-returns Inv-loop μ-loop
-returns c =
-    let inv = c .before .before .before .before .loop .inv in
-    zones-no _ _ _ _ _ (omega (arith, inv .0, inv .1)) (c .before .before .before .loop-test .taken) (c .before .zone-refusal .ensures) (c .if1 .taken) ∙ inv .2
-
-loop-again : tie.Need-loop-again Inv-loop μ-loop
-loop-again c =
-    let inv = c .before .before .before .before .loop .inv in
-    (inv .0, inv .1, zones-next _ _ _ _ _ (omega (arith, inv .0, inv .1)) (c .before .before .before .loop-test .taken) (c .before .zone-refusal .ensures) (c .if1 .left) ∙ inv .2)
-
-returns-2 : tie.Need-returns-2 Inv-loop μ-loop
-returns-2 c =
-    let inv = c .before .loop .inv in
-    zones-end _ _ _ _ _ (omega (arith, inv .0, inv .1)) (c .loop-test .left) ∙ inv .2
-
 pub zones-refusal-spec : {M : Type 1} → statement M
 zones-refusal-spec =
     tie.close
     (tie.spec
-    Inv-loop μ-loop loop-holds (λ c. search needs) (λ c. search needs) (λ c κs. search needs) returns
-    (λ c. search needs) (λ c. search needs) loop-again returns-2)
+    Inv-loop μ-loop (λ c. (search (length-mapped, needs) depth 8, c .before .pre, refl)) (λ c. search needs) (λ c. search needs) (λ c κs. search needs)
+    (λ c.
+    let loop = c .before .before .before in
+    let inv = loop .before .loop .inv in
+    zones-no _ _ _ _ _ (omega (arith, inv .0, inv .1)) (loop .loop-test .taken) (c .before .zone-refusal .ensures) (c .if1 .taken) ∙ inv .2)
+    (λ c. search needs) (λ c. search needs)
+    (λ c.
+    let loop = c .before .before .before in
+    let inv = loop .before .loop .inv in
+    (inv .0, inv .1, zones-next _ _ _ _ _ (omega (arith, inv .0, inv .1)) (loop .loop-test .taken) (c .before .zone-refusal .ensures) (c .if1 .left) ∙ inv .2))
+    (λ c. let inv = c .before .loop .inv in zones-end _ _ _ _ _ (omega (arith, inv .0, inv .1)) (c .loop-test .left) ∙ inv .2))

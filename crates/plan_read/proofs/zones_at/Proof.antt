@@ -1,10 +1,7 @@
 -- `plan_read::zones_at` meets its contract: while zones are read, the rest gives what the whole gives.
-use mathlib.Core.Path.{_≡_, refl, ap, _∙_}
-use mathlib.Core.List.{[]}
+use mathlib.Core.Path.{refl, ap, _∙_}
 use Prim.Native.Nat.{_-_}
 use borrow.Author.Needs.{needs}
-use lib.ListN.{replicate}
-use Rattle.zone.specs.Zone.{unused}
 use Rattle.plan.specs.Plan.{inPlaces}
 use Rattle.plan_read.specs.Read.{answered}
 use Rattle.plan_read.proofs.Step.{Reading, begin, zone-none, zone-refused, again, too-long, whole}
@@ -17,40 +14,25 @@ Inv-loop bytes at count size zones₀ prior₀ next₀ k₀ zones prior next k =
 abbrev μ-loop : tie.MeasureT-loop
 μ-loop bytes at count size zones₀ prior₀ next₀ k₀ zones prior next k = count - k
 
-eight-unused : replicate 8 unused ≡ inPlaces 8 []
-unfolding inPlaces
-eight-unused = refl
-
-loop-holds : tie.Need-loop-holds Inv-loop μ-loop
-loop-holds c = begin (c .before .args .bytes .now) (c .before .args .at) (c .before .args .count) (c .before .args .size) eight-unused
-
-returns : tie.Need-returns Inv-loop μ-loop
-returns c =
-    let found = c .before .before .before .before in
-    c .refused .ensures ∙ ap answered (zone-none (found .before .before .loop .inv) (found .before .loop-test .taken) _ (found .zone-at .ensures) (c .before .before .number .given .1))
-
-returns-2 : tie.Need-returns-2 Inv-loop μ-loop
-returns-2 c =
-    let found = c .before .before .before .before .before .before in
-    c .refused2 .ensures
-    ∙ ap answered
-    (zone-refused (found .before .before .loop .inv) (found .before .loop-test .taken) _ (found .zone-at .ensures) (c .before .before .before .before .zone .given .1) (c .before .before .zone-refusal .ensures) (c .before .if1 .taken))
-
-loop-again : tie.Need-loop-again Inv-loop μ-loop
-loop-again c =
-    let found = c .before .before .before .before .before in
-    again (found .before .before .loop .inv) (found .before .loop-test .taken) _ (found .zone-at .ensures) (c .before .before .before .zone .given .1) (c .before .zone-refusal .ensures) (c .if1 .left) (found .before .before .before .before .pre)
-
-returns-3 : tie.Need-returns-3 Inv-loop μ-loop
-returns-3 c = c .refused3 .ensures ∙ ap answered (too-long (c .before .before .before .loop .inv) (c .before .before .loop-test .left) (c .before .if2 .taken))
-
-returns-4 : tie.Need-returns-4 Inv-loop μ-loop
-returns-4 c = ap answered (whole (c .before .before .loop .inv) (c .before .loop-test .left) (c .if2 .left))
-
 pub zones-at-spec : {M : Type 1} → statement M
+unfolding inPlaces
 zones-at-spec =
     tie.close
     (tie.spec
-    Inv-loop μ-loop loop-holds (λ c κs. search needs) (λ c. search needs) (λ c κs. search needs) returns
-    (λ c. search needs) (λ c κs. search needs) (λ c κs. search needs) returns-2 (λ c. search needs)
-    (λ c. search needs) (λ c. search needs) (λ c. search needs) loop-again (λ c κs. search needs) returns-3 returns-4)
+    Inv-loop μ-loop (λ c. let a = c .before .args in begin (a .bytes .now) (a .at) (a .count) (a .size) refl) (λ c κs. search needs) (λ c. search needs) (λ c κs. search needs)
+    (λ c.
+    let found = c .before .before .before .before in
+    c .refused .ensures ∙ ap answered (zone-none (found .before .before .loop .inv) (found .before .loop-test .taken) _ (found .zone-at .ensures) (c .before .before .number .given .1)))
+    (λ c. search needs) (λ c κs. search needs) (λ c κs. search needs)
+    (λ c.
+    let found = c .before .before .before .before .before .before in
+    c .refused2 .ensures
+    ∙ ap answered
+    (zone-refused (found .before .before .loop .inv) (found .before .loop-test .taken) _ (found .zone-at .ensures) (c .before .before .before .before .zone .given .1) (c .before .before .zone-refusal .ensures) (c .before .if1 .taken)))
+    (λ c. search needs) (λ c. search needs) (λ c. search needs) (λ c. search needs)
+    (λ c.
+    let found = c .before .before .before .before .before in
+    again (found .before .before .loop .inv) (found .before .loop-test .taken) _ (found .zone-at .ensures) (c .before .before .before .zone .given .1) (c .before .zone-refusal .ensures) (c .if1 .left) (found .before .before .before .before .pre))
+    (λ c κs. search needs)
+    (λ c. c .refused3 .ensures ∙ ap answered (too-long (c .before .before .before .loop .inv) (c .before .before .loop-test .left) (c .before .if2 .taken)))
+    (λ c. ap answered (whole (c .before .before .loop .inv) (c .before .loop-test .left) (c .if2 .left))))

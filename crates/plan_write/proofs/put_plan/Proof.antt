@@ -9,7 +9,7 @@ use Rattle.zone.specs.Zone.{unused}
 use Rattle.plan.specs.Plan.{each}
 use Rattle.plan_write.specs.Write.{zoneBytes, planBytes}
 use Rattle.plan.proofs.Places.{length-mapped}
-use Rattle.plan.proofs.Judge.{fit-of, used-small, count-most, size-small}
+use Rattle.plan.proofs.Judge.{fit-of, all-small, count-most, size-small}
 use Rattle.plan_write.proofs.Bytes.{plan-length}
 use Rattle.plan.proofs.Each.{Putting, put-begin, put-room, put-again, put-all}
 use Rattle.plan_write.proofs.put_plan.Statement.{statement}
@@ -21,55 +21,45 @@ Inv-loop dest₀ used zones after-count at₀ k₀ dest at k = Putting 8 zoneByt
 abbrev μ-loop : tie.MeasureT-loop
 μ-loop dest₀ used zones after-count at₀ k₀ dest at k = used - k
 
-write-requires : tie.Need-write-requires Inv-loop μ-loop
-write-requires c κs =
-    let start = c .before .before .before in
-    let most = count-most _ (fit-of _ (start .pre .0) .count-is) in
-    (omega arith, omega (arith, start .pre .1, plan-length (start .args .plan)))
-
-write-requires-2 : tie.Need-write-requires-2 Inv-loop μ-loop
-write-requires-2 c κs =
-    let first = c .before .before .before .write in
-    let start = c .before .before .before .before .before .before .before in
-    let few = size-small _ (fit-of (start .args .plan) (start .pre .0) .size-is) in
-    (omega arith, omega (arith, start .pre .1, first .ensures .next-is, first .kept .0, plan-length (start .args .plan)))
-
-loop-holds : tie.Need-loop-holds Inv-loop μ-loop
-loop-holds c =
-    let second = c .before .before .write2 in
-    let first = c .before .before .before .before .before .before .write in
-    let start = c .before .before .before .before .before .before .before .before .before .before in
-    let p = start .args .plan in (
-      put-begin _ _ _ _ _ (search (length-mapped, needs) depth 8),
-      count-most _ (fit-of p (start .pre .0) .count-is),
-      omega (arith, start .pre .1, first .ensures .next-is, first .kept .0, second .ensures .next-is, second .kept .0, plan-length p),
-    )
-
-put-zone-requires : tie.Need-put-zone-requires Inv-loop μ-loop
-put-zone-requires c κs =
-    let loop = c .before .before .before in
-    let inv = loop .loop .inv in
-    let start = loop .before .before .before .before .before .before .before .before .before .before .before in
-    let in-loop = c .before .before .loop-test .taken in
-    (used-small (fit-of _ (start .pre .0)) _ in-loop, put-room (inv .0) unused (omega (arith, inv .1)) in-loop (inv .2))
-
-loop-again : tie.Need-loop-again Inv-loop μ-loop
-loop-again c =
-    let put = c .before .before .put-zone in
-    let inv = c .before .before .before .before .before .before .loop .inv in
-    let in-loop = c .before .before .before .before .before .loop-test .taken in
-    (put-again (inv .0) unused (omega (arith, inv .1)) in-loop (omega (arith, inv .2)) (put .kept .0) (put .ensures), inv .1, inv .2)
-
-same-length : tie.Need-same-length Inv-loop μ-loop
-same-length c = c .before .loop .inv .0 .kept ∙ c .before .before .before .before .write2 .kept .0 ∙ c .before .before .before .before .before .before .before .before .write .kept .0
-
 returns : tie.Need-returns Inv-loop μ-loop
 unfolding planBytes
-returns c = put-three _ _ _ (omega arith) (c .before .before .before .before .before .before .before .before .write .ensures) (c .before .before .before .before .write2 .ensures) (put-all (c .before .loop .inv .0) (c .loop-test .left))
+returns c =
+    let second = c .before .before .before .before in
+    put-three _ _ _ (omega arith) (second .before .before .before .before .write .ensures) (second .write2 .ensures) (put-all (c .before .loop .inv .0) (c .loop-test .left))
 
 pub put-plan-spec : {M : Type 1} → statement M
 put-plan-spec =
     tie.close
     (tie.spec
-    Inv-loop μ-loop write-requires write-requires-2 loop-holds (λ c. search needs) (λ c. search needs)
-    put-zone-requires (λ c. search needs) (λ c. search needs) loop-again same-length returns)
+    Inv-loop μ-loop
+    (λ c κs.
+    let start = c .before .before .before in
+    let most = count-most _ (fit-of _ (start .pre .0) .count-is) in
+    (omega arith, omega (arith, start .pre .1, plan-length (start .args .plan))))
+    (λ c κs.
+    let first = c .before .before .before in
+    let start = first .before .before .before .before in
+    let few = size-small _ (fit-of (start .args .plan) (start .pre .0) .size-is) in
+    (omega arith, omega (arith, start .pre .1, first .write .ensures .next-is, first .write .kept .0, plan-length (start .args .plan))))
+    (λ c.
+    let second = c .before .before .write2 in
+    let first = c .before .before .before .before .before .before .write in
+    let start = c .before .before .before .before .before .before .before .before .before .before in (
+      put-begin _ _ _ _ _ (search (length-mapped, needs) depth 8),
+      count-most _ (fit-of (start .args .plan) (start .pre .0) .count-is),
+      omega (arith, start .pre .1, first .ensures .next-is, first .kept .0, second .ensures .next-is, second .kept .0, plan-length (start .args .plan)),
+    ))
+    (λ c. search needs) (λ c. search needs)
+    (λ c κs.
+    let loop = c .before .before .before in
+    let inv = loop .loop .inv in
+    let start = loop .before .before .before .before .before .before .before .before .before .before .before in
+    (all-small (fit-of _ (start .pre .0)) (inv .0 .places) _, put-room (inv .0) unused (omega (arith, inv .1)) (c .before .before .loop-test .taken) (inv .2)))
+    (λ c. search needs) (λ c. search needs)
+    (λ c.
+    let put = c .before .before .put-zone in
+    let loop = c .before .before .before .before .before in
+    let inv = loop .before .loop .inv in
+    (put-again (inv .0) unused (omega (arith, inv .1)) (loop .loop-test .taken) (omega (arith, inv .2)) (put .kept .0) (put .ensures), inv .1, inv .2))
+    (λ c. let second = c .before .before .before .before in c .before .loop .inv .0 .kept ∙ second .write2 .kept .0 ∙ second .before .before .before .before .write .kept .0)
+    returns)

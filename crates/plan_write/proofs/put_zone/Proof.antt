@@ -17,30 +17,21 @@ Inv-loop dest₀ at values next₀ k₀ dest next k = Putting 4 encode dest₀ 4
 abbrev μ-loop : tie.MeasureT-loop
 μ-loop dest₀ at values next₀ k₀ dest next k = 4 - k
 
-loop-holds : tie.Need-loop-holds Inv-loop μ-loop
-unfolding zoneBytes
-loop-holds c = (put-begin encode _ 4 _ _ (search needs), within (c .before .pre .0), c .before .pre .1)
-
-write-requires : tie.Need-write-requires Inv-loop μ-loop
-write-requires c κs =
-    let loop = c .before .before .loop in
-    let in-loop = c .before .loop-test .taken in
-    (value-small (loop .k) (loop .inv .1), put-room (loop .inv .0) 0 in-loop in-loop (loop .inv .2))
-
-loop-again : tie.Need-loop-again Inv-loop μ-loop
-loop-again c =
-    let put = c .before .before .write in
-    let inv = c .before .before .before .before .before .loop .inv in
-    let in-loop = c .before .before .before .before .loop-test .taken in
-    (put-again (inv .0) 0 in-loop in-loop (omega (arith, inv .2)) (put .kept .0) (put .ensures), inv .1, inv .2)
-
-returns : tie.Need-returns Inv-loop μ-loop
-unfolding zoneBytes
-returns c = put-all (c .before .loop .inv .0) (c .loop-test .left)
-
 pub put-zone-spec : {M : Type 1} → statement M
+unfolding zoneBytes
 put-zone-spec =
     tie.close
     (tie.spec
-    Inv-loop μ-loop loop-holds (λ c. search needs) (λ c. search needs) write-requires
-    (λ c. search needs) (λ c. search needs) loop-again (λ c. c .before .loop .inv .0 .kept) returns)
+    Inv-loop μ-loop
+    (λ c. (put-begin encode _ 4 _ _ (search needs), within (c .before .pre .0), c .before .pre .1)) (λ c. search needs) (λ c. search needs)
+    (λ c κs.
+    let loop = c .before .before .loop in
+    let in-loop = c .before .loop-test .taken in
+    (value-small (loop .k) (loop .inv .1), put-room (loop .inv .0) 0 in-loop in-loop (loop .inv .2)))
+    (λ c. search needs) (λ c. search needs)
+    (λ c.
+    let put = c .before .before .write in
+    let inv = c .before .before .before .before .before .loop .inv in
+    let in-loop = c .before .before .before .before .loop-test .taken in
+    (put-again (inv .0) 0 in-loop in-loop (omega (arith, inv .2)) (put .kept .0) (put .ensures), inv .1, inv .2))
+    (λ c. c .before .loop .inv .0 .kept) (λ c. put-all (c .before .loop .inv .0) (c .loop-test .left)))
