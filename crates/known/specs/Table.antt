@@ -15,7 +15,7 @@ use Rattle.plan.specs.declared.Zone.{Zone}
 use Rattle.plan.specs.declared.Plan.{Plan}
 use Rattle.plan.specs.Zone.{each}
 use Rattle.plan.specs.Read.{planWith, planOf}
-use Rattle.bursts.specs.declared.Owned.{Owned}
+use Rattle.burst_owner.specs.declared.Owned.{Owned}
 use Rattle.bursts.specs.Burst.{checkOf}
 use Rattle.bursts.specs.Owner.{ownerOf}
 
