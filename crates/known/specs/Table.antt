@@ -15,7 +15,7 @@ use Rattle.zone.specs.declared.Zone.{Zone}
 use Rattle.plan.specs.declared.Plan.{Plan}
 use Rattle.plan.specs.Plan.{each}
 use Rattle.plan_read.specs.Read.{planWith, planOf}
-use Rattle.bursts.specs.declared.Owned.{Owned}
+use Rattle.burst_owner.specs.declared.Owned.{Owned}
 use Rattle.bursts.specs.Burst.{checkOf}
 use Rattle.bursts.specs.Owner.{ownerOf}
 
