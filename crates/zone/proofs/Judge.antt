@@ -25,7 +25,7 @@ use Rattle.zone.proofs.Number.{fieldQuestions, zoneQuestions}
 valid-small : {c : Setup} → Valid c → (c .mode < 7) × (c .cell < 2352)
 valid-small (pusc-dl h) = omega arith
 valid-small (pusc-ul h) = omega arith
-valid-small (ofusc {n = n} w h) = let few-of = few (ofusc w h) .size-few in omega (arith, mul-le-mul {n₁ = n} {m₁ = n} {n₂ = 32} {m₂ = 32} (omega arith) (omega arith))
+valid-small (ofusc {n = n} {pilots = lent} w h) = let few-of = few (ofusc {pilots = lent} w h) .size-few in omega (arith, mul-le-mul {n₁ = n} {m₁ = n} {n₂ = 32} {m₂ = 32} (omega arith) (omega arith))
 valid-small (amc q w h) = (q .1, h)
 
 zone-mode : (m : ℕ) → isZoneMode m ≡ true → ltb m 7 ≡ true
