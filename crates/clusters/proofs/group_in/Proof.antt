@@ -1,7 +1,6 @@
 -- `clusters::group_in` meets its contract: in each arm the tests of the definition are those that led there.
 use mathlib.Core.Path.{refl}
 use lib.Dec.{lit<}
-use borrow.Author.Needs.{needs}
 use borrow.Author.Tests.{lt-ltb, le-ltb}
 use Rattle.clusters.specs.Group.{groupIn}
 use Rattle.clusters.proofs.group_in.Statement.{statement}
@@ -12,12 +11,12 @@ unfolding groupIn
 group-in-spec =
     tie.close
     (tie.spec
-    (λ c. search needs) (λ c. rw (lt-ltb _ _ (c .if1 .taken)) (refl, lit< tt)) (λ c. search needs)
+    (λ c. lit< tt) (λ c. rw (lt-ltb _ _ (c .if1 .taken)) (refl, lit< tt)) (λ c. lit< tt)
     (λ c. rw (le-ltb _ _ (c .before .if1 .left), lt-ltb _ _ (c .if2 .taken)) (refl, lit< tt))
-    (λ c. search needs)
+    (λ c. lit< tt)
     (λ c. rw (le-ltb _ _ (c .before .before .if1 .left), le-ltb _ _ (c .before .if2 .left), lt-ltb _ _ (c .if3 .taken)) (refl, lit< tt))
-    (λ c. search needs)
+    (λ c. lit< tt)
     (λ c. rw (le-ltb _ _ (c .before .before .before .if1 .left), le-ltb _ _ (c .before .before .if2 .left), le-ltb _ _ (c .before .if3 .left), lt-ltb _ _ (c .if4 .taken)) (refl, lit< tt))
-    (λ c. search needs)
+    (λ c. lit< tt)
     (λ c. rw (le-ltb _ _ (c .before .before .before .before .if1 .left), le-ltb _ _ (c .before .before .before .if2 .left), le-ltb _ _ (c .before .before .if3 .left), le-ltb _ _ (c .before .if4 .left), lt-ltb _ _ (c .if5 .taken)) (refl, lit< tt))
     (λ c. rw (le-ltb _ _ (c .before .before .before .before .if1 .left), le-ltb _ _ (c .before .before .before .if2 .left), le-ltb _ _ (c .before .before .if3 .left), le-ltb _ _ (c .before .if4 .left), le-ltb _ _ (c .if5 .left)) (refl, lit< tt)))

@@ -1,10 +1,19 @@
 -- `clusters::pilots` meets its contract.
+use mathlib.Core.Path.{_≡_}
+use Prim.Native.Nat.{ℕ, _%_}
 use borrow.Author.Needs.{needs}
 use borrow.Author.Tests.{eq-eqb, ne-eqb}
 use Rattle.clusters.specs.Cluster.{firstPilot, secondPilot}
 use Rattle.clusters.proofs.pilots.Statement.{statement}
 use Rattle.clusters.proofs.pilots.Tie as tie
 
-pub pilots-spec : {M : Type 1} → statement M
+even : (y : ℕ) → y % 2 ≡ 0 → (4 ≡ firstPilot y) × (8 ≡ secondPilot y)
 unfolding firstPilot secondPilot
-pilots-spec = tie.close (tie.spec (λ c. simp (eq-eqb _ _ (c .if1 .taken)) (search needs)) (λ c. simp (ne-eqb _ _ (c .if1 .left)) (search needs)))
+even y e = simp (eq-eqb (y % 2) 0 e) (search needs)
+
+odd : (y : ℕ) → (y % 2 ≡ 0 → ⊥) → (0 ≡ firstPilot y) × (12 ≡ secondPilot y)
+unfolding firstPilot secondPilot
+odd y ne = simp (ne-eqb (y % 2) 0 ne) (search needs)
+
+pub pilots-spec : {M : Type 1} → statement M
+pilots-spec = tie.close (tie.spec (λ c. even _ (search needs)) (λ c. odd _ (search needs)))
