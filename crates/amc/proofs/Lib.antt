@@ -5,5 +5,4 @@ pub mod ZeroRule
 pub mod Parts
 pub mod Law
 pub mod Claims
-pub mod Row
-pub mod Points
+pub mod Sequence

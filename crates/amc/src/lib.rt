@@ -1,18 +1,15 @@
 // AMC: pairs of base-seven digits, the sequence P, the zero rule; the slot's shape.
-use base::reduce16;
 use base::unrotate;
 use base::wide;
 use base::wide16;
 use carriers::Address;
 use carriers::DataNumber;
 ghost use mathlib.Core.Path.{_≡_};
-ghost use Prim.Native.Nat.{_+_, _*_, _/_, _%_, _<_, _≤_};
-ghost use Rattle.base.specs.Model.{Starts};
-ghost use Rattle.carriers.specs.Model.{addressNumber};
+ghost use Prim.Native.Nat.{_+_, _*_, _/_, _%_, _<_};
 ghost use Rattle.amc.specs.Table.{sequenceDigits};
 ghost use Rattle.amc.specs.Element.{element, baseSeven, twoDigits, subtract};
 ghost use Rattle.amc.specs.Map.{sumOf, traffic as Traffic, indexOf, dataNumber, addressOf};
-ghost use Rattle.amc.specs.Model.{IsShape, EvenWidth, sumPlace, sequencePlace, trafficCarrier, subchannelStep, sequenceCarrier};
+ghost use Rattle.amc.specs.Model.{IsShape, sumPlace, sequencePlace};
 
 // A slot's shape: bins of a subchannel by symbols.
 pub struct Shape {
@@ -21,7 +18,7 @@ pub struct Shape {
 }
 
 // The sequence P as document 004 prints it: the digits of 22 are 2 and 2, those of the hexadecimal number too.
-const SEQUENCE: [u8; 48] = [
+pub const SEQUENCE: [u8; 48] = [
     0x01,
     0x22,
     0x46,
@@ -148,7 +145,7 @@ fn sum_place(high: u16, low: u16, x: u16) -> u16
 }
 
 // v of entry i of P under the offset of a cell, by a copy of P, which a loop takes once.
-fn sequence_place(p: &[u8; 48], cell: usize, i: usize) -> u16
+pub fn sequence_place(p: &[u8; 48], cell: usize, i: usize) -> u16
     requires { ⌜ (now p ≡ sequenceDigits) × (cell < 2352) × (i < 48) ⌝ }
     ensures { λ r. ⌜ r ≡ sequencePlace cell i ⌝ }
 {
@@ -194,7 +191,7 @@ fn index(cell: usize, v: usize) -> usize
 
 // The symbol of the slot in which bin w of a subchannel lies. It has six bins in all its symbols, so w div bins is w·symbols
 // div 6.
-fn bin_symbol(shape: Shape, w: u16) -> u16
+pub fn bin_symbol(shape: Shape, w: u16) -> u16
     requires { ⌜ IsShape shape × (w < 6) ⌝ }
     ensures { λ r. ⌜ (r ≡ w / shape .bins) × (r < 6) ⌝ }
 {
@@ -226,120 +223,4 @@ pub fn address(shape: Shape, cell: usize, offset: usize, d: usize) -> Address
         subchannel: subchannel,
         index: index(cell, (offset * shape.bins + bin) * 8 + d % 8),
     }
-}
-
-// v of each entry of P.
-pub fn places(cell: usize) -> [u16; 48]
-    requires { ⌜ cell < 2352 ⌝ }
-    ensures { λ r. ⌜ Starts 48 (sequencePlace cell) r ⌝ }
-{
-    let p = SEQUENCE;
-    let mut places = [0; 48];
-    let mut i = 0;
-    while i < 48 {
-        places[i] = sequence_place(&p, cell, i);
-        i += 1;
-    }
-    places
-}
-
-// The carrier of traffic place v of subchannel 0, in a slot whose first symbol has the number `first`.
-fn first_carrier(shape: Shape, n: u16, first: u16, v: u16) -> u16
-    requires { ⌜ IsShape shape × EvenWidth n × (first < 3) × (v < 48) ⌝ }
-    ensures { λ r. ⌜ r ≡ trafficCarrier shape n first 0 v ⌝ }
-{
-    let offset = bin_symbol(shape, v / 8);
-    let pilot = 3 * ((first + offset) % 3) + 1;
-    offset * (64 * n - 9 * shape.bins as u16) + 5 * n + v + v / 8 + (pilot <= v % 8) as u16
-}
-
-// The carriers of P's entries in subchannel 0 of a slot, once for all subchannels.
-pub fn table(shape: Shape, n: usize, slot: usize, cell: usize) -> [u16; 48]
-    requires { ⌜ IsShape shape × EvenWidth n × (cell < 2352) ⌝ }
-    ensures { λ r. ⌜ Starts 48 (sequenceCarrier shape n (slot * shape .symbols) cell 0) r ⌝ }
-{
-    let p = SEQUENCE;
-    let first = (slot % 3 * shape.symbols % 3) as u16;
-    let mut table = [0; 48];
-    let mut i = 0;
-    while i < 48 {
-        table[i] = first_carrier(shape, n as u16, first, sequence_place(&p, cell, i));
-        i += 1;
-    }
-    table
-}
-
-// How far a subchannel's carriers are from those of subchannel 0: by the used numbers before it, and by DC, which lies
-// between two subchannels.
-fn subchannel_step(shape: Shape, n: usize, subchannel: usize) -> u16
-    requires { ⌜ IsShape shape × EvenWidth n × (subchannel < n * shape .symbols) ⌝ }
-    ensures { λ r. ⌜ (r ≡ subchannelStep shape n subchannel) × (r < 1729) ⌝ }
-{
-    let used = subchannel * shape.bins * 9;
-    (used + (27 * n <= used) as usize) as u16
-}
-
-// The carriers of P's entries in a subchannel.
-pub fn carrier_row(
-    shape: Shape,
-    n: usize,
-    slot: usize,
-    cell: usize,
-    subchannel: usize,
-    table: &[u16; 48],
-) -> [u16; 48]
-    requires { ⌜ IsShape shape × EvenWidth n × (cell < 2352) × (subchannel < n * shape .symbols) ⌝ }
-    requires { ⌜ Starts 48 (sequenceCarrier shape n (slot * shape .symbols) cell 0) (now table) ⌝ }
-    ensures { λ r. ⌜ Starts 48 (sequenceCarrier shape n (slot * shape .symbols) cell subchannel) r ⌝ }
-{
-    let step = subchannel_step(shape, n, subchannel);
-    let mut row = [0; 48];
-    let mut i = 0;
-    while i < 48 {
-        row[i] = table[i] + step;
-        i += 1;
-    }
-    row
-}
-
-// The index of each v, once for all bins of a slot: of v of entry i of P it is i moved back by the cell.
-pub fn indices(cell: usize) -> [u16; 48]
-    requires { ⌜ cell < 2352 ⌝ }
-    ensures { λ r. ⌜ Starts 48 (indexOf cell) r ⌝ }
-{
-    let places = places(cell);
-    let back = (48 - cell % 48) as u16;
-    let mut indices = [0; 48];
-    let mut i = 0;
-    while i < 48 {
-        let v = wide16(places[i]);
-        indices[v] = reduce16(48, i as u16 + back);
-        i += 1;
-    }
-    indices
-}
-
-// The numbers of the eight points of bin i in a symbol of the slot, by rising carrier.
-pub fn bin_points(
-    shape: Shape,
-    cell: usize,
-    offset: usize,
-    i: usize,
-    indices: &[u16; 48],
-) -> [u16; 12]
-    requires { ⌜ IsShape shape × (offset < shape .symbols) × (i < 192) ⌝ }
-    requires { ⌜ Starts 48 (indexOf cell) (now indices) ⌝ }
-    ensures { λ r. ⌜ Starts 8 (λ j. addressNumber (addressOf shape cell offset (i * 8 + j))) r ⌝ }
-{
-    let subchannel = i * shape.symbols / 6;
-    let bin = i - subchannel * shape.bins;
-    let start = subchannel as u16 * 48;
-    let first = (offset * shape.bins + bin) * 8;
-    let mut points = [0; 12];
-    let mut j = 0;
-    while j < 8 {
-        points[j] = start + indices[first + j];
-        j += 1;
-    }
-    points
 }

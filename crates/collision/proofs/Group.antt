@@ -17,9 +17,9 @@ use Rattle.centre.specs.Centre.{fromDc, onRow}
 use Rattle.centre.proofs.Law.{centre-law}
 use Rattle.ofusc.specs.Width.{Width}
 use Rattle.ofusc.specs.Map.{groupOf, cellTerm, dataNumber}
-use Rattle.ofusc.specs.Model.{cellNumber, groupNumber}
+use Rattle.ofusc_rows.specs.Model.{cellNumber, groupNumber}
 use Rattle.ofusc.proofs.Sequence.{pos, sum-lt, cell-term-lt}
-use Rattle.ofusc.proofs.Row.{with-subchannel}
+use Rattle.ofusc_rows.proofs.Row.{with-subchannel}
 use Rattle.map.specs.Mode.{width, symbols, band, spotOf, setupWith}
 use Rattle.map.proofs.Accept.{width-is}
 use Rattle.collision.specs.Collision.{indexIn, columnIn, ofuscHit}

@@ -30,8 +30,8 @@ fn ofusc_hits(n: usize, cell_a: usize, a: usize, cell_b: usize, b: usize) -> Col
     requires { ⌜ (a < n) × (b < n) ⌝ }
     ensures { λ r. ⌜ r ≡ answerOf (accepted (ofuscHit (64 * n) «cell_a» a «cell_b» b)) ⌝ }
 {
-    let numbers_a = ofusc::table(n, cell_a);
-    let numbers_b = ofusc::table(n, cell_b);
+    let numbers_a = ofusc_rows::table(n, cell_a);
+    let numbers_b = ofusc_rows::table(n, cell_b);
     let s = a as u16;
     let t = b as u16;
     let mut hits = [false; 48];
@@ -55,8 +55,8 @@ fn amc_hits(cell_a: usize, cell_b: usize) -> Collisions
     requires { ⌜ («cell_a» < 2352) × («cell_b» < 2352) ⌝ }
     ensures { λ r. ⌜ r ≡ answerOf (accepted (amcHit «cell_a» «cell_b»)) ⌝ }
 {
-    let places_a = amc::places(cell_a);
-    let places_b = amc::places(cell_b);
+    let places_a = amc_rows::places(cell_a);
+    let places_b = amc_rows::places(cell_b);
     let mut hits = [false; 48];
     let mut count = 0;
     let mut j = 0;

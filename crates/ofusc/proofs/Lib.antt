@@ -2,5 +2,3 @@
 pub mod Sequence
 pub mod Tables
 pub mod Law
-pub mod Row
-pub mod Points

@@ -3,4 +3,3 @@ pub mod Field
 pub mod Table
 pub mod Map
 pub mod Law
-pub mod Model

@@ -1,6 +1,4 @@
--- The law of PUSC uplink, and the facts that it is made of; rows of carriers, and the points of a symbol.
+-- The law of PUSC uplink, and the facts that it is made of.
 pub mod Tables
 pub mod Place
 pub mod Law
-pub mod Row
-pub mod Points

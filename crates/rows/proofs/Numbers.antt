@@ -36,9 +36,9 @@ use Rattle.rows.proofs.Row.{TableAs, from-table}
 use Rattle.rows.proofs.Walk.{bin-runs, bin-apart, runs-bins, two-points, one-point, all-points, cluster-apart}
 use Rattle.pusc_dl.specs.Model as dl
 use Rattle.pusc_ul.specs.Tile.{tileSubchannel}
-use Rattle.pusc_ul.specs.Model as ul
+use Rattle.pusc_ul_rows.specs.Model as ul
 use Rattle.pusc_ul.specs.Map as ul-map
-use Rattle.ofusc.specs.Model as spread
+use Rattle.ofusc_rows.specs.Model as spread
 use Rattle.ofusc.specs.Map as spread-map
 use Rattle.amc.specs.Map as adjacent
 

@@ -14,11 +14,12 @@ use Rattle.base.proofs.Tabulate.{starts-as, entry-of, turned-row, turned-by, tu
 use Rattle.carriers.specs.declared.Spot.{Spot}
 use Rattle.ofusc.specs.Width.{Width, n4, n8, n16, n32}
 use Rattle.ofusc.proofs.Sequence.{size, sum-lt, cell-term-lt}
-use Rattle.ofusc.proofs.Row.{number-in-group}
+use Rattle.ofusc_rows.proofs.Row.{number-in-group}
 use Rattle.amc.specs.declared.Shape.{Shape}
-use Rattle.amc.specs.Model.{IsShape, EvenWidth}
-use Rattle.amc.proofs.Row.{carrier-at}
-use Rattle.pusc_ul.proofs.Row.{number-on-place}
+use Rattle.amc.specs.Model.{IsShape}
+use Rattle.amc_rows.specs.Model.{EvenWidth}
+use Rattle.amc_rows.proofs.Row.{carrier-at}
+use Rattle.pusc_ul_rows.proofs.Row.{number-on-place}
 use Rattle.carriers.specs.Band.{binBand, carrierOf}
 use Rattle.carriers.specs.Bin.{usedOfData}
 use Rattle.carriers.specs.Law.{DataSpot}
@@ -31,9 +32,9 @@ use Rattle.rows.specs.Model.{tableLength, tableEntry, TableOf, shiftOf}
 use Rattle.map.proofs.Choice.{amc-shape, mode-0, mode-1, mode-2, mode-amc, mode-other, last-mode}
 use Rattle.map.proofs.ByMode.{in-pusc-dl, in-pusc-ul, in-ofusc, in-amc, bin-width, amc-width, amc-spot, shape-symbols, few}
 use Rattle.map.proofs.Slot.{slot-law}
-use Rattle.pusc_ul.specs.Model as pusc-ul
-use Rattle.ofusc.specs.Model as ofusc
-use Rattle.amc.specs.Model as amc
+use Rattle.pusc_ul_rows.specs.Model as pusc-ul
+use Rattle.ofusc_rows.specs.Model as ofusc
+use Rattle.amc_rows.specs.Model as amc
 use Rattle.pusc_dl.specs.Map as pusc-dl-map
 use Rattle.ofusc.specs.Map as ofusc-map
 use Rattle.amc.specs.Map as amc-map

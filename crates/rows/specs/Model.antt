@@ -19,8 +19,8 @@ use Rattle.mask.specs.Mask.{isUsedLit, litRank}
 use Rattle.rows.specs.declared.Comb.{Comb}
 use Rattle.rows.specs.declared.Runs.{Runs}
 use Rattle.pusc_dl.specs.Model as pusc-dl
-use Rattle.ofusc.specs.Model as ofusc
-use Rattle.amc.specs.Model as amc
+use Rattle.ofusc_rows.specs.Model as ofusc
+use Rattle.amc_rows.specs.Model as amc
 use Rattle.amc.specs.Map as amc-map
 
 -- what setup and slot fix for all subchannels, in the table of the mode: how many entries, none in PUSC, and entry i

@@ -31,9 +31,9 @@ pub fn table(setup: Setup, slot: usize) -> [u16; 48]
         return [0; 48];
     }
     if setup.mode == 2 {
-        return ofusc::table(map::width(setup), setup.cell);
+        return ofusc_rows::table(map::width(setup), setup.cell);
     }
-    amc::table(map::shape(setup.mode), map::width(setup), slot, setup.cell)
+    amc_rows::table(map::shape(setup.mode), map::width(setup), slot, setup.cell)
 }
 
 // The place in a subchannel's row at which index 0 stands; the others follow, going on at the row's start.
@@ -67,7 +67,7 @@ fn spots(setup: Setup, slot: usize, subchannel: usize, table: &[u16; 48]) -> [u1
     }
     carriers::used_numbers(
         slot,
-        ofusc::numbers(map::width(setup), setup.cell, subchannel, table),
+        ofusc_rows::numbers(map::width(setup), setup.cell, subchannel, table),
     )
 }
 
@@ -78,10 +78,10 @@ pub fn carrier_row(setup: Setup, slot: usize, subchannel: usize, table: &[u16; 4
     ensures { λ r. ⌜ Turned (shiftOf setup subchannel) (λ m. carrierNumber (setup .size) (band setup) (spotOf setup slot subchannel m)) r ⌝ }
 {
     if setup.mode == 1 {
-        return pusc_ul::carrier_row(setup.cell, subchannel);
+        return pusc_ul_rows::carrier_row(setup.cell, subchannel);
     }
     if 3 <= setup.mode {
-        return amc::carrier_row(
+        return amc_rows::carrier_row(
             map::shape(setup.mode),
             map::width(setup),
             slot,
@@ -277,7 +277,7 @@ pub fn run_table(setup: Setup, mask: usize) -> [u16; 120]
         return pusc_dl::clusters(setup.cell, mask);
     }
     if setup.mode == 1 {
-        return pusc_ul::tiles(setup.cell);
+        return pusc_ul_rows::tiles(setup.cell);
     }
     [0; 120]
 }
@@ -294,9 +294,9 @@ pub fn place_table(setup: Setup) -> [u16; 48]
         return [0; 48];
     }
     if setup.mode == 2 {
-        return ofusc::table(map::width(setup), setup.cell);
+        return ofusc_rows::table(map::width(setup), setup.cell);
     }
-    amc::indices(setup.cell)
+    amc_rows::indices(setup.cell)
 }
 
 // How far apart the numbers of two runs in a row are in a row's table, and those of two points of a run.
@@ -337,9 +337,9 @@ fn run_numbers(
         return pusc_dl::cluster_points(setup.cell, mask, row, i, runs, places);
     }
     if setup.mode == 2 {
-        return ofusc::bin_points(map::width(setup), setup.cell, i, places);
+        return ofusc_rows::bin_points(map::width(setup), setup.cell, i, places);
     }
-    amc::bin_points(map::shape(setup.mode), setup.cell, row, i, places)
+    amc_rows::bin_points(map::shape(setup.mode), setup.cell, row, i, places)
 }
 
 // A run's numbers put into a row's table.
@@ -396,7 +396,7 @@ pub fn row_numbers(
     ensures { λ r. ⌜ RowNumbers setup mask (slot * symbols setup + row) r ⌝ }
 {
     if setup.mode == 1 {
-        return pusc_ul::row_numbers(setup.cell, row, runs);
+        return pusc_ul_rows::row_numbers(setup.cell, row, runs);
     }
     numbers_by_run(setup, mask, slot, row, count, runs, places)
 }

@@ -5,7 +5,7 @@ use borrow.Author.Needs.{needs}
 use Rattle.amc.specs.Map.{off}
 use Rattle.amc.specs.Model.{sumPlace, sequencePlace}
 use Rattle.amc.proofs.Tables.{powers}
-use Rattle.amc.proofs.Row.{entry-digits}
+use Rattle.amc.proofs.Sequence.{entry-digits}
 use Rattle.amc.proofs.sequence_place.Statement.{statement}
 use Rattle.amc.proofs.sequence_place.Tie as tie
 

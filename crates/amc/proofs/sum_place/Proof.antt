@@ -4,7 +4,7 @@ use borrow.Author.Tests.{eq-eqb, ne-eqb}
 use Rattle.amc.specs.Element.{add}
 use Rattle.amc.specs.Map.{zeroRule}
 use Rattle.amc.specs.Model.{sumPlace}
-use Rattle.amc.proofs.Row.{offset-above}
+use Rattle.amc.proofs.Sequence.{offset-above}
 use Rattle.amc.proofs.sum_place.Statement.{statement}
 use Rattle.amc.proofs.sum_place.Tie as tie
 

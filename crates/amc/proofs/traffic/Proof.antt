@@ -1,7 +1,7 @@
 -- `amc::traffic` meets its contract.
 use mathlib.Core.Path.{refl, _∙_}
 use borrow.Author.Needs.{needs}
-use Rattle.amc.proofs.Row.{traffic-at}
+use Rattle.amc.proofs.Sequence.{traffic-at}
 use Rattle.amc.proofs.traffic.Statement.{statement}
 use Rattle.amc.proofs.traffic.Tie as tie
 

@@ -4,7 +4,7 @@ use Prim.Native.Nat.{_+_, _-_, _%_}
 use native.Mathlib.Omega.{arith}
 use lib.Dec.{eqb}
 use borrow.Author.Needs.{needs}
-use Rattle.amc.proofs.Row.{traffic-at}
+use Rattle.amc.proofs.Sequence.{traffic-at}
 use Rattle.collision.specs.Collision.{amcHit}
 use Rattle.collision.proofs.Pass.{Passed, start, fits, step, answer}
 use Rattle.collision.proofs.amc_hits.Statement.{statement}

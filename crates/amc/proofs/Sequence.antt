@@ -1,0 +1,39 @@
+-- v by the entries of P.
+use mathlib.Core.Path.{_≡_, refl, ap, subst}
+use Prim.Native.Nat.{ℕ, _+_, _-_, _*_, _/_, _%_, _<_}
+use native.Mathlib.Nat.{pos-of-ne-zero}
+use native.Mathlib.Omega.{arith}
+use Rattle.base.specs.Steps.{entry}
+use Rattle.amc.specs.Table.{sequenceDigits}
+use Rattle.amc.specs.Map.{elementOf, traffic}
+use Rattle.amc.specs.Model.{sumPlace, sequencePlace}
+use Rattle.amc.proofs.Tables.{powers}
+use Rattle.amc.proofs.Law.{traffic-lt}
+
+-- index j is at place (j+per) mod 48 of P
+pub traffic-at : (cell j : ℕ) → sequencePlace cell ((j + cell % 48) % 48) ≡ traffic cell j
+unfolding traffic elementOf sequencePlace sumPlace
+traffic-at cell j = refl
+
+pub sequence-place-lt : (cell i : ℕ) → cell < 2352 → i < 48 → sequencePlace cell i < 48
+sequence-place-lt cell i hc hi =
+    let j = (i + (48 - cell % 48)) % 48 in
+    let e : (j + cell % 48) % 48 ≡ i = omega arith in
+    subst (λ (k : ℕ). sequencePlace cell k < 48) e (rw (traffic-at cell j) (traffic-lt cell hc j))
+
+-- the digits of P's entries
+pub record Digits (x : ℕ) : Type 0 where
+  pub high-lt : x / 16 < 7
+  pub low-lt : x % 16 < 7
+  pub above : 0 < x
+
+pub entry-digits : (i : ℕ) → i < 48 → Digits (entry sequenceDigits i)
+entry-digits i h =
+    let p = powers i h in
+    let high = ap (λ e. e .high) (p .printed-is) in
+    let low = ap (λ e. e .low) (p .printed-is) in
+    record { high-lt = omega (arith, high, p .proper .high-lt); low-lt = omega (arith, low, p .proper .low-lt); above = pos-of-ne-zero (λ e. p .nonzero (omega (arith, high, low, e))) }
+
+-- no entry of P is zero, so a sum that is zero has an offset that is not
+pub offset-above : (h l x : ℕ) → h < 7 → l < 7 → x / 16 < 7 → x % 16 < 7 → 0 < x → (x / 16 + h) % 7 * 7 + (x % 16 + l) % 7 ≡ 0 → 0 < h * 7 + l
+offset-above h l x hh hl xh xl above e = omega arith

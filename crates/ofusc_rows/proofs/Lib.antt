@@ -1,0 +1,3 @@
+-- Rows of data numbers, and the points of a bin.
+pub mod Row
+pub mod Points

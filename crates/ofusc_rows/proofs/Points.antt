@@ -1,0 +1,75 @@
+-- The points of a bin: the subchannel comes back out of the data number by what the cell fixes.
+use mathlib.Core.Path.{_≡_, sym, ap, _∙_, subst⁻¹}
+use mathlib.Core.Bool.{Bool, true, false}
+use Prim.Native.Nat.{ℕ, _+_, _*_, _/_, _%_, _^_, _<_, _≤_}
+use native.Mathlib.Nat.{mod-lt, div-add-mod', div-lt-iff-lt-mul}
+use native.Mathlib.Omega.{arith}
+use lib.Dec.{ltb}
+use lib.Bits.{bitXor, xor-block, xor-self}
+use borrow.Author.Tests.{ltb-true, ltb-false}
+use Rattle.base.specs.Choice.{pick}
+use Rattle.base.proofs.Test.{cases}
+use Rattle.carriers.specs.Model.{addressNumber}
+use Rattle.ofusc.specs.Width.{Width, n4, n8, n16, n32}
+use Rattle.ofusc.specs.Map.{cellTerm, addressOf}
+use Rattle.ofusc_rows.specs.Model.{cellNumber, pointInGroup}
+use Rattle.ofusc.proofs.Sequence.{pos, size, cell-term-lt}
+use Rattle.ofusc.proofs.Law.{subchannel-lt}
+
+-- N is a power of two, so what two numbers of a group share goes out
+xor-group : {n : ℕ} → Width n → (k a b : ℕ) → a < n → b < n → bitXor (k * n + a) (k * n + b) ≡ bitXor a b
+xor-group w k a b ha hb =
+    subst⁻¹ (λ (p : ℕ). a < p → b < p → bitXor (k * p + a) (k * p + b) ≡ bitXor a b) (size w .is)
+    (λ la lb. xor-block (size w .bits) k k a b la lb
+    ∙ ap (λ (x : ℕ). x * 2 ^ size w .bits + bitXor a b) (xor-self k)
+    ∙ omega arith)
+    ha hb
+
+-- the group of a data number of a bin, which its half of the bin knows
+half-group : {n : ℕ} → Width n → (i j : ℕ) → j < 8 → (i * 8 + j) / n ≡ pick (ltb j 4) (i * 8 / n) ((i * 8 + 4) / n)
+half-group w i j h = cases (ltb j 4) (λ e. rw e (first w (ltb-true j 4 e))) (λ e. rw e (last w (ltb-false j 4 e)))
+  where
+    first : {n : ℕ} → Width n → j < 4 → (i * 8 + j) / n ≡ i * 8 / n
+    first n4 l = omega arith
+    first n8 l = omega arith
+    first n16 l = omega arith
+    first n32 l = omega arith
+
+    last : {n : ℕ} → Width n → 4 ≤ j → (i * 8 + j) / n ≡ (i * 8 + 4) / n
+    last n4 l = omega arith
+    last n8 l = omega arith
+    last n16 l = omega arith
+    last n32 l = omega arith
+
+pub group-lt : {n : ℕ} → Width n → (d : ℕ) → d < 48 * n → d / n < 48
+group-lt w d h = div-lt-iff-lt-mul (pos w) .1 h
+
+module _ {n : ℕ} (w : Width n) (cell : ℕ) where
+  subchannel-is : (d : ℕ) → bitXor d (cellNumber n cell (d / n)) ≡ bitXor (d % n) (cellTerm n cell (d / n))
+  unfolding cellNumber
+  subchannel-is d =
+      ap (λ (x : ℕ). bitXor x (d / n * n + cellTerm n cell (d / n))) (sym (div-add-mod' d n))
+      ∙ xor-group w (d / n) (d % n) (cellTerm n cell (d / n)) (mod-lt d (pos w)) (cell-term-lt w cell (d / n))
+
+  -- point j of bin i, as the code finds it
+  pub record Found (i j k fixed : ℕ) : Type 0 where
+    pub group-few : k < 48
+    pub subchannel-few : bitXor (i * 8 + j) fixed < 32
+    pub number : pointInGroup (bitXor (i * 8 + j) fixed) k ≡ addressNumber (addressOf n cell (i * 8 + j))
+
+  picked : (b : Bool) (k l x y : ℕ) → x ≡ cellNumber n cell k → y ≡ cellNumber n cell l → pick b x y ≡ cellNumber n cell (pick b k l)
+  picked true k l x y ex ey = ex
+  picked false k l x y ex ey = ey
+
+  pub found : (i j k l x y : ℕ) → i < 6 * n → j < 8 → k ≡ i * 8 / n → l ≡ (i * 8 + 4) / n → x ≡ cellNumber n cell k → y ≡ cellNumber n cell l
+      → Found i j (pick (ltb j 4) k l) (pick (ltb j 4) x y)
+  unfolding pointInGroup addressOf
+  found i j k l x y hi hj ek el ex ey =
+      let d = i * 8 + j in
+      let group : pick (ltb j 4) k l ≡ d / n = rw (ek, el) (sym (half-group w i j hj)) in
+      let fixed : pick (ltb j 4) x y ≡ cellNumber n cell (d / n) = picked (ltb j 4) k l x y ex ey ∙ ap (cellNumber n cell) group in
+      record {
+        group-few = rw group (group-lt w d (omega arith));
+        subchannel-few = rw (fixed, subchannel-is d) (omega (arith, subchannel-lt w cell d, size w .most));
+        number = rw (fixed, group, subchannel-is d);
+      }
