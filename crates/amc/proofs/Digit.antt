@@ -21,13 +21,10 @@ pub number-digits : (x : ℕ) → baseSeven (twoDigits x) ≡ x
 number-digits x = omega arith
 
 pub digits-number : (e : Element) → Proper e → twoDigits (baseSeven e) ≡ e
-digits-number e p = λ i. element (high i) (low i)
-  where
-    high : baseSeven e / 7 ≡ e .high
-    high = omega arith
-
-    low : baseSeven e % 7 ≡ e .low
-    low = omega arith
+digits-number e p =
+    let high : baseSeven e / 7 ≡ e .high = omega arith in
+    let low : baseSeven e % 7 ≡ e .low = omega arith in
+    λ i. element (high i) (low i)
 
 pub same-number : (a b : Element) → Proper a → Proper b → baseSeven a ≡ baseSeven b → a ≡ b
 same-number a b p q e = sym (digits-number a p) ∙ ap twoDigits e ∙ digits-number b q
@@ -54,13 +51,10 @@ subtract-self o q = omega arith
 
 zero-add : (o : Element) → Proper o → add (element 0 0) o ≡ o
 unfolding add
-zero-add o q = λ i. element (high i) (low i)
-  where
-    high : (0 + o .high) % 7 ≡ o .high
-    high = omega arith
-
-    low : (0 + o .low) % 7 ≡ o .low
-    low = omega arith
+zero-add o q =
+    let high : (0 + o .high) % 7 ≡ o .high = omega arith in
+    let low : (0 + o .low) % 7 ≡ o .low = omega arith in
+    λ i. element (high i) (low i)
 
 -- only zero leaves an element as it is
 pub added-differs : (x o : Element) → Proper x → Proper o → (baseSeven x ≡ 0 → ⊥) → baseSeven (add x o) ≡ baseSeven o → ⊥

@@ -34,41 +34,36 @@ module _ (cell : ℕ) (range : cell < 2352) where
   turn-lt j = omega arith
 
   -- the sum of index j is not off, since no entry of P is zero
-  sum : ℕ → Element
+  abbrev sum : ℕ → Element
   sum j = add (sequence (turn j)) o
 
   sum-differs : (j : ℕ) → baseSeven (sum j) ≡ baseSeven o → ⊥
-  unfolding sum
   sum-differs j = added-differs (sequence (turn j)) o (powers (turn j) (turn-lt j) .proper) off-proper (powers (turn j) (turn-lt j) .nonzero)
-
-  sum-is-proper : (j : ℕ) → Proper (sum j)
-  unfolding sum
-  sum-is-proper j = add-proper (sequence (turn j)) o
 
   -- v + 1 is the element read in base seven
   pub traffic-number : (j : ℕ) → traffic cell j + 1 ≡ baseSeven (elementOf cell j)
-  unfolding traffic elementOf sum
-  traffic-number j = let n = rule-nonzero o (sum j) (sum-is-proper j) (sum-differs j) in omega (arith, pos-of-ne-zero n)
+  unfolding traffic elementOf
+  traffic-number j = let n = rule-nonzero o (sum j) (add-proper _ _) (sum-differs j) in omega (arith, pos-of-ne-zero n)
 
   pub element-proper : (j : ℕ) → Proper (elementOf cell j)
-  unfolding elementOf sum
-  element-proper j = rule-proper o (sum j) (sum-is-proper j) (sum-differs j) off-proper
+  unfolding elementOf
+  element-proper j = rule-proper o (sum j) (add-proper _ _) (sum-differs j) off-proper
 
   pub traffic-lt : (j : ℕ) → traffic cell j < 48
   traffic-lt j = omega (arith, traffic-number j, number-lt (elementOf cell j) (element-proper j))
 
   -- the index of an element, which is that of v at the digits of v + 1
-  index : Element → ℕ
+  abbrev index : Element → ℕ
   index e = unrotate 48 (cell % 48) (entry positions (baseSeven (subtract (sumOf o e) o)))
 
   pub index-traffic : (j : ℕ) → j < 48 → indexOf cell (traffic cell j) ≡ j
-  unfolding indexOf elementOf sum index
+  unfolding indexOf elementOf
   index-traffic j h =
       let x = sequence (turn j) in
       let q = powers (turn j) (turn-lt j) in
       ap (λ (v : ℕ). index (twoDigits v)) (traffic-number j)
       ∙ ap index (digits-number (elementOf cell j) (element-proper j))
-      ∙ ap (λ (y : Element). unrotate 48 (cell % 48) (entry positions (baseSeven (subtract y o)))) (sum-back o (sum j) (sum-is-proper j) (sum-differs j))
+      ∙ ap (λ (y : Element). unrotate 48 (cell % 48) (entry positions (baseSeven (subtract y o)))) (sum-back o (sum j) (add-proper _ _) (sum-differs j))
       ∙ ap (λ (y : Element). unrotate 48 (cell % 48) (entry positions (baseSeven y))) (subtract-add x o (q .proper))
       ∙ ap (λ (y : ℕ). unrotate 48 (cell % 48) y) (q .position)
       ∙ rotation 48 (cell % 48) (lit< tt) .back j h

@@ -22,17 +22,12 @@ sequence-place-lt cell i hc hi =
     subst (λ (k : ℕ). sequencePlace cell k < 48) e (rw (traffic-at cell j) (traffic-lt cell hc j))
 
 -- the digits of P's entries
-pub record Digits (x : ℕ) : Type 0 where
-  pub high-lt : x / 16 < 7
-  pub low-lt : x % 16 < 7
-  pub above : 0 < x
-
-pub entry-digits : (i : ℕ) → i < 48 → Digits (entry sequenceDigits i)
+pub entry-digits : (i : ℕ) → i < 48 → let x = entry sequenceDigits i in (x / 16 < 7) × (x % 16 < 7) × (0 < x)
 entry-digits i h =
     let p = powers i h in
     let high = ap (λ e. e .high) (p .printed-is) in
     let low = ap (λ e. e .low) (p .printed-is) in
-    record { high-lt = omega (arith, high, p .proper .high-lt); low-lt = omega (arith, low, p .proper .low-lt); above = pos-of-ne-zero (λ e. p .nonzero (omega (arith, high, low, e))) }
+    (omega (arith, high, p .proper .high-lt), omega (arith, low, p .proper .low-lt), pos-of-ne-zero (λ e. p .nonzero (omega (arith, high, low, e))))
 
 -- no entry of P is zero, so a sum that is zero has an offset that is not
 pub offset-above : (h l x : ℕ) → h < 7 → l < 7 → x / 16 < 7 → x % 16 < 7 → 0 < x → (x / 16 + h) % 7 * 7 + (x % 16 + l) % 7 ≡ 0 → 0 < h * 7 + l

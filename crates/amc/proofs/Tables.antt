@@ -35,47 +35,25 @@ pub record Power (i : ℕ) : Type 0 where
 
 pub powers : (i : ℕ) → i < 48 → Power i
 powers i h =
+    let proper = sequence-proper i in
+    let digits = entry-of sequenceDigits 48 (λ k. sequence k .high * 16 + sequence k .low) printed-list i h in
+    let high : entry sequenceDigits i / 16 ≡ sequence i .high = omega (arith, digits, proper) in
+    let low : entry sequenceDigits i % 16 ≡ sequence i .low = omega (arith, digits, proper) in
+    let printed-is : printed i ≡ sequence i = λ d. element (high d) (low d) in
     record {
       printed-is = printed-is;
       proper = proper;
       nonzero = λ e. omega (arith, digits, ltb→lt 0 (entry sequenceDigits i) (all-at (λ k. ltb 0 (entry sequenceDigits k)) 48 tt i h));
-      position =
-          ap (λ (x : Element). entry positions (baseSeven x)) (sym printed-is)
-          ∙ eqb→eq (entry positions (baseSeven (printed i))) i (all-at (λ k. eqb (entry positions (baseSeven (printed k))) k) 48 tt i h);
+      position = rw (← printed-is) (eqb→eq _ _ (all-at (λ k. eqb (entry positions (baseSeven (printed k))) k) 48 tt i h));
     }
-  where
-    proper : Proper (sequence i)
-    proper = sequence-proper i
-
-    digits : entry sequenceDigits i ≡ sequence i .high * 16 + sequence i .low
-    digits = entry-of sequenceDigits 48 (λ k. sequence k .high * 16 + sequence k .low) printed-list i h
-
-    high : entry sequenceDigits i / 16 ≡ sequence i .high
-    high = omega (arith, digits, proper)
-
-    low : entry sequenceDigits i % 16 ≡ sequence i .low
-    low = omega (arith, digits, proper)
-
-    printed-is : printed i ≡ sequence i
-    printed-is = λ d. element (high d) (low d)
 
 -- every element has a position, and every one other than zero stands there
 pub position-lt : (x : ℕ) → x < 49 → entry positions x < 48
 position-lt x h = ltb→lt (entry positions x) 48 (all-at (λ k. ltb (entry positions k) 48) 49 tt x h)
 
-module _ (e : Element) (p : Proper e) (ne : baseSeven e ≡ 0 → ⊥) where
-  one-less : baseSeven e - 1 + 1 ≡ baseSeven e
-  one-less = omega arith
-
-  before : baseSeven e - 1 < 48
-  before = let l = number-lt e p in omega arith
-
-  pub at-position : sequence (entry positions (baseSeven e)) ≡ e
-  at-position =
-      let place = entry positions (baseSeven e) in
-      let power = powers place (position-lt (baseSeven e) (number-lt e p)) in
-      same-number (sequence place) e (power .proper) p
-      (ap baseSeven (sym (power .printed-is))
-      ∙ subst (λ (x : ℕ). baseSeven (printed (entry positions x)) ≡ x) one-less
-      (eqb→eq (baseSeven (printed (entry positions (baseSeven e - 1 + 1)))) (baseSeven e - 1 + 1)
-      (all-at (λ k. eqb (baseSeven (printed (entry positions (k + 1)))) (k + 1)) 48 tt (baseSeven e - 1) before)))
+pub at-position : (e : Element) → Proper e → (baseSeven e ≡ 0 → ⊥) → sequence (entry positions (baseSeven e)) ≡ e
+at-position e p ne =
+    let less : baseSeven e - 1 + 1 ≡ baseSeven e = omega arith in
+    let power = powers (entry positions (baseSeven e)) (position-lt (baseSeven e) (number-lt e p)) in
+    let there = all-at (λ k. eqb (baseSeven (printed (entry positions (k + 1)))) (k + 1)) 48 tt (baseSeven e - 1) (omega (arith, number-lt e p)) in
+    same-number _ _ (power .proper) p (ap baseSeven (sym (power .printed-is)) ∙ eqb→eq _ _ (rw less at there))

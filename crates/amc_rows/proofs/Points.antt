@@ -23,12 +23,11 @@ index-lt cell v = omega arith
 
 -- Before turn i of a loop over the entries of P: the index of each v that the turns before had is written.
 pub record Indexed (cell : ℕ) (l : List ℕ) (i : ℕ) : Type 0 where
-  pub within : i ≤ 48
   pub long : length l ≡ 48
   pub entries : (k : ℕ) → k < i → entry l (sequencePlace cell k) ≡ indexOf cell (sequencePlace cell k)
 
 pub indexed-none : (cell : ℕ) → Indexed cell (replicate 48 0) 0
-indexed-none cell = record { within = omega arith; long = length-replicate {A = ℕ} 48 0; entries = below-none _ }
+indexed-none cell = record { long = length-replicate {A = ℕ} 48 0; entries = below-none _ }
 
 -- entries of P and places v are one for one, so what is written stays, and all are written
 module _ (cell : ℕ) (range : cell < 2352) where
@@ -47,7 +46,6 @@ module _ (cell : ℕ) (range : cell < 2352) where
   indexed-next {l = l} {i = i} w h v x ev ex =
       rw ev
       (record {
-        within = omega arith;
         long = length-set l _ x ∙ w .long;
         entries = below-more (λ k. entry (set l (sequencePlace cell i) x) (sequencePlace cell k) ≡ indexOf cell (sequencePlace cell k)) i
             (λ k k-lt. getD-set-other l (sequencePlace cell i) (sequencePlace cell k) x 0 (place-differs k i k-lt h) ∙ w .entries k k-lt)

@@ -90,32 +90,24 @@ no-other t k n₁ n₂ n₃ n₄ =
     (λ e′. rw (e, e′) (λ b. let l = ltb-false k 36 e′ in omega arith)))
 
 -- what holds before each turn: the data places of the first t tiles are written
-pub record TileTurn (f : ℕ → ℕ) (row : List ℕ) (t : ℕ) : Type 0 where
-  pub within : t ≤ 6
-  pub known : Known f (λ k. placeTile k < t) row
+abbrev pub TileTurn : (f : ℕ → ℕ) (row : List ℕ) (t : ℕ) → Type 0
+TileTurn f row t = Known f (λ k. placeTile k < t) row
 
 pub tiles-none : (f : ℕ → ℕ) → TileTurn f (replicate 48 0) 0
-tiles-none f = record { within = omega arith; known = record { long = length-replicate {A = ℕ} 48 0; entries = λ k k-lt a. absurd (omega arith) } }
+tiles-none f = record { long = length-replicate {A = ℕ} 48 0; entries = λ k k-lt a. absurd (omega arith) }
 
 pub tiles-next : {f : ℕ → ℕ} {row : List ℕ} {t : ℕ} → TileTurn f row t → t < 6
     → (x₁ x₂ x₃ x₄ : ℕ) → Two f t x₁ → Two f (t * 2 + 6) x₂ → Two f (t * 2 + 7) x₃ → Two f (t + 18) x₄
     → TileTurn f (putTwo (putTwo (putTwo (putTwo row t x₁) (t * 2 + 6) x₂) (t * 2 + 7) x₃) (t + 18) x₄) (t + 1)
 tiles-next {f = f} {row = row} {t = t} w h x₁ x₂ x₃ x₄ e₁ e₂ e₃ e₄ =
-    record {
-      within = omega arith;
-      known =
-          known-two (t + 18) x₄ (omega arith) e₄
-          (known-two (t * 2 + 7) x₃ (omega arith) e₃
-          (known-two (t * 2 + 6) x₂ (omega arith) e₂
-          (known-two {l = row} t x₁ (omega arith) e₁
-          (record {
-            long = w .known .long;
-            entries = λ k k-lt a. w .known .entries k k-lt (no-other t k (a .1) (a .0 .1) (a .0 .0 .1) (a .0 .0 .0 .1) (a .0 .0 .0 .0));
-          }))));
-    }
+    known-two (t + 18) x₄ (omega arith) e₄
+    (known-two (t * 2 + 7) x₃ (omega arith) e₃
+    (known-two (t * 2 + 6) x₂ (omega arith) e₂
+    (known-two {l = row} t x₁ (omega arith) e₁
+    (record { long = w .long; entries = λ k k-lt a. w .entries k k-lt (no-other t k (a .1) (a .0 .1) (a .0 .0 .1) (a .0 .0 .0 .1) (a .0 .0 .0 .0)) }))))
 
 pub tiles-all : {f : ℕ → ℕ} {row : List ℕ} {t : ℕ} → TileTurn f row t → 6 ≤ t → row ≡ tabulate 48 f
-tiles-all {f = f} {row = row} w h = tabulated 0 row 48 f (w .known .long) (λ k k-lt. w .known .entries k k-lt (omega (arith, on-carrier k k-lt .tile-lt)))
+tiles-all {f = f} {row = row} w h = tabulated 0 row 48 f (w .long) (λ k k-lt. w .entries k k-lt (omega (arith, on-carrier k k-lt .tile-lt)))
 
 -- the first carriers of the tiles are small
 pub start-lt : (t : ℕ) → t < 6 → carrierOf puscBand (t * 280) < 2048

@@ -12,7 +12,7 @@ use Rattle.amc.proofs.sequence_place.Tie as tie
 sum-place-requires : tie.Need-sum-place-requires
 sum-place-requires c κs =
     let d = entry-digits _ (c .before .pre .2) in
-    rw (c .before .pre .0) (search needs, search needs, d .high-lt, d .low-lt, d .above)
+    rw (c .before .pre .0) (search needs, search needs, d .0, d .1, d .2)
 
 returns : tie.Need-returns
 unfolding sequencePlace off
@@ -24,5 +24,5 @@ sequence-place-spec =
     tie.close
     (tie.spec
     (λ c. search needs) (λ c. search needs) (λ c. search needs)
-    (λ c. rw (c .before .pre .0) (omega (arith, entry-digits (c .before .args .i) (c .before .pre .2) .high-lt)))
+    (λ c. rw (c .before .pre .0) (omega (arith, entry-digits (c .before .args .i) (c .before .pre .2) .0)))
     sum-place-requires returns)
