@@ -25,21 +25,19 @@ xor-group w k a b ha hb =
     ∙ omega arith)
     ha hb
 
+-- four data numbers, the first a multiple of four, lie in one group
+by-fours : {n : ℕ} → Width n → (d e : ℕ) → d / 4 ≡ e / 4 → d / n ≡ e / n
+by-fours n4 d e h = h
+by-fours n8 d e h = omega arith
+by-fours n16 d e h = omega arith
+by-fours n32 d e h = omega arith
+
 -- the group of a data number of a bin, which its half of the bin knows
 half-group : {n : ℕ} → Width n → (i j : ℕ) → j < 8 → (i * 8 + j) / n ≡ pick (ltb j 4) (i * 8 / n) ((i * 8 + 4) / n)
-half-group w i j h = cases (ltb j 4) (λ e. rw e (first w (ltb-true j 4 e))) (λ e. rw e (last w (ltb-false j 4 e)))
-  where
-    first : {n : ℕ} → Width n → j < 4 → (i * 8 + j) / n ≡ i * 8 / n
-    first n4 l = omega arith
-    first n8 l = omega arith
-    first n16 l = omega arith
-    first n32 l = omega arith
-
-    last : {n : ℕ} → Width n → 4 ≤ j → (i * 8 + j) / n ≡ (i * 8 + 4) / n
-    last n4 l = omega arith
-    last n8 l = omega arith
-    last n16 l = omega arith
-    last n32 l = omega arith
+half-group w i j h =
+    cases (ltb j 4)
+    (λ e. rw e (by-fours w _ _ (omega (arith, ltb-true j 4 e))))
+    (λ e. rw e (by-fours w _ _ (omega (arith, ltb-false j 4 e))))
 
 pub group-lt : {n : ℕ} → Width n → (d : ℕ) → d < 48 * n → d / n < 48
 group-lt w d h = div-lt-iff-lt-mul (pos w) .1 h
