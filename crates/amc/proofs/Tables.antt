@@ -1,5 +1,5 @@
 -- The sequence P against its rule: document 004's list holds the powers of 22, which is computed once; they are the 48 elements other than zero, and `positions` says where each stands, by tests of the list.
-use mathlib.Core.Path.{_≡_, refl, sym, ap, _∙_, subst}
+use mathlib.Core.Path.{_≡_, refl, sym, ap, _∙_}
 use Prim.Native.Nat.{ℕ, zero, suc, _*_, _+_, _-_, _/_, _%_, _<_}
 use native.Mathlib.Omega.{arith}
 use lib.Dec.{eqb, ltb, eqb→eq, ltb→lt}

@@ -18,7 +18,8 @@ use Rattle.centre.proofs.Law.{centre-law}
 use Rattle.ofusc.specs.Width.{Width}
 use Rattle.ofusc.specs.Map.{groupOf, cellTerm, dataNumber}
 use Rattle.ofusc_rows.specs.Model.{cellNumber, groupNumber}
-use Rattle.ofusc.proofs.Sequence.{pos, sum-lt, cell-term-lt}
+use Rattle.ofusc.proofs.Sequence.{pos}
+use Rattle.ofusc.proofs.Law.{element-lt}
 use Rattle.ofusc_rows.proofs.Row.{with-subchannel}
 use Rattle.map.specs.Mode.{width, symbols, band, spotOf, setupWith}
 use Rattle.map.proofs.Accept.{width-is}
@@ -64,9 +65,6 @@ module _ {n : ℕ} (w : Width n) (k : ℕ) (h : k < 48) where
   abbrev pub element : ℕ → ℕ → ℕ
   element cell s = bitXor s (cellTerm n cell k)
 
-  pub element-lt : (cell s : ℕ) → s < n → element cell s < n
-  element-lt cell s l = sum-lt w s (cellTerm n cell k) l (cell-term-lt w cell k)
-
   pub number-in : (cell s : ℕ) → dataNumber n cell s (indexIn s k) ≡ k * n + element cell s
   unfolding dataNumber
   number-in cell s = ap (λ (g : ℕ). g * n + bitXor s (cellTerm n cell g)) (group-in s k h)
@@ -87,7 +85,7 @@ module _ {n : ℕ} (w : Width n) (k : ℕ) (h : k < 48) where
   hit-is a s b t hs ht =
       ap₂ eqb (column-in a 0 s) (column-in b 0 t)
       ∙ same-test _ _ _ _
-      (λ e. same-element 0 (element a s) (element b t) (element-lt a s hs) (element-lt b t ht) (ap (fromDc (64 * n)) e))
+      (λ e. same-element 0 (element a s) (element b t) (element-lt w a s k hs) (element-lt w b t k ht) (ap (fromDc (64 * n)) e))
       (ap (λ (x : ℕ). columnAt n 0 (k * n + x)))
 
   -- so it is enough to compare the data numbers

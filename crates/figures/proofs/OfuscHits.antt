@@ -13,6 +13,7 @@ use Rattle.base.proofs.Xor.{xor-twice}
 use Rattle.ofusc.specs.Width.{Width}
 use Rattle.ofusc.specs.Map.{cellTerm, dataNumber}
 use Rattle.ofusc.proofs.Sequence.{sum-lt, cell-term-lt}
+use Rattle.ofusc.proofs.Law.{element-lt}
 use Rattle.map.specs.Place.{Place, placeOf}
 use Rattle.map.specs.Mode.{setupWith}
 use Rattle.map.proofs.Law.{placing}
@@ -20,7 +21,7 @@ use Rattle.collision.specs.Collision.{countOf, indexIn, ofuscHit}
 use Rattle.figures.specs.Word.{Allowed, Pair, InGroup, Marked, inRow, SameInGroup, sum}
 use Rattle.collision.proofs.Count.{one}
 use Rattle.figures.proofs.Count.{marked-at, marked-in-row, no-three, count-all, count-none, sum-same, sum-one, columns}
-use Rattle.collision.proofs.Group.{carrierAt, element, element-lt, number-in, same-element, same-test, hit-is}
+use Rattle.collision.proofs.Group.{carrierAt, element, number-in, same-element, same-test, hit-is}
 use Rattle.figures.proofs.Field.{xor-cross}
 use Rattle.figures.proofs.FieldTest.{field}
 use Rattle.figures.proofs.Cells.{three-groups}
@@ -31,7 +32,7 @@ module _ {n : ℕ} (w : Width n) (a b s : ℕ) (hs : s < n) where
   one-hit : (k : ℕ) → k < 48 → sum n (λ t. one (ofuscHit (64 * n) a s b t k)) ≡ 1
   one-hit k hk =
       sum-same n (λ t. one (ofuscHit (64 * n) a s b t k)) (λ t. one (eqb t x)) (λ t ht. ap one (hit-is w k hk a s b t hs ht ∙ turned t))
-      ∙ sum-one n x (sum-lt w (element w k hk a s) (cellTerm n b k) (element-lt w k hk a s hs) (cell-term-lt w b k))
+      ∙ sum-one n x (sum-lt w (element w k hk a s) (cellTerm n b k) (element-lt w a s k hs) (cell-term-lt w b k))
     where
       x : ℕ
       x = bitXor (element w k hk a s) (cellTerm n b k)
@@ -121,7 +122,7 @@ module _ {n a s b t : ℕ} (p : Pair n a s b t) where
     meets c =
         hit-here k hk
         ∙ eq-eqb _ _
-        (same-element w k hk slot (x k hk) (y k hk) (element-lt w k hk a s (p .first .subchannel-lt)) (element-lt w k hk b t (p .second .subchannel-lt))
+        (same-element w k hk slot (x k hk) (y k hk) (element-lt w a s k (p .first .subchannel-lt)) (element-lt w b t k (p .second .subchannel-lt))
         (there a s (c .index) (c .same .at) (p .first) (c .same .first) (c .within)
         ∙ sym (there b t (c .index′) (c .same .at) (p .second) (c .same .second) (c .within))))
 

@@ -9,7 +9,7 @@ use Rattle.base.proofs.Perm.{rotation}
 use Rattle.ofusc.specs.Width.{Width}
 use Rattle.ofusc.specs.Map.{groupOf, dataNumber}
 use Rattle.ofusc.proofs.Sequence.{pos}
-use Rattle.ofusc.proofs.Law.{group-digit, law}
+use Rattle.ofusc.proofs.Law.{element-lt, group-digit, law}
 use Rattle.map.specs.Mode.{width, symbols, subchannels, band, spotOf, setupWith}
 use Rattle.map.specs.Place.{Place, usedCarrier, placeAt, placeOf}
 use Rattle.map.specs.Model.{ofusc}
@@ -17,7 +17,7 @@ use Rattle.map.proofs.Accept.{width-is}
 use Rattle.map.proofs.Law.{place-accepts}
 use Rattle.collision.specs.Collision.{indexIn}
 use Rattle.figures.specs.Word.{InGroup}
-use Rattle.collision.proofs.Group.{carrierAt, one-symbol, same-number, element, element-lt, number-in}
+use Rattle.collision.proofs.Group.{carrierAt, one-symbol, same-number, element, number-in}
 
 -- data number d of symbol y
 abbrev pub at : ℕ → ℕ → ℕ → Place
@@ -59,7 +59,7 @@ module _ {n : ℕ} (w : Width n) (cell slot s k m : ℕ) (hs : s < n) (hk : k < 
           ∙ digits-div k rest
 
   pub index-in : m ≡ indexIn s k → InGroup n slot k (carrierAt n slot (dataNumber n cell s m))
-  index-in e = record { data-number = dataNumber n cell s m; from = omega (arith, is); below = omega (arith, is, element-lt w k hk cell s hs); lies = refl }
+  index-in e = record { data-number = dataNumber n cell s m; from = omega (arith, is); below = omega (arith, is, element-lt w cell s k hs); lies = refl }
     where
       is : dataNumber n cell s m ≡ k * n + element w k hk cell s
       is = ap (dataNumber n cell s) e ∙ number-in w k hk cell s
