@@ -6,7 +6,7 @@ use native.Mathlib.Omega.{arith}
 use lib.Arith.{digits-div, digits-mod, digits-lt}
 use lib.Dec.{lit<}
 use Rattle.base.specs.Steps.{entry}
-use Rattle.base.proofs.Perm.{Perm, rotation}
+use Rattle.base.proofs.Perm.{rotation}
 use Rattle.carriers.specs.declared.DataNumber.{DataNumber}
 use Rattle.carriers.specs.Law.{NumberLaw}
 use Rattle.amc.specs.declared.Shape.{Shape}
@@ -56,45 +56,27 @@ module _ (cell : ℕ) (range : cell < 2352) where
   unfolding indexOf elementOf
   index-traffic j h =
       let q = powers (turn j) (turn-lt j) in
-      rw (traffic-number j, digits-number (elementOf cell j) (element-proper j), sum-back o (sum j) (add-proper _ _) (sum-differs j), subtract-add (sequence (turn j)) o (q .proper), q .position)
+      rw (traffic-number j, digits-number _ (element-proper j), sum-back _ _ (add-proper _ _) (sum-differs j), subtract-add _ o (q .proper), q .position)
       (rotation 48 (cell % 48) (lit< tt) .back j h)
 
-  module _ (v : ℕ) (h : v < 48) where
-    abbrev pub e : Element
-    e = twoDigits (v + 1)
+  -- the entry of P that stands at the index is the difference x of the sum y and off
+  pub traffic-index : (v : ℕ) → v < 48 → traffic cell (indexOf cell v) ≡ v
+  unfolding traffic elementOf indexOf
+  traffic-index v h =
+      let e = twoDigits (v + 1) in
+      let y = sumOf o e in
+      let x = subtract y o in
+      let e-proper = digits-proper (v + 1) (omega arith) in
+      let e-nonzero : baseSeven e ≡ 0 → ⊥ = λ q. omega arith in
+      let y-proper = sum-proper o e off-proper e-proper e-nonzero in
+      let x-proper = subtract-proper y o in
+      let x-nonzero = subtracted-differs y o y-proper off-proper (sum-not-off o e off-proper e-proper e-nonzero) in
+      let turned = rotation 48 (cell % 48) (lit< tt) .forth _ (position-lt (baseSeven x) (number-lt x x-proper)) in
+      rw (turned, at-position x x-proper x-nonzero, add-subtract y o y-proper, rule-back o e off-proper e-proper e-nonzero) (omega arith)
 
-    abbrev pub y : Element
-    y = sumOf o e
-
-    abbrev x : Element
-    x = subtract y o
-
-    pub e-proper : Proper e
-    e-proper = digits-proper (v + 1) (omega arith)
-
-    e-nonzero : baseSeven e ≡ 0 → ⊥
-    e-nonzero q = omega arith
-
-    pub y-proper : Proper y
-    y-proper = sum-proper o e off-proper e-proper e-nonzero
-
-    x-nonzero : baseSeven x ≡ 0 → ⊥
-    x-nonzero = subtracted-differs y o y-proper off-proper (sum-not-off o e off-proper e-proper e-nonzero)
-
-    -- the entry of P that stands at the index is the difference of the sum and off
-    entry-at : sequence (turn (indexOf cell v)) ≡ x
-    unfolding indexOf
-    entry-at =
-        ap sequence (rotation 48 (cell % 48) (lit< tt) .forth (entry positions (baseSeven x)) (position-lt (baseSeven x) (number-lt x (subtract-proper y o))))
-        ∙ at-position x (subtract-proper y o) x-nonzero
-
-    pub traffic-index : traffic cell (indexOf cell v) ≡ v
-    unfolding traffic elementOf
-    traffic-index = rw (entry-at, add-subtract y o y-proper, rule-back o e off-proper e-proper e-nonzero) (omega arith)
-
-  pub traffic-perm : Perm 48 (traffic cell) (indexOf cell)
-  unfolding indexOf
-  traffic-perm = record { to-lt = λ j h. traffic-lt j; from-lt = λ v h. omega arith; back = index-traffic; forth = traffic-index }
+pub index-lt : (cell v : ℕ) → indexOf cell v < 48
+unfolding indexOf
+index-lt cell v = omega arith
 
 -- the bin of a data number and its place there, which are the subchannel's and v's
 pub bin-of : (shape : Shape) (a v : ℕ) → trafficNumber shape a v .number / 8 ≡ a * shape .bins + v / 8 % shape .bins
@@ -123,9 +105,6 @@ module _ (shape : Shape) (six : IsShape shape) where
   pub all-bins : (n : ℕ) → n * t * b ≡ 6 * n
   all-bins n = mul-assoc n t b ∙ ap (λ (x : ℕ). n * x) (symbols-six shape six) ∙ mul-comm n 6
 
-  pub offset-below : (v : ℕ) → v < 48 → v / 8 / b < t
-  offset-below v h = div-lt-iff-lt-mul pos .1 (rw (symbols-six shape six) (omega arith))
-
   -- a symbol and a bin of a subchannel as a traffic place
   pub traffic-below : (o d : ℕ) → o < t → (o * b + d / 8 % b) * 8 + d % 8 < 48
   traffic-below o d h = omega (arith, rw (symbols-six shape six) at (digits-lt h (rest-lt (d / 8))))
@@ -149,25 +128,20 @@ module _ (shape : Shape) (six : IsShape shape) where
 
     pub offset-lt : v < 48 → its .offset < t
     unfolding trafficNumber
-    offset-lt = offset-below v
+    offset-lt h = div-lt-iff-lt-mul pos .1 (rw (symbols-six shape six) (omega arith))
 
     pub number-below : (n : ℕ) → a < n * t → its .number < 48 * n
     unfolding trafficNumber
     number-below n h = omega (arith, all-bins n, digits-lt h (rest-lt (v / 8)))
 
   -- the digits put together again
-  module _ (o d : ℕ) where
-    abbrev its-v : ℕ
-    its-v = (o * b + d / 8 % b) * 8 + d % 8
-
-    pub place-back : trafficNumber shape (d / 8 / b) its-v ≡ record { offset = o; number = d }
-    unfolding trafficNumber
-    place-back =
-        let w : its-v / 8 ≡ o * b + d / 8 % b = omega arith in
-        let offset : its-v / 8 / b ≡ o = ap (λ (k : ℕ). k / b) w ∙ digits-div o (rest-lt (d / 8)) in
-        let bin : its-v / 8 % b ≡ d / 8 % b = ap (λ (k : ℕ). k % b) w ∙ digits-mod o (rest-lt (d / 8)) in
-        let number : (d / 8 / b * b + its-v / 8 % b) * 8 + its-v % 8 ≡ d = omega (arith, bin, div-add-mod' (d / 8) b) in
-        λ i. record { offset = offset i; number = number i }
+  place-back : (o d : ℕ) → trafficNumber shape (d / 8 / b) ((o * b + d / 8 % b) * 8 + d % 8) ≡ record { offset = o; number = d }
+  unfolding trafficNumber
+  place-back o d =
+      let v = (o * b + d / 8 % b) * 8 + d % 8 in
+      let bin : v / 8 ≡ o * b + d / 8 % b = omega arith in
+      let place : v % 8 ≡ d % 8 = omega arith in
+      rw (bin, place, digits-div o (rest-lt (d / 8)), digits-mod o (rest-lt (d / 8)), div-add-mod' (d / 8) b, div-add-mod' d 8)
 
   pub law : (cell : ℕ) → cell < 2352 → (n : ℕ) → NumberLaw t (n * t) (48 * n) (dataNumber shape cell) (addressOf shape cell)
   unfolding dataNumber addressOf
@@ -175,11 +149,7 @@ module _ (shape : Shape) (six : IsShape shape) where
       record {
         offset-lt = λ a j ha hj. offset-lt a (traffic cell j) (traffic-lt cell range j);
         number-lt = λ a j ha hj. number-below a (traffic cell j) n ha;
-        back = λ a j ha hj. λ i. record { subchannel = subchannel-of a (traffic cell j) i; index = (ap (indexOf cell) (traffic-back a (traffic cell j)) ∙ index-traffic cell range j hj) i };
-        names = λ o d ho hd.
-            record {
-              subchannel-lt = div-lt-iff-lt-mul pos .1 (rw (all-bins n) (omega arith));
-              index-lt = traffic-perm cell range .from-lt _ (traffic-below o d ho);
-            };
-        forth = λ o d ho hd. ap (trafficNumber shape (d / 8 / b)) (traffic-index cell range _ (traffic-below o d ho)) ∙ place-back o d;
+        back = λ a j ha hj. rw (subchannel-of a (traffic cell j), traffic-back a (traffic cell j), index-traffic cell range j hj);
+        names = λ o d ho hd. record { subchannel-lt = div-lt-iff-lt-mul pos .1 (rw (all-bins n) (omega arith)); index-lt = index-lt cell _ };
+        forth = λ o d ho hd. rw (traffic-index cell range _ (traffic-below o d ho)) (place-back o d);
       }

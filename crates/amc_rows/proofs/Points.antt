@@ -17,10 +17,6 @@ use Rattle.amc.proofs.Law.{index-below, index-traffic, traffic-index}
 use Rattle.amc.proofs.Parts.{by-six, rest-six}
 use Rattle.amc.proofs.Sequence.{traffic-at, sequence-place-lt}
 
-pub index-lt : (cell v : ℕ) → indexOf cell v < 48
-unfolding indexOf
-index-lt cell v = omega arith
-
 -- Before turn i of a loop over the entries of P: the index of each v that the turns before had is written.
 pub record Indexed (cell : ℕ) (l : List ℕ) (i : ℕ) : Type 0 where
   pub long : length l ≡ 48

@@ -64,9 +64,6 @@ module _ (cell : ℕ) where
     at-q : OnCarrier q
     at-q = on-carrier q (step s .to-lt m hm)
 
-    used-tile : (tileOf cell s (placeTile q) * 4 + placeCarrier q) / 4 ≡ tileOf cell s (placeTile q)
-    used-tile = digits-div (tileOf cell s (placeTile q)) (at-q .carrier-lt)
-
     used-carrier : (tileOf cell s (placeTile q) * 4 + placeCarrier q) % 4 ≡ placeCarrier q
     used-carrier = digits-mod (tileOf cell s (placeTile q)) (at-q .carrier-lt)
 
@@ -82,6 +79,7 @@ module _ (cell : ℕ) where
     found : addressOf cell (spotOf cell s m .offset) (spotOf cell s m .used) ≡ record { subchannel = s; index = m }
     unfolding spotOf addressOf
     found =
+        let used-tile = digits-div (tileOf cell s (placeTile q)) (at-q .carrier-lt) in
         rw (used-tile, used-carrier, tile-block s (placeTile q) hs, tile-back s (placeTile q) hs, at-q .back, step s .back m hm)
 
   module _ (o u : ℕ) (ho : o < 3) (hu : u < 1680) (e : isTilePilot o u ≡ false) where

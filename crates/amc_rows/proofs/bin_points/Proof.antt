@@ -6,7 +6,8 @@ use borrow.Author.Needs.{needs}
 use Rattle.base.specs.Steps.{entry}
 use Rattle.base.proofs.Tabulate.{Written, written-none, written-next}
 use Rattle.amc.proofs.Parts.{product-few, by-six, taken-le}
-use Rattle.amc_rows.proofs.Points.{index-lt, firstPlace, subchannel-le, places-lt, point-number}
+use Rattle.amc.proofs.Law.{index-lt}
+use Rattle.amc_rows.proofs.Points.{firstPlace, subchannel-le, places-lt, point-number}
 use Rattle.amc_rows.proofs.bin_points.Statement.{statement}
 use Rattle.amc_rows.proofs.bin_points.Tie as tie
 
