@@ -45,14 +45,15 @@ module _ {n : ℕ} (F : Doubling n) where
       (λ e. term-entry (p1 n) n c k (eqb-false c 0 e) ∙ rw e (power-shift n ((k % (n - 1) + c) % (n - 1)) ∙ turned k c 1 one-lt ∙ shift-add F k c 1))
 
   twice : (e x : ℕ) → x < n → shift n (2 * e % (n - 1)) x ≡ shift n e (shift n e x)
-  twice e x h = shift-mod F (2 * e) x h ∙ ap (λ (t : ℕ). shift n t x) double ∙ shift-add F e e x
-    where
-      double : 2 * e ≡ e + e
-      double = omega arith
+  twice e x h =
+      let double : 2 * e ≡ e + e = omega arith in
+      shift-mod F (2 * e) x h ∙ ap (λ (t : ℕ). shift n t x) double ∙ shift-add F e e x
 
   term₂ : (c k : ℕ) → term (p2 n) n c k ≡ shift n (k + k) (coefficient₂ n c)
   unfolding p1 p2
   term₂ c k =
+      let at : ℕ = (k % (n - 1) + c) % (n - 1) in
+      let sorted : k + c + (k + c) ≡ k + k + (c + c) = omega arith in
       cases (eqb c 0)
       (λ e. term-zero (p2 n) n c k (eqb-true c 0 e) ∙ rw e (sym (shift-zero F (k + k))))
       (λ e. term-entry (p2 n) n c k (eqb-false c 0 e)
@@ -64,24 +65,16 @@ module _ {n : ℕ} (F : Doubling n) where
       ∙ sym (shift-add F (k + c) (k + c) 1)
       ∙ ap (λ (t : ℕ). shift n t 1) sorted
       ∙ shift-add F (k + k) (c + c) 1))
-    where
-      at : ℕ
-      at = (k % (n - 1) + c) % (n - 1)
-
-      sorted : k + c + (k + c) ≡ k + k + (c + c)
-      sorted = omega arith
 
   -- different numbers give different coefficients
   apart : (r : ℕ → ℕ) → ((c : ℕ) → r c ≡ 0 → ⊥) → ((c h : ℕ) → 0 < h → h < n - 1 → r c ≡ r (c + h) → ⊥)
       → (c d : ℕ) → c < d → d < n → pick (eqb c 0) 0 (r c) ≡ pick (eqb d 0) 0 (r d) → ⊥
   apart r nonzero moves c d l h e =
+      let up : d ≡ c + (d - c) = omega arith in
       let e′ = rw (ne-eqb d 0 (λ z. omega arith)) at e in
       cases (eqb c 0)
       (λ z. nonzero d (sym (rw z at e′)))
       (λ z. moves c (d - c) (omega arith) (let p = pos-of-ne-zero (eqb-false c 0 z) in omega arith) ((rw z at e′) ∙ ap r up))
-    where
-      up : d ≡ c + (d - c)
-      up = omega arith
 
   same : (r : ℕ → ℕ) → ((c : ℕ) → r c ≡ 0 → ⊥) → ((c h : ℕ) → 0 < h → h < n - 1 → r c ≡ r (c + h) → ⊥)
       → (c d : ℕ) → c < n → d < n → pick (eqb c 0) 0 (r c) ≡ pick (eqb d 0) 0 (r d) → c ≡ d
@@ -104,13 +97,12 @@ module _ {n : ℕ} (F : Doubling n) where
       (sym (shift-back F c 1 (shift n h 1) one-lt (shift-lt F h 1 one-lt) (e ∙ shift-add F c h 1)))))
 
   same₂ : (c d : ℕ) → c < n → d < n → coefficient₂ n c ≡ coefficient₂ n d → c ≡ d
-  same₂ = same (λ c. shift n (c + c) 1) (λ c. nonzero (c + c))
+  same₂ =
+      let sorted : (c h : ℕ) → c + h + (c + h) ≡ c + c + (h + h) = λ c h. omega arith in
+      same (λ c. shift n (c + c) 1) (λ c. nonzero (c + c))
       (λ c h pos l e. one-zero (still-twice F h 1 pos l one-lt
       (sym (shift-back F (c + c) 1 (shift n (h + h) 1) one-lt (shift-lt F (h + h) 1 one-lt)
       (e ∙ ap (λ (t : ℕ). shift n t 1) (sorted c h) ∙ shift-add F (c + c) (h + h) 1)))))
-    where
-      sorted : (c h : ℕ) → c + h + (c + h) ≡ c + c + (h + h)
-      sorted c h = omega arith
 
   chosen-lt : (c x : ℕ) → x < n → pick (eqb c 0) 0 x < n
   chosen-lt c x h = cases (eqb c 0) (λ e. rw e (let l = one-lt in omega arith)) (λ e. rw e h)
@@ -150,19 +142,17 @@ module _ {n : ℕ} (F : Doubling n) where
     -- in group k + i, seen from group k
     onward : (k i : ℕ) → bitXor (cellTerm n a (k + i)) (cellTerm n b (k + i)) ≡ bitXor (shift n i (shift n k A)) (shift n (i + i) (shift n (k + k) B))
     onward k i =
+        let swapped : k + i ≡ i + k = omega arith in
+        let sorted : k + i + (k + i) ≡ i + i + (k + k) = omega arith in
         difference (k + i)
         ∙ ap₂ bitXor (ap (λ (t : ℕ). shift n t A) swapped ∙ shift-add F i k A) (ap (λ (t : ℕ). shift n t B) sorted ∙ shift-add F (i + i) (k + k) B)
-      where
-        swapped : k + i ≡ i + k
-        swapped = omega arith
-
-        sorted : k + i + (k + i) ≡ i + i + (k + k)
-        sorted = omega arith
 
     -- the same difference in three of N-1 groups in a row: it is one cell
     pub three-groups : a < n * n → b < n * n → (d k i j : ℕ) → 0 < i → i < j → j < n - 1
         → bitXor (cellTerm n a k) (cellTerm n b k) ≡ d → bitXor (cellTerm n a (k + i)) (cellTerm n b (k + i)) ≡ d → bitXor (cellTerm n a (k + j)) (cellTerm n b (k + j)) ≡ d → a ≡ b
     three-groups ha hb d k i j h l g e eᵢ eⱼ =
+        let zero-lt : 0 < n = let o = one-lt in omega arith in
+        let gone : (i x : ℕ) → x < n → shift n i x ≡ 0 → x ≡ 0 = λ i x hx q. shift-back F i x 0 hx zero-lt (q ∙ sym (shift-zero F i)) in
         let z = three F (shift n k A) (shift n (k + k) B) (shift-lt F k A A-lt) (shift-lt F (k + k) B B-lt) i j h l g
         (sym (difference k) ∙ e ∙ sym eᵢ ∙ onward k i) (sym (difference k) ∙ e ∙ sym eⱼ ∙ onward k j) in
         sym (div-add-mod' a n)
@@ -170,9 +160,3 @@ module _ {n : ℕ} (F : Doubling n) where
         (same₂ (a / n) (b / n) (div-lt-iff-lt-mul zero-lt .1 ha) (div-lt-iff-lt-mul zero-lt .1 hb) (xor-zero _ _ (gone (k + k) B B-lt (z .1))))
         (same₁ (a % n) (b % n) (mod-lt a zero-lt) (mod-lt b zero-lt) (xor-zero _ _ (gone k A A-lt (z .0))))
         ∙ div-add-mod' b n
-      where
-        zero-lt : 0 < n
-        zero-lt = let o = one-lt in omega arith
-
-        gone : (i x : ℕ) → x < n → shift n i x ≡ 0 → x ≡ 0
-        gone i x hx q = shift-back F i x 0 hx zero-lt (q ∙ sym (shift-zero F i))

@@ -65,6 +65,7 @@ unfolding countOf
 count-rows many limit zero [] h f = omega arith
 count-rows many limit zero (x ∷ hits) h f = absurd (omega (arith, zero-mul many))
 count-rows many limit (suc rows) hits h f =
+    let later : (k : ℕ) → countOf (inRow many k (drop many hits)) ≤ limit = λ k. rw (drop-drop k many hits) (f (many + k)) in
     omega (
       arith,
       ap countOf (take-append-drop many hits),
@@ -73,9 +74,6 @@ count-rows many limit (suc rows) hits h f =
       count-rows many limit rows (drop many hits) (omega (arith, length-drop many hits, suc-mul rows many)) (λ k. later k),
       suc-mul rows limit,
     )
-  where
-    later : (k : ℕ) → countOf (inRow many k (drop many hits)) ≤ limit
-    later k = rw (drop-drop k many hits) (f (many + k))
 
 -- sums over 0..n-1
 pub sum-same : (n : ℕ) (f g : ℕ → ℕ) → ((t : ℕ) → t < n → f t ≡ g t) → sum n f ≡ sum n g

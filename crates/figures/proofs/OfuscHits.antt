@@ -79,14 +79,12 @@ module _ {n a s b t : ℕ} (p : Pair n a s b t) where
 
     three-in-a-row : (i j m : ℕ) → i < j → j < m → row i → row j → row m → a ≡ b
     three-in-a-row i j m l g eᵢ eⱼ eₘ =
+        let from : (j : ℕ) → i < j → k + i + (j - i) ≡ k + j = λ j l. omega arith in
         let fⱼ = found j eⱼ in
         let fₘ = found m eₘ in
         three-groups (field w) a b (p .first .cell-lt) (p .second .cell-lt) (bitXor s t) (k + i) (j - i) (m - i) (omega arith) (omega arith) (omega arith) (found i eᵢ .1)
         (ap (λ (x : ℕ). bitXor (cellTerm n a x) (cellTerm n b x)) (from j l) ∙ fⱼ .1)
         (ap (λ (x : ℕ). bitXor (cellTerm n a x) (cellTerm n b x)) (from m (omega arith)) ∙ fₘ .1)
-      where
-        from : (j : ℕ) → i < j → k + i + (j - i) ≡ k + j
-        from j l = omega arith
 
     pub row-two : (a ≡ b → ⊥) → countOf (inRow (n - 1) k (tabulate 48 hit)) ≤ 2
     row-two other = no-three (inRow (n - 1) k (tabulate 48 hit)) (λ i j m l g e f h. other (three-in-a-row i j m l g e f h))

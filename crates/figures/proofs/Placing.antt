@@ -38,28 +38,15 @@ index-lt s k = omega arith
 module _ {n : ℕ} (w : Width n) (cell slot s k m : ℕ) (hs : s < n) (hk : k < 48) (hm : m < 48) where
   pub index-is : InGroup n slot k (carrierAt n slot (dataNumber n cell s m)) → m ≡ indexIn s k
   unfolding groupOf indexIn
-  index-is g = sym (rotation 48 (23 * s) (lit< tt) .back m hm) ∙ ap (indexIn s) group
-    where
-      d : ℕ
-      d = g .data-number
-
-      whole : k * n + (d - k * n) ≡ d
-      whole = let l = g .from in omega arith
-
-      rest : d - k * n < n
-      rest = let l = g .from in let h = g .below in omega arith
-
-      d-lt : d < 48 * n
-      d-lt = rw whole at (digits-lt hk rest)
-
-      group : groupOf s m ≡ k
-      group =
-          sym (group-digit w cell s m hs)
-          ∙ ap (λ (x : ℕ). x / n) (same-number n slot (dataNumber n cell s m) d (pos w) (law w cell .number-lt s m hs hm) d-lt (g .lies) ∙ sym whole)
-          ∙ digits-div k rest
+  index-is g =
+      let whole : k * n + (g .data-number - k * n) ≡ g .data-number = omega arith in
+      let rest : g .data-number - k * n < n = omega arith in
+      let d-lt : g .data-number < 48 * n = rw whole at (digits-lt hk rest) in
+      let same = same-number n slot (dataNumber n cell s m) (g .data-number) (pos w) (law w cell .number-lt s m hs hm) d-lt (g .lies) in
+      let group : groupOf s m ≡ k = sym (group-digit w cell s m hs) ∙ ap (λ (x : ℕ). x / n) (same ∙ sym whole) ∙ digits-div k rest in
+      sym (rotation 48 (23 * s) (lit< tt) .back m hm) ∙ ap (indexIn s) group
 
   pub index-in : m ≡ indexIn s k → InGroup n slot k (carrierAt n slot (dataNumber n cell s m))
-  index-in e = record { data-number = dataNumber n cell s m; from = omega (arith, is); below = omega (arith, is, element-lt w cell s k hs); lies = refl }
-    where
-      is : dataNumber n cell s m ≡ k * n + element w k hk cell s
-      is = ap (dataNumber n cell s) e ∙ number-in w k hk cell s
+  index-in e =
+      let is : dataNumber n cell s m ≡ k * n + element w k hk cell s = ap (dataNumber n cell s) e ∙ number-in w k hk cell s in
+      record { data-number = dataNumber n cell s m; from = omega (arith, is); below = omega (arith, is, element-lt w cell s k hs); lies = refl }

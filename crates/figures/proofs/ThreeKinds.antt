@@ -57,11 +57,9 @@ agree a b j = eqb (baseSeven (sumAt a j)) (baseSeven (sumAt b j))
 -- equal sums: the difference of the entries is that of the offsets
 crossed-digit : (x y o p : ℕ) → x < 7 → p < 7 → (x + o) % 7 ≡ (y + p) % 7 → unrotate 7 y x ≡ unrotate 7 o p
 crossed-digit x y o p hx hp e =
+    let forward : (z : ℕ) → (z + y) % 7 ≡ x → (z + o) % 7 ≡ p = λ z q. omega arith in
     sym (rotation 7 o (lit< tt) .back (unrotate 7 y x) (omega arith))
     ∙ ap (unrotate 7 o) (forward (unrotate 7 y x) (rotation 7 y (lit< tt) .forth x hx))
-  where
-    forward : (z : ℕ) → (z + y) % 7 ≡ x → (z + o) % 7 ≡ p
-    forward z q = omega arith
 
 crossed : (x y o p : Element) → Proper x → Proper p → add x o ≡ add y p → subtract x y ≡ subtract p o
 unfolding add subtract
@@ -71,12 +69,11 @@ crossed x y o p hx hp e = λ i. element
 
 same-offset : (x o p : Element) → Proper o → Proper p → add x o ≡ add x p → o ≡ p
 unfolding add
-same-offset x o p ho hp e = λ i. element
+same-offset x o p ho hp e =
+    let digit : (x o p : ℕ) → o < 7 → p < 7 → (x + o) % 7 ≡ (x + p) % 7 → o ≡ p = λ x o p ho hp e. omega arith in
+    λ i. element
     (digit (x .high) (o .high) (p .high) (ho .high-lt) (hp .high-lt) (ap (λ (s : Element). s .high) e) i)
     (digit (x .low) (o .low) (p .low) (ho .low-lt) (hp .low-lt) (ap (λ (s : Element). s .low) e) i)
-  where
-    digit : (x o p : ℕ) → o < 7 → p < 7 → (x + o) % 7 ≡ (x + p) % 7 → o ≡ p
-    digit x o p ho hp e = omega arith
 
 module _ (a b : ℕ) (ha : a < 2352) (hb : b < 2352) (other : a ≡ b → ⊥) where
   agreed : (j : ℕ) → agree a b j ≡ true → sumAt a j ≡ sumAt b j
