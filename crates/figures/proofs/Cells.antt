@@ -31,11 +31,7 @@ module _ {n : ℕ} (F : Doubling n) where
 
   -- entry (k'+c) mod (N-1)
   turned : (k c x : ℕ) → x < n → shift n ((k % (n - 1) + c) % (n - 1)) x ≡ shift n (k + c) x
-  turned k c x h =
-      shift-mod F (k % (n - 1) + c) x h
-      ∙ shift-add F (k % (n - 1)) c x
-      ∙ shift-mod F k (shift n c x) (shift-lt F c x h)
-      ∙ sym (shift-add F k c x)
+  turned k c x h = rw (shift-mod F (k % (n - 1) + c) x h, shift-add F (k % (n - 1)) c x, shift-mod F k (shift n c x) (shift-lt F c x h), shift-add F k c x)
 
   term₁ : (c k : ℕ) → term (p1 n) n c k ≡ shift n k (coefficient₁ n c)
   unfolding p1
@@ -47,7 +43,7 @@ module _ {n : ℕ} (F : Doubling n) where
   twice : (e x : ℕ) → x < n → shift n (2 * e % (n - 1)) x ≡ shift n e (shift n e x)
   twice e x h =
       let double : 2 * e ≡ e + e = omega arith in
-      shift-mod F (2 * e) x h ∙ ap (λ (t : ℕ). shift n t x) double ∙ shift-add F e e x
+      rw (shift-mod F (2 * e) x h, double, shift-add F e e x)
 
   term₂ : (c k : ℕ) → term (p2 n) n c k ≡ shift n (k + k) (coefficient₂ n c)
   unfolding p1 p2
@@ -58,13 +54,8 @@ module _ {n : ℕ} (F : Doubling n) where
       (λ e. term-zero (p2 n) n c k (eqb-true c 0 e) ∙ rw e (sym (shift-zero F (k + k))))
       (λ e. term-entry (p2 n) n c k (eqb-false c 0 e)
       ∙ rw e
-      (power-shift n (2 * at % (n - 1))
-      ∙ twice at 1 one-lt
-      ∙ turned k c (shift n at 1) (shift-lt F at 1 one-lt)
-      ∙ ap (shift n (k + c)) (turned k c 1 one-lt)
-      ∙ sym (shift-add F (k + c) (k + c) 1)
-      ∙ ap (λ (t : ℕ). shift n t 1) sorted
-      ∙ shift-add F (k + k) (c + c) 1))
+      (power-shift n (2 * at % (n - 1)) ∙ twice at 1 one-lt ∙ turned k c (shift n at 1) (shift-lt F at 1 one-lt)
+      ∙ rw (turned k c 1 one-lt, ← shift-add F (k + c) (k + c) 1, sorted, shift-add F (k + k) (c + c) 1)))
 
   -- different numbers give different coefficients
   apart : (r : ℕ → ℕ) → ((c : ℕ) → r c ≡ 0 → ⊥) → ((c h : ℕ) → 0 < h → h < n - 1 → r c ≡ r (c + h) → ⊥)
@@ -135,17 +126,15 @@ module _ {n : ℕ} (F : Doubling n) where
         let b₁ = coefficient₁ n (b % n) in
         let a₂ = coefficient₂ n (a / n) in
         let b₂ = coefficient₂ n (b / n) in
-        ap₂ bitXor (ap₂ bitXor (term₁ (a % n) k) (term₂ (a / n) k)) (ap₂ bitXor (term₁ (b % n) k) (term₂ (b / n) k))
-        ∙ xor-swap (shift n k a₁) (shift n (k + k) a₂) (shift n k b₁) (shift n (k + k) b₂)
-        ∙ sym (ap₂ bitXor (shift-sum F k a₁ b₁ (lt₁ (a % n)) (lt₁ (b % n))) (shift-sum F (k + k) a₂ b₂ (lt₂ (a / n)) (lt₂ (b / n))))
+        rw (term₁ (a % n) k, term₂ (a / n) k, term₁ (b % n) k, term₂ (b / n) k, shift-sum F k a₁ b₁ (lt₁ (a % n)) (lt₁ (b % n)), shift-sum F (k + k) a₂ b₂ (lt₂ (a / n)) (lt₂ (b / n)))
+        (xor-swap (shift n k a₁) (shift n (k + k) a₂) (shift n k b₁) (shift n (k + k) b₂))
 
     -- in group k + i, seen from group k
     onward : (k i : ℕ) → bitXor (cellTerm n a (k + i)) (cellTerm n b (k + i)) ≡ bitXor (shift n i (shift n k A)) (shift n (i + i) (shift n (k + k) B))
     onward k i =
         let swapped : k + i ≡ i + k = omega arith in
         let sorted : k + i + (k + i) ≡ i + i + (k + k) = omega arith in
-        difference (k + i)
-        ∙ ap₂ bitXor (ap (λ (t : ℕ). shift n t A) swapped ∙ shift-add F i k A) (ap (λ (t : ℕ). shift n t B) sorted ∙ shift-add F (i + i) (k + k) B)
+        rw (difference (k + i), sorted, swapped, shift-add F i k A, shift-add F (i + i) (k + k) B)
 
     -- the same difference in three of N-1 groups in a row: it is one cell
     pub three-groups : a < n * n → b < n * n → (d k i j : ℕ) → 0 < i → i < j → j < n - 1

@@ -2,7 +2,6 @@
 use mathlib.Core.Path.{_≡_, sym, ap, _∙_}
 use mathlib.Core.Bool.{Bool, true, false}
 use Prim.Native.Nat.{ℕ, suc, _+_, _-_, _%_, _/_, _<_, _≤_}
-use native.Mathlib.Nat.{add-assoc, mod-add-mod, add-mod-mod}
 use native.Mathlib.Omega.{arith}
 use lib.Dec.{lit<, eqb}
 use borrow.Author.Tests.{eqb-true, eqb-false, eq-eqb}
@@ -34,6 +33,10 @@ same-place i j hi hj e = sym (powers i hi .position) ∙ ap (λ (x : Element). e
 
 same-turn : (d i j : ℕ) → i < 48 → j < 48 → (i + d) % 48 ≡ (j + d) % 48 → i ≡ j
 same-turn d i j hi hj e = omega arith
+
+-- from one turn to another
+onto : (p q j : ℕ) → p < 48 → q < 48 → (j + q) % 48 ≡ ((j + p) % 48 + suc ((q + 47 - p) % 48)) % 48
+onto p q j hp hq = omega arith
 
 -- the zero rule fires at index j
 fires : ℕ → ℕ → Bool
@@ -107,21 +110,10 @@ module _ (a b : ℕ) (ha : a < 2352) (hb : b < 2352) (other : a ≡ b → ⊥) w
 
       at : (j : ℕ) → agree a b j ≡ true → (a % 48 ≡ b % 48 → ⊥) → entry positions (baseSeven (subtract (off b) (off a))) ≡ (turned a j + distance (suc d)) % 48
       at j e ne =
-          ap (λ (x : Element). entry positions (baseSeven x)) (sym (entries j e) ∙ ap (λ (k : ℕ). subtract (sequence (turned a j)) (sequence k)) (onto j))
-          ∙ difference d (turned a j) (short ne) (turn-lt a ha j)
-        where
-          near : (p q : ℕ) → p < 48 → q < 48 → (p + suc ((q + 47 - p) % 48)) % 48 ≡ q
-          near p q hp hq = omega arith
-
-          onto : (j : ℕ) → turned b j ≡ (turned a j + suc d) % 48
-          onto j = sym
-              (mod-add-mod (j + a % 48) 48 (suc d)
-              ∙ ap (λ (t : ℕ). t % 48) (add-assoc j (a % 48) (suc d))
-              ∙ sym (add-mod-mod j (a % 48 + suc d) 48)
-              ∙ ap (λ (t : ℕ). (j + t) % 48) (near (a % 48) (b % 48) (omega arith) (omega arith)))
-
-          short : (a % 48 ≡ b % 48 → ⊥) → d < 47
-          short ne = omega arith
+          let short : d < 47 = omega arith in
+          let on = onto (a % 48) (b % 48) j (omega arith) (omega arith) in
+          ap (λ (x : Element). entry positions (baseSeven x)) (sym (entries j e) ∙ ap (λ (k : ℕ). subtract (sequence (turned a j)) (sequence k)) on)
+          ∙ difference d (turned a j) short (turn-lt a ha j)
 
       turn : (a % 48 ≡ b % 48 → ⊥) → turned a i ≡ turned a j
       turn ne = same-turn (distance (suc d)) (turned a i) (turned a j) (turn-lt a ha i) (turn-lt a ha j) (sym (at i p ne) ∙ at j q ne)
