@@ -66,11 +66,7 @@ module _ {n : ℕ} (F : Doubling n) where
   whole-turns : (q x : ℕ) → x < n → shift n (q * (n - 1)) x ≡ x
   unfolding shift
   whole-turns zero x h = ap (λ (t : ℕ). shift n t x) (zero-mul (n - 1))
-  whole-turns (suc q) x h =
-      ap (λ (t : ℕ). shift n t x) (suc-mul q (n - 1))
-      ∙ shift-add (q * (n - 1)) (n - 1) x
-      ∙ ap (shift n (q * (n - 1))) (F .order x h)
-      ∙ whole-turns q x h
+  whole-turns (suc q) x h = rw (suc-mul q (n - 1), shift-add (q * (n - 1)) (n - 1) x, F .order x h) (whole-turns q x h)
 
   pub shift-mod : (i x : ℕ) → x < n → shift n (i % (n - 1)) x ≡ shift n i x
   shift-mod i x h =
@@ -91,14 +87,10 @@ module _ {n : ℕ} (F : Doubling n) where
   unfolding shift
   shift-back zero x y hx hy e = e
   shift-back (suc i) x y hx hy e =
+      let one-more : n - 2 + 1 ≡ n - 1 = omega (arith, F .above) in
+      let undone : (z : ℕ) → z < n → shift n (n - 2) (times n 2 z) ≡ z = λ z h. sym (shift-add (n - 2) 1 z) ∙ rw one-more (F .order z h) in
       shift-back i x y hx hy
       (sym (undone (shift n i x) (shift-lt i x hx)) ∙ ap (shift n (n - 2)) e ∙ undone (shift n i y) (shift-lt i y hy))
-    where
-      one-more : n - 2 + 1 ≡ n - 1
-      one-more = let l = F .above in omega arith
-
-      undone : (z : ℕ) → z < n → shift n (n - 2) (times n 2 z) ≡ z
-      undone z h = sym (shift-add (n - 2) 1 z) ∙ ap (λ (t : ℕ). shift n t z) one-more ∙ F .order z h
 
   -- a step by i moves every element but 0
   pub still : (i x : ℕ) → 0 < i → i < n - 1 → x < n → shift n i x ≡ x → x ≡ 0
@@ -116,10 +108,7 @@ module _ {n : ℕ} (F : Doubling n) where
   both-sum i x y hx hy = ap (bitXor (bitXor x y)) (shift-sum i x y hx hy) ∙ xor-swap x y (shift n i x) (shift n i y)
 
   square : (i x : ℕ) → x < n → both i (both i x) ≡ bitXor x (shift n (i + i) x)
-  square i x h =
-      ap (bitXor (both i x)) (shift-sum i x (shift n i x) h (shift-lt i x h))
-      ∙ xor-mid x (shift n i x) (shift n i (shift n i x))
-      ∙ ap (bitXor x) (sym (shift-add i i x))
+  square i x h = rw (shift-sum i x (shift n i x) h (shift-lt i x h), shift-add i i x) (xor-mid x (shift n i x) (shift n i (shift n i x)))
 
   both-zero : (i x : ℕ) → 0 < i → i < n - 1 → x < n → both i x ≡ 0 → x ≡ 0
   both-zero i x h l hx e = still i x h l hx (sym (xor-zero x (shift n i x) e))
@@ -140,18 +129,11 @@ module _ {n : ℕ} (F : Doubling n) where
     -- AT MOST TWO ROOTS: it takes one value at 1, 2^i and 2^j only where A and B are 0
     pub three : (i j : ℕ) → 0 < i → i < j → j < n - 1
         → bitXor A B ≡ bitXor (shift n i A) (shift n (i + i) B) → bitXor A B ≡ bitXor (shift n j A) (shift n (j + j) B) → (A ≡ 0) × (B ≡ 0)
-    three i j h l g eᵢ eⱼ = (second i h (omega arith) eᵢ ∙ ap (both i) B-zero ∙ xor-zero-l (shift n i 0) ∙ shift-zero i, B-zero)
-      where
-        same : shift n i B ≡ shift n j B
-        same =
-            let e : both i B ≡ both j B = sym (second i h (omega arith) eᵢ) ∙ second j (omega arith) g eⱼ in
-            xor-zero (shift n i B) (shift n j B) (sym (xor-cross B (shift n i B) B (shift n j B) e) ∙ xor-self B)
-
-        up : i + (j - i) ≡ j
-        up = omega arith
-
-        B-zero : B ≡ 0
-        B-zero =
-            still (j - i) B (omega arith) (omega arith) hB
-            (shift-back i (shift n (j - i) B) B (shift-lt (j - i) B hB) hB
-            (sym (shift-add i (j - i) B) ∙ ap (λ (t : ℕ). shift n t B) up ∙ sym same))
+    three i j h l g eᵢ eⱼ =
+        let up : i + (j - i) ≡ j = omega arith in
+        let e : both i B ≡ both j B = sym (second i h (omega arith) eᵢ) ∙ second j (omega arith) g eⱼ in
+        let same = xor-zero (shift n i B) (shift n j B) (sym (xor-cross B (shift n i B) B (shift n j B) e) ∙ xor-self B) in
+        let B-zero : B ≡ 0 =
+        still (j - i) B (omega arith) (omega arith) hB
+        (shift-back i (shift n (j - i) B) B (shift-lt (j - i) B hB) hB (sym (shift-add i (j - i) B) ∙ rw up (sym same))) in
+        (second i h (omega arith) eᵢ ∙ ap (both i) B-zero ∙ xor-zero-l (shift n i 0) ∙ shift-zero i, B-zero)
