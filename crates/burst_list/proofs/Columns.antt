@@ -69,13 +69,13 @@ pub record Held (numbers columns : List ℕ) (n : ℕ) : Type 0 where
 pub held-none : (numbers : List ℕ) → Held numbers (replicate 256 0) 0
 held-none numbers = record { long = length-replicate {A = ℕ} 256 0; is = below-none _ }
 
-module _ {numbers columns : List ℕ} {n : ℕ} {edges : Edges} (held : Held numbers columns n) (e : edges ≡ edgesOf (burstAt numbers n)) where
-  pub held-next : {columns′ : List ℕ} → Kept columns n edges columns′ → Held numbers columns′ (n + 1)
-  held-next {columns′} w = record { long = w .long; is = below-more (λ k. edgesAt columns′ k ≡ edgesOf (burstAt numbers k)) n (λ k lt. w .elsewhere k lt ∙ held .is k lt) (w .there ∙ e) }
+module _ {numbers columns : List ℕ} (n : ℕ) {edges : Edges} (e : edges ≡ edgesOf (burstAt numbers n)) where
+  pub held-next : Held numbers columns n → {columns′ : List ℕ} → Kept columns n edges columns′ → Held numbers columns′ (n + 1)
+  held-next held {columns′} w = record { long = w .long; is = below-more (λ k. edgesAt columns′ k ≡ edgesOf (burstAt numbers k)) n (λ k lt. w .elsewhere k lt ∙ held .is k lt) (w .there ∙ e) }
 
-  pub held-apart : isNone (λ j. edgesOverlap (edgesAt columns j) edges) n ≡ isApart numbers n
+  pub held-apart : Held numbers columns (n + 1) → isNone (λ j. edgesOverlap (edgesAt columns j) edges) n ≡ isApart numbers n
   unfolding isApart
-  held-apart =
+  held-apart held =
       ap (λ (k : ℕ). eqb k n)
       (first-as (λ j. edgesOverlap (edgesAt columns j) edges) (λ j. isOverlap (burstAt numbers j) (burstAt numbers n)) n (λ j lt.
-      ap (λ (x : Edges). edgesOverlap x edges) (held .is j lt) ∙ ap (edgesOverlap (edgesOf (burstAt numbers j))) e ∙ edges-overlap (burstAt numbers j) (burstAt numbers n)))
+      ap (λ (x : Edges). edgesOverlap x edges) (held .is j (omega arith)) ∙ ap (edgesOverlap (edgesOf (burstAt numbers j))) e ∙ edges-overlap (burstAt numbers j) (burstAt numbers n)))

@@ -31,7 +31,7 @@ fn keep(columns: &mut [u16; 256], i: usize, edges: Edges)
     columns[192 + i] = edges.slot_end;
 }
 
-// Does a burst overlap none of the first so many in the columns? Each of them is asked, so that there is no branch to
+// Does a burst overlap none of those before a position in the columns? Each of them is asked, so that there is no branch to
 // guess, and many can be asked at once.
 fn is_apart(columns: &[u16; 256], i: usize, edges: Edges) -> bool
     requires { ⌜ i < 64 ⌝ }
@@ -48,7 +48,7 @@ fn is_apart(columns: &[u16; 256], i: usize, edges: Edges) -> bool
 
 // The number of the first question put to a list that is answered no, or 0, given
 // the numbers after the zone's last subchannel and last slot.
-// The bursts so far stand in columns.
+// The edges of the bursts so far stand in columns; a burst's are kept before it is asked, so that the next one finds them written.
 pub fn list_refusal(subchannel_end: usize, slot_end: usize, bursts: &[u32]) -> u8
     requires { ⌜ («subchannel_end» < 65536) × («slot_end» < 65536) ⌝ }
     ensures { λ r. ⌜ r ≡ listRefusal «subchannel_end» «slot_end» (now (bursts .entry)) ⌝ }
@@ -68,10 +68,10 @@ pub fn list_refusal(subchannel_end: usize, slot_end: usize, bursts: &[u32]) -> u
             return 18;
         }
         let edges = burst::edges_of(burst);
+        keep(&mut columns, i, edges);
         if !is_apart(&columns, i, edges) {
             return 19;
         }
-        keep(&mut columns, i, edges);
         i += 1;
     }
     0

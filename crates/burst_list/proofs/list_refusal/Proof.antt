@@ -41,11 +41,17 @@ edges : (c : tie.After-edges-of Inv-loop μ-loop) → c .edges-of .result ≡ ed
 edges c = c .edges-of .ensures ∙ ap edgesOf (c .before .before .before .burst-at .ensures)
 
 -- so that 19 goes by the list's own
-apart : (c : tie.After-is-apart Inv-loop μ-loop) → c .is-apart .result ≡ isApart (c .before .before .before .before .before .before .before .before .before .before .before .args .bursts .now) (c .before .before .before .before .before .before .before .loop .i)
-apart c = c .is-apart .ensures ∙ held-apart (c .before .before .before .before .before .before .before .loop .inv .2) (edges (c .before .before))
+apart : (c : tie.After-is-apart Inv-loop μ-loop) → c .is-apart .result ≡ isApart (c .before .before .before .before .before .before .before .before .before .before .before .before .before .args .bursts .now) (c .before .before .before .before .before .before .before .before .before .loop .i)
+apart c =
+    let kept = c .before .before in
+    let e = edges (kept .before .before) in
+    c .is-apart .ensures ∙ held-apart _ e (held-next _ e (kept .before .before .before .before .before .before .before .loop .inv .2) (kept .keep .ensures))
 
 few : (c : tie.In-loop Inv-loop μ-loop) → c .before .loop .i < 64
 few c = omega (arith, list-of _ (c .before .loop .inv .0), c .loop-test .taken)
+
+loop-holds : tie.Need-loop-holds Inv-loop μ-loop
+loop-holds c = (list-is _ (c .before .if1 .left) (c .if2 .left), below-none _, held-none _)
 
 -- each outcome by the questions
 returns : tie.Need-returns Inv-loop μ-loop
@@ -63,7 +69,7 @@ returns-3 c =
 
 returns-4 : tie.Need-returns-4 Inv-loop μ-loop
 returns-4 c =
-    let inside = c .before .before .before .before in
+    let inside = c .before .before .before .before .before .before in
     let loop = inside .before .before .before in
     is-overlapping _ _ _ (loop .before .loop .inv .0) (loop .loop-test .taken) (loop .before .loop .inv .1) (told-yes _ (asked (inside .before)) (inside .if3 .left)) (told-no _ (apart (c .before)) (c .if4 .taken))
 
@@ -72,8 +78,8 @@ loop-again c =
     let inside = c .before .before .before .before .before .before in
     let inv = inside .before .before .before .before .loop .inv in (
       inv .0,
-      below-more _ _ (inv .1) (record { inside = told-yes _ (asked (inside .before)) (inside .if3 .left); apart = told-yes _ (apart (c .before .before .before)) (c .before .before .if4 .left) }),
-      held-next (inv .2) (edges (c .before .before .before .before .before)) (c .keep .ensures),
+      below-more _ _ (inv .1) (record { inside = told-yes _ (asked (inside .before)) (inside .if3 .left); apart = told-yes _ (apart (c .before)) (c .if4 .left) }),
+      held-next _ (edges (c .before .before .before .before .before)) (inv .2) (c .before .before .before .keep .ensures),
     )
 
 returns-5 : tie.Need-returns-5 Inv-loop μ-loop
@@ -83,8 +89,7 @@ pub list-refusal-spec : {M : Type 1} → statement M
 list-refusal-spec =
     tie.close
     (tie.spec
-    Inv-loop μ-loop returns returns-2 (λ c. (list-is _ (c .before .if1 .left) (c .if2 .left), below-none _, held-none _))
+    Inv-loop μ-loop returns returns-2 loop-holds
     (λ c κs. (few c, omega (arith, c .loop-test .taken))) (λ c κs. search needs) returns-3 (λ c κs. small c)
-    (λ c κs. few (c .before .before .before .before .before)) returns-4
-    (λ c κs. (few (c .before .before .before .before .before .before .before .before), c .before .before .before .before .before .before .before .before .before .loop .inv .2 .long))
-    (λ c. search needs) (λ c. search needs) loop-again returns-5)
+    (λ c κs. (few (c .before .before .before .before .before), c .before .before .before .before .before .before .loop .inv .2 .long))
+    (λ c κs. few (c .before .before .before .before .before .before .before)) returns-4 (λ c. search needs) (λ c. search needs) loop-again returns-5)

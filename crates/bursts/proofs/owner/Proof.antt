@@ -1,4 +1,5 @@
 -- `bursts::owner` meets its contract.
+use Prim.Native.Nat.{_<_}
 use borrow.Author.Needs.{needs}
 use Rattle.base.proofs.Chain.{by-answer}
 use Rattle.map.specs.Question.{isSlot, isSubchannel}
@@ -8,6 +9,10 @@ use Rattle.bursts.proofs.Answer.{list-asks, zone-no, zone-then, bursts-
 use Rattle.bursts.proofs.owner.Statement.{statement}
 use Rattle.bursts.proofs.owner.Tie as tie
 
+-- a subchannel that is let pass is one of the mode's
+inside : (c : tie.Else3) → c .before .before .before .before .before .before .args .subchannel < c .before .subchannels .result
+inside c = c .if3 .left
+
 pub owner-spec : {M : Type 1} → statement M
 unfolding ownerOf isSlot isSubchannel
 owner-spec =
@@ -16,5 +21,5 @@ owner-spec =
     (λ c κs. search needs) (λ c κs. search needs) (λ c. search (owned-no, zone-no, needs))
     (λ c κs. search needs) (λ c. search (owned-no, zone-then, by-answer, needs))
     (λ c κs. search needs) (λ c κs. search needs) (λ c. search (owned-no, zone-then, by-answer, needs))
-    (λ c κs. let zone = c .before .before .before in list-asks _ _ (zone .before .fields-refusal .ensures) (zone .if1 .left) (c .before .subchannels .ensures)) (λ c κs. search needs) (λ c. search (owned-no, zone-then, bursts-no, by-answer, needs))
+    (λ c κs. let zone = c .before .before .before in list-asks _ _ (zone .before .fields-refusal .ensures) (zone .if1 .left) (c .before .subchannels .ensures)) (λ c κs. search needs) (λ c. let h = inside (c .before .before .before) in search (owned-no, zone-then, bursts-no, by-answer, needs))
     (λ c κs. search (list-most, needs)) (λ c. search (owned-yes, zone-then, bursts-then, by-answer, needs)))
