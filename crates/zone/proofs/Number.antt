@@ -17,10 +17,6 @@ module _ (size : ℕ) (z : Zone) where
   abbrev pub fieldQuestions : Questions
   fieldQuestions = (isZoneMode (z .mode), 1) ∷ (isSize (setupOf size z), 2) ∷ (isCell (setupOf size z), 3) ∷ (isSlots (z .slots), 13) ∷ (isMask (z .mode) (z .mask), 17) ∷ []
 
-  pub fields-numbered : {A : Type 0} (rest : Answer A) → askFields size z rest ≡ numbered (fieldsRefusal size z) rest
-  unfolding fieldsRefusal
-  fields-numbered = all-numbered fieldQuestions tt
-
   pub fields-uplink : z .mode ≡ 1 → 1 ≡ fieldsRefusal size z
   unfolding fieldsRefusal isZoneMode
   fields-uplink e = rw e
