@@ -2,7 +2,7 @@
 use mathlib.Core.Path.{_≡_, sym, _∙_}
 use mathlib.Core.Bool.{Bool, true, false}
 use mathlib.Core.List.{List}
-use Prim.Native.Nat.{ℕ, _+_, _<_, _≤_}
+use Prim.Native.Nat.{ℕ, _+_, _-_, _<_, _≤_}
 use native.Mathlib.Omega.{arith}
 use lib.Dec.{eqb, ltb, leb}
 use lib.ListN.{length, set, replicate, length-set, length-replicate, getD-replicate}
@@ -14,10 +14,10 @@ use Rattle.base.specs.Steps.{entry}
 use Rattle.base.specs.Tabulate.{tabulate}
 use Rattle.base.specs.First.{firstOf}
 use Rattle.base.proofs.Test.{cases, true-false}
-use Rattle.base.proofs.Tabulate.{getD-tabulate, tabulated, length-tabulate}
+use Rattle.base.proofs.Tabulate.{getD-tabulate, tabulated, length-tabulate, WrittenOver}
 use Rattle.base.proofs.First.{None, none-more, first-most, first-before, first-passes, first-is, first-none, none-of}
 use Rattle.burst.specs.Burst.{burstAt, isOf, isCovering, isOverlap}
-use Rattle.burst.proofs.Cover.{of-is, covering-is, elsewhere, beside, overlap-is}
+use Rattle.burst.proofs.Cover.{of-is, is-of, covering-is, elsewhere, beside, overlap-is}
 use Rattle.burst_list.specs.List.{burstCount, isApart}
 use Rattle.burst_list.proofs.Each.{Passed}
 use Rattle.burst_owner.specs.declared.Owned.{Owned}
@@ -36,47 +36,19 @@ module _ (numbers : List ℕ) (slot s : ℕ) {p : ℕ} (e : p ≡ position numbe
       let all : p ≡ burstCount numbers = omega (arith, first-most (λ i. isCovering (burstAt numbers i) slot s) (burstCount numbers)) in
       rw (← e, le-ltb p (burstCount numbers) h, all)
 
--- one number more
-of-none : (first k : ℕ) → isOf first 0 k ≡ false
-unfolding isOf
-of-none first k =
-    cases (leb first k)
-    (λ e. rw (e, le-ltb k (first + 0) (omega (arith, leb-true first k e))))
-    (λ e. rw e)
+-- a row of which m of so many entries from the first on are set to a value
+abbrev pub Marking : (first many value : ℕ) (row₀ row : List ℕ) (m : ℕ) → Type 0
+Marking first many value row₀ row m = WrittenOver 0 192 many (λ k. first + k) (λ k. value) row₀ row m
 
-of-last : (first m : ℕ) → isOf first (m + 1) (first + m) ≡ true
-of-last first m = of-is first (m + 1) (first + m) (omega arith) (omega arith)
-
-of-other : (first m k : ℕ) → (first + m ≡ k → ⊥) → isOf first (m + 1) k ≡ isOf first m k
-unfolding isOf
-of-other first m k n =
-    cases (ltb k (first + m))
-    (λ e. let l = ltb-true k (first + m) e in rw (e, lt-ltb k (first + (m + 1)) (omega arith)))
-    (λ e. let l = ltb-false k (first + m) e in rw (e, le-ltb k (first + (m + 1)) (omega arith)))
-
--- a row of which m entries from the first on are set to a value
-pub record Marking (first value : ℕ) (row₀ row : List ℕ) (m : ℕ) : Type 0 where
-  pub long : length row ≡ 192
-  pub entries : (k : ℕ) → k < 192 → entry row k ≡ pick (isOf first m k) value (entry row₀ k)
-
-module _ {first value : ℕ} {row₀ : List ℕ} where
-  pub marking-none : length row₀ ≡ 192 → Marking first value row₀ row₀ 0
-  marking-none e = record { long = e; entries = λ k h. rw (of-none first k) }
-
-  pub marking-next : {row : List ℕ} {m : ℕ} → Marking first value row₀ row m → first + m < 192 → Marking first value row₀ (set row (first + m) value) (m + 1)
-  marking-next {row} {m} w h =
-      record {
-        long = length-set row (first + m) value ∙ w .long;
-        entries = λ k l.
-            cases (eqb (first + m) k)
-            (λ e. let same = eqb-true (first + m) k e in
-            rw (← same, of-last first m) (getD-set-same row (first + m) value 0 (omega (arith, w .long))))
-            (λ e. let other = eqb-false (first + m) k e in
-            rw (of-other first m k other) (getD-set-other row (first + m) k value 0 (λ q. other (sym q)) ∙ w .entries k l));
-      }
-
-  pub marking-all : {row : List ℕ} {m : ℕ} → Marking first value row₀ row m → row ≡ marked first m value row₀
-  marking-all {row} {m} w = tabulated 0 row 192 (λ s. pick (isOf first m s) value (entry row₀ s)) (w .long) (w .entries)
+pub marking-all : (first many : ℕ) {value : ℕ} {row₀ row : List ℕ} {m : ℕ} → Marking first many value row₀ row m → many ≤ m → row ≡ marked first many value row₀
+marking-all first many {value} {row₀} {row} w h =
+    tabulated 0 row 192 (λ s. pick (isOf first many s) value (entry row₀ s)) (w .written .long)
+    (λ s l.
+    cases (isOf first many s)
+    (λ e. let in-run = is-of first many s e in
+    let its : first + (s - first) ≡ s = omega (arith, in-run .0) in
+    rw e (rw its at (w .written .entries (s - first) (omega (arith, in-run .0, in-run .1)))))
+    (λ e. rw e (w .others s (λ k k-lt q. true-false (sym (of-is first many s (omega arith) (omega (arith, w .written .within))) ∙ e)))))
 
 -- which bursts cover a slot and subchannel
 abbrev pub covering : (numbers : List ℕ) (slot s i : ℕ) → Bool

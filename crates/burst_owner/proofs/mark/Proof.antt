@@ -1,31 +1,29 @@
 -- `burst_owner::mark` meets its contract.
-use mathlib.Core.Path.{_≡_}
+use mathlib.Core.Path.{refl}
 use Prim.Native.Nat.{_+_, _-_, _≤_}
 use native.Mathlib.Omega.{arith}
 use borrow.Author.Needs.{needs}
-use Rattle.burst_owner.proofs.Row.{Marking, marking-none, marking-next, marking-all}
+use Rattle.base.proofs.Tabulate.{over-none, over-next}
+use Rattle.burst_owner.proofs.Row.{Marking, marking-all}
 use Rattle.burst_owner.proofs.mark.Statement.{statement}
 use Rattle.burst_owner.proofs.mark.Tie as tie
 
 abbrev Inv-loop : tie.InvT-loop
-Inv-loop row₀ first many value m₀ row m = (m ≤ many) × (first + many ≤ 192) × Marking first value row₀ row m
+Inv-loop row₀ first many value m₀ row m = (first + many ≤ 192) × Marking first many value row₀ row m
 
 abbrev μ-loop : tie.MeasureT-loop
 μ-loop row₀ first many value m₀ row m = many - m
 
 loop-holds : tie.Need-loop-holds Inv-loop μ-loop
-loop-holds c = (omega arith, c .pre .1, marking-none (c .pre .0))
+loop-holds c = (c .pre .1, over-none (c .pre .0))
 
 loop-again : tie.Need-loop-again Inv-loop μ-loop
 loop-again c =
     let inv = c .before .loop .inv in
-    (omega (arith, c .loop-test .taken), inv .1, marking-next (inv .2) (omega (arith, c .loop-test .taken, inv .1)))
+    (inv .0, over-next (inv .1) (c .loop-test .taken) (omega (arith, c .loop-test .taken, inv .0)) (λ k l q. omega arith) _ refl)
 
 returns : tie.Need-returns Inv-loop μ-loop
-returns c =
-    let inv = c .before .loop .inv in
-    let all : c .before .loop .m ≡ c .before .before .args .many = omega (arith, inv .0, c .loop-test .left) in
-    rw all at (marking-all (inv .2))
+returns c = marking-all _ _ (c .before .loop .inv .1) (c .loop-test .left)
 
 pub mark-spec : {M : Type 1} → statement M
 mark-spec = tie.close (tie.spec Inv-loop μ-loop loop-holds (λ c. search needs) (λ c. search needs) (λ c. search needs) (λ c. search needs) loop-again returns)
