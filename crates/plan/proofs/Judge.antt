@@ -8,6 +8,7 @@ use lib.ListN.{length, take, drop, getD}
 use Rattle.base.specs.Answer.{Answer, accepted, refused, refusalOf}
 use Rattle.base.proofs.Chain.{Questions, askAll, firstNo, AllYes, counted, all-yes, yes-parts, all-accepted, all-pass, is-refused}
 use Rattle.base.proofs.Test.{up-to}
+use Rattle.map.specs.Mode.{setupWith}
 use Rattle.map.specs.Question.{isFourSizes, isSize}
 use Rattle.map.proofs.Accept.{size-most}
 use Rattle.zone.specs.declared.Zone.{Zone}
@@ -101,7 +102,7 @@ count-most n e = up-to 8 n e
 
 pub size-small : (size : ℕ) → isFourSizes size ≡ true → size ≤ 2048
 unfolding isSize
-size-small z e = size-most (record { mode = 2; size = z; cell = 0 }) e
+size-small z e = size-most (setupWith 2 z 0) e
 
 -- the values of its zones are small, and so are those of all its places
 pub fit-small : {p : Plan} → Fit p → (k : ℕ) → Small (getD (usedZones p) k unused)
