@@ -22,11 +22,11 @@ use Rattle.zone.specs.Zone.{isZoneMode, setupOf, isOrder, fieldsRefusal,
 use Rattle.zone.specs.Model.{Small}
 use Rattle.zone.proofs.Number.{fieldQuestions, zoneQuestions}
 
-valid-small : {c : Setup} → Valid c → (c .mode < 7) × (c .cell < 2352)
-valid-small (pusc-dl h) = omega arith
-valid-small (pusc-ul h) = omega arith
-valid-small (ofusc {n = n} {pilots = lent} w h) = let few-of = few (ofusc {pilots = lent} w h) .size-few in omega (arith, mul-le-mul {n₁ = n} {m₁ = n} {n₂ = 32} {m₂ = 32} (omega arith) (omega arith))
-valid-small (amc q w h) = (q .1, h)
+valid-small : {c : Setup} → Valid c → c .size ≤ 2048 → (c .mode < 7) × (c .cell < 2352)
+valid-small (pusc-dl h) l = omega arith
+valid-small (pusc-ul h) l = omega arith
+valid-small (ofusc {n = n} w h) l = omega (arith, mul-le-mul {n₁ = n} {m₁ = n} {n₂ = 32} {m₂ = 32} (omega arith) (omega arith))
+valid-small (amc q w h) l = (q .1, h)
 
 zone-mode : (m : ℕ) → isZoneMode m ≡ true → ltb m 7 ≡ true
 unfolding isZoneMode
@@ -40,8 +40,8 @@ module _ (size : ℕ) (z : Zone) where
 
     own-small : Small z
     own-small =
-        let few = valid-small own-valid in
-        record { mode-most = few .0; cell-most = few .1; slots-most = up-to 512 (z .slots) (y .1 .1 .1 .0); mask-most = omega (arith, mask-small (z .mode) (z .mask) (y .1 .1 .1 .1 .0)) }
+        let most = valid-small own-valid (few own-valid .size-few) in
+        record { mode-most = most .0; cell-most = most .1; slots-most = up-to 512 (z .slots) (y .1 .1 .1 .0); mask-most = omega (arith, mask-small (z .mode) (z .mask) (y .1 .1 .1 .1 .0)) }
 
   pub small : (before : Before) → AllYes (zoneQuestions size before z) → Small z
   small before y = own-small (yes-parts (fieldQuestions size z) ((isOrder before size z, 14) ∷ []) y .0)

@@ -1,5 +1,5 @@
 -- The questions put to a zone as lists, and what they come to by the numbers that functions gave.
-use mathlib.Core.Path.{_≡_, ap, _∙_}
+use mathlib.Core.Path.{_≡_, _∙_}
 use mathlib.Core.List.{[], _∷_, _++_}
 use Prim.Native.Nat.{ℕ}
 use borrow.Author.Tests.{ne-eqb}
@@ -28,14 +28,14 @@ module _ (size : ℕ) (z : Zone) where
   fields-other u n e = rw (ne-eqb (z .mode) 1 u) e
 
   -- before what comes after them, by the number that a function gave
-  module _ (rest : Answer (Unit {0})) (k : ℕ) (e : k ≡ fieldsRefusal size z) where
-    pub fields-no : (k ≡ 0 → ⊥) → k ≡ refusalOf (askFields size z rest)
+  module _ {A : Type 0} (k : ℕ) (e : k ≡ fieldsRefusal size z) (rest : Answer A) where
+    pub fields-no : (k ≡ 0 → ⊥) → refused k ≡ askFields size z rest
     unfolding fieldsRefusal
-    fields-no ne = ap refusalOf (is-refused fieldQuestions tt rest k e ne)
+    fields-no = is-refused fieldQuestions tt rest k e
 
-    pub fields-then : k ≡ 0 → (n : ℕ) → n ≡ refusalOf rest → n ≡ refusalOf (askFields size z rest)
+    pub fields-then : k ≡ 0 → (a : Answer A) → a ≡ rest → a ≡ askFields size z rest
     unfolding fieldsRefusal
-    fields-then none n f = f ∙ ap refusalOf (has-passed fieldQuestions tt rest k e none)
+    fields-then none a f = f ∙ has-passed fieldQuestions tt rest k e none
 
 -- and to the zone in its plan
 module _ (size : ℕ) (before : Before) (z : Zone) where

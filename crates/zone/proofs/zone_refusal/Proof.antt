@@ -1,6 +1,7 @@
 -- `zone::zone_refusal` meets its contract.
-use mathlib.Core.Path.{sym, _∙_}
+use mathlib.Core.Path.{sym, ap, _∙_}
 use borrow.Author.Needs.{needs}
+use Rattle.base.specs.Answer.{accepted, refused, refusalOf}
 use Rattle.zone.specs.Model.{zoneRefusal}
 use Rattle.zone.proofs.Number.{fields-no, fields-then}
 use Rattle.zone.proofs.zone_refusal.Statement.{statement}
@@ -11,6 +12,12 @@ unfolding zoneRefusal
 zone-refusal-spec =
     tie.close
     (tie.spec
-    (λ c κs. search needs) (λ c. search (fields-no, needs)) (λ c κs. search needs)
-    (λ c. fields-then _ _ _ _ (c .before .before .before .fields-refusal .ensures) (c .before .before .if1 .left) _ (rw (sym (c .before .is-order .ensures) ∙ c .if2 .taken)))
-    (λ c. fields-then _ _ _ _ (c .before .before .before .fields-refusal .ensures) (c .before .before .if1 .left) _ (rw (sym (c .before .is-order .ensures) ∙ c .if2 .left))))
+    (λ c κs. search needs)
+    (λ c. ap refusalOf (fields-no _ _ _ (c .before .fields-refusal .ensures) _ (c .if1 .taken)))
+    (λ c κs. search needs)
+    (λ c.
+    let fields = c .before .before in
+    ap refusalOf (fields-then _ _ _ (fields .before .fields-refusal .ensures) _ (fields .if1 .left) (accepted tt) (rw (sym (c .before .is-order .ensures) ∙ c .if2 .taken))))
+    (λ c.
+    let fields = c .before .before in
+    ap refusalOf (fields-then _ _ _ (fields .before .fields-refusal .ensures) _ (fields .if1 .left) (refused 14) (rw (sym (c .before .is-order .ensures) ∙ c .if2 .left)))))
