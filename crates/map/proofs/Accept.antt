@@ -1,14 +1,14 @@
 -- Questions 1, 2 and 3 let pass just the valid setups; and what 4 and 5 come to.
-use mathlib.Core.Path.{_≡_, refl, ap, subst⁻¹, _∙_}
+use mathlib.Core.Path.{_≡_, refl, sym, ap, subst⁻¹, _∙_}
 use mathlib.Core.Bool.{true, false}
 use mathlib.Core.List.{List, [], _∷_}
 use Prim.Native.Nat.{ℕ, zero, suc, _*_, _/_, _<_, _≤_}
 use native.Mathlib.Nat.{mul-pos}
 use native.Mathlib.Omega.{arith}
 use lib.Dec.{eqb, ltb, lit<}
-use borrow.Author.Tests.{ltb-true, eqb-true, ne-eqb, lt-ltb, le-ltb}
+use borrow.Author.Tests.{ltb-true, ltb-false, eqb-true, ne-eqb, lt-ltb, le-ltb}
 use Rattle.base.specs.Answer.{Answer, accepted, refused, ask, refusalOf}
-use Rattle.base.proofs.Test.{cases}
+use Rattle.base.proofs.Test.{cases, true-false}
 use Rattle.base.proofs.Chain.{numbered, Questions, AllYes, all-numbered, all-yes}
 use Rattle.ofusc.specs.Width.{Width, n4, n8, n16, n32}
 use Rattle.ofusc.proofs.Sequence.{size, pos}
@@ -16,7 +16,7 @@ use Rattle.map.specs.Setup.{Setup, setupLent, setupWith}
 use Rattle.map.specs.Mode.{width, cells, subchannels}
 use Rattle.map.specs.Question.{isListed, isMode, isFourSizes, isSizeOf, isSize, isCell, isSlot, isSubchannel, askSetup}
 use Rattle.map.specs.Model.{setupRefusal, IsListed, IsAmc, Valid, pusc-dl, pusc-ul, ofusc, amc}
-use Rattle.map.proofs.Choice.{at-amc, by-mode, amc-column}
+use Rattle.map.proofs.Choice.{at-amc, at-none, by-mode, amc-column}
 
 -- N of a size
 pub width-is : (n : ℕ) → 64 * n / 64 ≡ n
@@ -110,9 +110,12 @@ pub four-rest : (size : ℕ) → (size ≡ 256 → ⊥) → (size ≡ 512 → �
 unfolding isFourSizes
 four-rest size a b d = rw (ne-eqb size 256 a, ne-eqb size 512 b, ne-eqb size 1024 d)
 
-pub size-most : (c : Setup) → IsListed (c .mode) → isSize c ≡ true → c .size ≤ 2048
+pub size-most : (c : Setup) → isSize c ≡ true → c .size ≤ 2048
 unfolding isSize
-size-most c l = at (listed (c .mode) l)
+size-most c e =
+    cases (ltb (c .mode) 7)
+    (λ t. at (listed (c .mode) (ltb-true (c .mode) 7 t)) e)
+    (λ t. absurd (true-false (sym (by-mode (at-none (λ (l : c .mode < 7). omega (arith, ltb-false (c .mode) 7 t))) ∙ e))))
   where
     most : {z : ℕ} → Sized z → z ≤ 2048
     most (sized w) = omega (arith, size w .most)
