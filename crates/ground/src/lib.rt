@@ -6,37 +6,55 @@ ghost use Prim.Native.Nat.{_*_, _<_};
 ghost use lib.ListN.{length};
 ghost use Rattle.map.specs.Mode.{symbols, band};
 ghost use Rattle.map.specs.Model.{Valid};
-ghost use Rattle.rows.specs.Model.{RunFlags};
-ghost use Rattle.points.specs.Model.{putPoint};
+ghost use Rattle.runs.specs.Model.{LitRuns, runStep, runCount};
 ghost use Rattle.lengths.specs.Length.{gridPoints};
-ghost use Rattle.grid.specs.Row.{usedPosition};
 ghost use Rattle.ground.specs.Ground.{grounded, groundOf};
-ghost use Rattle.ground.specs.Model.{pilotRow};
+ghost use Rattle.ground.specs.Model.{pilotPut, PilotsBelow};
 
-// A point on a used number of a row.
-fn put_used(setup: Setup, row: usize, used: usize, p: Point, grid: &mut [f32])
+// A point on one place of run i of a row; none where a run, of `step` places, has no such place.
+fn put_pilot(
+    setup: Setup,
+    row: usize,
+    step: usize,
+    i: usize,
+    place: usize,
+    p: Point,
+    grid: &mut [f32],
+)
     requires { ⌜ Valid setup ⌝ }
-    requires { ⌜ (row < symbols setup) × (used < band setup .used) × (length (now grid) ≡ 2 * gridPoints setup) ⌝ }
-    ensures { λ _. ⌜ now (grid .exit) ≡ putPoint (now (grid .entry)) (usedPosition setup row used) p ⌝ }
+    requires { ⌜ (row < symbols setup) × (i < runCount setup) × (step ≡ runStep setup) × (length (now grid) ≡ 2 * gridPoints setup) ⌝ }
+    ensures { λ _. ⌜ now (grid .exit) ≡ pilotPut setup row i place p (now (grid .entry)) ⌝ }
 {
-    let place = row * setup.size + carriers::carrier(map::band(setup), used);
-    points::put_point(grid, place, p);
+    if step <= place {
+        return;
+    }
+    let used = i * step + place;
+    let at = row * setup.size + carriers::carrier(map::band(setup), used);
+    points::put_point(grid, at, p);
 }
 
 // The pilot point on the lit pilots of a row, 0.0 on the others.
-fn pilot_row(setup: Setup, lit: &[u8; 120], slot: usize, row: usize, p: Point, grid: &mut [f32])
+fn pilot_row(
+    setup: Setup,
+    mask: usize,
+    lit: &[u8; 120],
+    slot: usize,
+    row: usize,
+    p: Point,
+    grid: &mut [f32],
+)
     requires { ⌜ Valid setup ⌝ }
     requires { ⌜ (slot < 512) × (row < symbols setup) × (length (now grid) ≡ 2 * gridPoints setup) ⌝ }
-    requires { ⌜ RunFlags setup (now lit) ⌝ }
-    ensures { λ _. ⌜ now (grid .exit) ≡ pilotRow setup (now (lit .entry)) slot p row (now (grid .entry)) ⌝ }
+    requires { ⌜ LitRuns setup mask (now lit) ⌝ }
+    ensures { λ _. ⌜ PilotsBelow setup mask slot p row (band setup .used) (now (grid .entry)) (now (grid .exit)) ⌝ }
 {
-    let comb = rows::pilot_comb(setup, slot * map::symbols(setup) + row);
+    let shape = runs::symbol_runs(setup, slot * map::symbols(setup) + row);
     let points = [Point { i: 0.0, q: 0.0 }, p];
     let mut i = 0;
-    while i < comb.count {
-        let own = points[rows::run_lit(setup, lit, i)];
-        put_used(setup, row, rows::pilot_number(comb, i * 2), own, grid);
-        put_used(setup, row, rows::pilot_number(comb, i * 2 + 1), own, grid);
+    while i < shape.count {
+        let own = points[runs::run_lit(setup, lit, i)];
+        put_pilot(setup, row, shape.step, i, shape.first, own, grid);
+        put_pilot(setup, row, shape.step, i, shape.second, own, grid);
         i += 1;
     }
 }
@@ -48,11 +66,11 @@ fn zeros_and_pilots(setup: Setup, mask: usize, slot: usize, p: Point, grid: &mut
     ensures { λ _. ⌜ now (grid .exit) ≡ grounded setup mask slot p ⌝ }
 {
     points::clear(grid);
-    let lit = rows::lit_runs(setup, mask);
+    let lit = runs::lit_runs(setup, mask);
     let symbols = map::symbols(setup);
     let mut row = 0;
     while row < symbols {
-        pilot_row(setup, &lit, slot, row, p, grid);
+        pilot_row(setup, mask, &lit, slot, row, p, grid);
         row += 1;
     }
 }
