@@ -2,15 +2,15 @@
 use mathlib.Core.Path.{_≡_, refl, sym, ap, _∙_, subst}
 use mathlib.Core.Bool.{true}
 use mathlib.Core.List.{List, [], _∷_}
-use mathlib.Core.Logic.{⊎-elim}
-use Prim.Native.Nat.{ℕ, zero, suc, _+_, _-_, _*_, _<_, _≤_}
-use native.Mathlib.Nat.{mul-le-mul-right}
+use mathlib.Core.Logic.{_⊎_, inl, inr, ⊎-elim}
+use Prim.Native.Nat.{ℕ, _+_, _-_, _*_, _/_, _%_, _<_, _≤_}
+use native.Mathlib.Nat.{mod-lt, div-add-mod', mul-le-mul-right}
 use native.Mathlib.Omega.{arith}
 use lib.Arith.{digits-lt}
 use lib.Dec.{eqb, ltb}
 use lib.ListN.{length, getD, replicate, length-replicate}
 use lib.Ieee.{Float}
-use borrow.Author.Tests.{eqb-true, eqb-false, ltb-true, ltb-false, lt-ltb, le-ltb}
+use borrow.Author.Tests.{eqb-true, eqb-false, ltb-true, ltb-false, lt-ltb}
 use Rattle.base.proofs.Test.{cases}
 use Rattle.carriers.specs.Band.{usedOf}
 use Rattle.carriers.proofs.Guards.{used-carrier}
@@ -32,7 +32,7 @@ use Rattle.lengths.specs.Length.{gridPoints}
 use Rattle.grid.specs.Row.{usedPosition, rowOf, columnOf}
 use Rattle.grid.proofs.Slot.{litAt, holdsAt, used-row, used-column, used-position-lt, row-lt, at-place}
 use Rattle.ground.specs.Ground.{bare, grounded}
-use Rattle.ground.specs.Model.{pilotPut, groundAt, PilotsBelow}
+use Rattle.ground.specs.Model.{lastPilot, groundAt, PilotsBelow}
 
 -- a run's place is a used number
 pub run-used : {setup : Setup} → Valid setup → (i place : ℕ) → i < runCount setup → place < runStep setup → i * runStep setup + place < band setup .used
@@ -103,80 +103,104 @@ module _ (setup : Setup) (v : Valid setup) (mask slot : ℕ) (p : Point) where
           (λ t. rw (q, t, place-lit ∙ t, place-pilot))
           (λ t. rw (q, t, place-lit ∙ t))
 
-    -- one put, on a place of run i where it has that place: what is as the ground has it stays, and that place is
-    module _ (grid : List Float) (long : length grid ≡ 2 * gridPoints setup) (i place : ℕ) (hi : i < runCount setup) (is : place < step → isPilot setup y (i * step + place) ≡ true)
-        (r : ℕ) (e : r ≡ runLit setup lit i) (d : Point) (grid′ : List Float) (q : grid′ ≡ pilotPut setup row i place (getD (zeroPoint ∷ p ∷ []) r d) grid) where
+    -- one put on a pilot's place: what is as the ground has it stays, and that place is
+    module _ (grid : List Float) (long : length grid ≡ 2 * gridPoints setup) (i place : ℕ) (hi : i < runCount setup) (hp : place < step) (is : isPilot setup y (i * step + place) ≡ true)
+        (r : ℕ) (e : r ≡ runLit setup lit i) (d : Point) (grid′ : List Float) (q : grid′ ≡ putPoint grid (usedPosition setup row (i * step + place)) (getD (zeroPoint ∷ p ∷ []) r d)) where
       abbrev x : ℕ
       x = usedPosition setup row (i * step + place)
 
       put-long : length grid′ ≡ length grid
-      unfolding pilotPut
-      put-long = rw q (cases (ltb place step) (λ b. rw b (length-put grid x _)) (λ b. rw b))
+      put-long = ap length q ∙ length-put grid x _
 
-      put-here : place < step → pointAt grid′ x ≡ at x
-      unfolding pilotPut
-      put-here hp =
-          rw (q, lt-ltb place step hp)
-          (put-same grid x _ (omega (arith, long, used-position-lt setup v row (i * step + place) (run-used v i place hi hp) hr)) ∙ place-own i place hi hp (is hp) r e d)
-
-      put-other-place : (n : ℕ) → (n ≡ x → ⊥) → pointAt grid′ n ≡ pointAt grid n
-      unfolding pilotPut
-      put-other-place n ne = rw q (cases (ltb place step) (λ b. rw b (put-other grid x _ n ne)) (λ b. rw b))
-
-      put-none : step ≤ place → grid′ ≡ grid
-      unfolding pilotPut
-      put-none h = q ∙ rw (le-ltb place step h)
+      put-here : pointAt grid′ x ≡ at x
+      put-here =
+          ap (λ (g : List Float). pointAt g x) q
+          ∙ put-same grid x _ (omega (arith, long, used-position-lt setup v row (i * step + place) (run-used v i place hi hp) hr)) ∙ place-own i place hi hp is r e d
 
       put-keeps : (n : ℕ) → pointAt grid n ≡ at n → pointAt grid′ n ≡ at n
       put-keeps n z =
           cases (eqb n x)
-          (λ b. let w = eqb-true n x b in
-          cases (ltb place step)
-          (λ l. rw w (put-here (ltb-true place step l)))
-          (λ l. ap (λ (g : List Float). pointAt g n) (put-none (ltb-false place step l)) ∙ z))
-          (λ b. put-other-place n (eqb-false n x b) ∙ z)
+          (λ b. let w = eqb-true n x b in rw w put-here)
+          (λ b. ap (λ (g : List Float). pointAt g n) q ∙ put-other grid x _ n (eqb-false n x b) ∙ z)
 
-    -- a run: both its pilots
-    module _ {grid₀ grid : List Float} (long₀ : length grid₀ ≡ 2 * gridPoints setup) (shape : Runs) (es : shape ≡ runsOf setup y) (i : ℕ) (t : PilotsBelow setup mask slot p row (i * step) grid₀ grid)
-        (hi : i < runCount setup) (r : ℕ) (e : r ≡ runLit setup lit i) (d : Point) (grid₁ : List Float) (q₁ : grid₁ ≡ pilotPut setup row i (shape .first) (getD (zeroPoint ∷ p ∷ []) r d) grid) where
-      abbrev b : Runs
-      b = runsOf setup y
+    -- the pilots of a run that has some
+    module _ (shape : Runs) (es : shape ≡ runsOf setup y) (some : shape .first < shape .step) where
+      first-in : shape .first < step
+      first-in = subst (λ (b : Runs). shape .first < b .step) es some
 
-      abbrev put₁ : grid₁ ≡ pilotPut setup row i (b .first) (getD (zeroPoint ∷ p ∷ []) r d) grid
-      put₁ = q₁ ∙ ap (λ (z : Runs). pilotPut setup row i (z .first) (getD (zeroPoint ∷ p ∷ []) r d) grid) es
+      first-is : (i : ℕ) → isPilot setup y (i * step + shape .first) ≡ true
+      first-is i = rw es (first-pilot law i (rw es at first-in))
 
-      long : length grid ≡ 2 * gridPoints setup
-      long = t .long ∙ long₀
+      pub last-in : lastPilot shape < shape .step
+      unfolding lastPilot
+      last-in = cases (ltb (shape .second) (shape .step)) (λ b. rw b (ltb-true (shape .second) (shape .step) b)) (λ b. rw b some)
 
-      pub long-1 : length grid₁ ≡ 2 * gridPoints setup
-      long-1 = put-long grid long i (b .first) hi (first-pilot law i) r e d grid₁ put₁ ∙ long
+      last-is : (i : ℕ) → isPilot setup y (i * step + lastPilot shape) ≡ true
+      unfolding lastPilot
+      last-is i =
+          cases (ltb (shape .second) (shape .step))
+          (λ b. rw b (rw es (second-pilot law i (subst (λ (z : Runs). z .second < z .step) es (ltb-true (shape .second) (shape .step) b)))))
+          (λ b. rw b (first-is i))
 
-      pub run-next : (grid₂ : List Float) → grid₂ ≡ pilotPut setup row i (shape .second) (getD (zeroPoint ∷ p ∷ []) r d) grid₁ → PilotsBelow setup mask slot p row ((i + 1) * step) grid₀ grid₂
-      run-next grid₂ q₂ =
-          record {
-            long = put-long grid₁ long-1 i (b .second) hi (second-pilot law i) r e d grid₂ put₂ ∙ long-1 ∙ sym long₀;
-            kept = λ n z. keeps n (t .kept n z);
-            put = λ used h is.
-                cases (ltb used (i * step))
-                (λ l. keeps (usedPosition setup row used) (t .put used (ltb-true used (i * step) l) is))
-                (λ l. let le = ltb-false used (i * step) l in
-                let place = used - i * step in
-                let here : i * step + place ≡ used = omega arith in
-                let hp : place < step = omega arith in
-                subst (λ (u : ℕ). pointAt grid₂ (usedPosition setup row u) ≡ at (usedPosition setup row u)) here
-                (⊎-elim
-                (λ z. rw z (put-keeps grid₁ long-1 i (b .second) hi (second-pilot law i) r e d grid₂ put₂ _ (put-here grid long i (b .first) hi (first-pilot law i) r e d grid₁ put₁ (rw (← z) hp))))
-                (λ z. rw z (put-here grid₁ long-1 i (b .second) hi (second-pilot law i) r e d grid₂ put₂ (rw (← z) hp)))
-                (pilot-place law i place hp (rw here is))));
-          }
-        where
-          put₂ : grid₂ ≡ pilotPut setup row i (b .second) (getD (zeroPoint ∷ p ∷ []) r d) grid₁
-          put₂ = q₂ ∙ ap (λ (z : Runs). pilotPut setup row i (z .second) (getD (zeroPoint ∷ p ∷ []) r d) grid₁) es
+      no-other : (i place : ℕ) → place < step → isPilot setup y (i * step + place) ≡ true → (place ≡ shape .first) ⊎ (place ≡ lastPilot shape)
+      unfolding lastPilot
+      no-other i place hp is =
+          ⊎-elim (λ z. inl (rw es z))
+          (λ z. inr (rw (lt-ltb (shape .second) (shape .step) (rw es (rw (← z) hp))) (rw es z)))
+          (pilot-place law i place hp is)
+
+      -- a run: both its pilots
+      module _ {grid₀ grid : List Float} (long₀ : length grid₀ ≡ 2 * gridPoints setup) (i : ℕ) (t : PilotsBelow setup mask slot p row (i * step) grid₀ grid) (hi : i < runCount setup)
+          (r : ℕ) (e : r ≡ runLit setup lit i) (d : Point) (grid₁ : List Float) (q₁ : grid₁ ≡ putPoint grid (usedPosition setup row (i * step + shape .first)) (getD (zeroPoint ∷ p ∷ []) r d)) where
+        long : length grid ≡ 2 * gridPoints setup
+        long = t .long ∙ long₀
+
+        pub long-1 : length grid₁ ≡ 2 * gridPoints setup
+        long-1 = put-long grid long i (shape .first) hi first-in (first-is i) r e d grid₁ q₁ ∙ long
+
+        module _ (last : ℕ) (el : last ≡ lastPilot shape) (grid₂ : List Float) (q₂ : grid₂ ≡ putPoint grid₁ (usedPosition setup row (i * step + last)) (getD (zeroPoint ∷ p ∷ []) r d)) where
+          last-lt : last < step
+          last-lt = rw el (subst (λ (b : Runs). lastPilot shape < b .step) es last-in)
+
+          last-on : isPilot setup y (i * step + last) ≡ true
+          last-on = rw el (last-is i)
+
+          keeps-2 : (n : ℕ) → pointAt grid₁ n ≡ at n → pointAt grid₂ n ≡ at n
+          keeps-2 = put-keeps grid₁ long-1 i last hi last-lt last-on r e d grid₂ q₂
 
           keeps : (n : ℕ) → pointAt grid n ≡ at n → pointAt grid₂ n ≡ at n
-          keeps n z =
-              put-keeps grid₁ long-1 i (b .second) hi (second-pilot law i) r e d grid₂ put₂ n
-              (put-keeps grid long i (b .first) hi (first-pilot law i) r e d grid₁ put₁ n z)
+          keeps n z = keeps-2 n (put-keeps grid long i (shape .first) hi first-in (first-is i) r e d grid₁ q₁ n z)
+
+          pub run-next : PilotsBelow setup mask slot p row ((i + 1) * step) grid₀ grid₂
+          run-next =
+              record {
+                long = put-long grid₁ long-1 i last hi last-lt last-on r e d grid₂ q₂ ∙ long-1 ∙ sym long₀;
+                kept = λ n z. keeps n (t .kept n z);
+                put = λ used h is.
+                    cases (ltb used (i * step))
+                    (λ l. keeps (usedPosition setup row used) (t .put used (ltb-true used (i * step) l) is))
+                    (λ l. let le = ltb-false used (i * step) l in
+                    let place = used - i * step in
+                    let here : i * step + place ≡ used = omega arith in
+                    let hp : place < step = omega arith in
+                    subst (λ (u : ℕ). pointAt grid₂ (usedPosition setup row u) ≡ at (usedPosition setup row u)) here
+                    (⊎-elim
+                    (λ z. rw z (keeps-2 _ (put-here grid long i (shape .first) hi first-in (first-is i) r e d grid₁ q₁)))
+                    (λ z. let w : place ≡ last = z ∙ sym el in rw w (put-here grid₁ long-1 i last hi last-lt last-on r e d grid₂ q₂))
+                    (no-other i place hp (rw here is))));
+              }
+
+    -- a row whose runs have none
+    pub none-row : (shape : Runs) → shape ≡ runsOf setup y → shape .step ≤ shape .first → (grid : List Float) → PilotsBelow setup mask slot p row (band setup .used) grid grid
+    none-row shape es past grid =
+        record {
+          long = refl;
+          kept = λ n z. z;
+          put = λ used h is.
+              let hp = mod-lt used (law .step-pos) in
+              let l : step ≤ runsOf setup y .first = subst (λ (b : Runs). b .step ≤ b .first) es past in
+              absurd (⊎-elim (λ z. omega arith) (λ z. omega (arith, law .apart)) (pilot-place law (used / step) (used % step) hp (rw (div-add-mod' used step) is)));
+        }
 
   -- before the first run, and after the last
   pub row-start : (row : ℕ) (grid : List Float) → PilotsBelow setup mask slot p row (0 * runStep setup) grid grid

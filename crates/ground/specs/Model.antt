@@ -9,19 +9,17 @@ use lib.Ieee.{Float}
 use Rattle.base.specs.Choice.{pick}
 use Rattle.map.specs.declared.Setup.{Setup}
 use Rattle.map.specs.Mode.{symbols, band, isPilot}
-use Rattle.runs.specs.Model.{runStep}
+use Rattle.runs.specs.declared.Runs.{Runs}
 use Rattle.points.specs.declared.Point.{Point}
 use Rattle.points.specs.Points.{pointAt}
-use Rattle.points.specs.Model.{putPoint}
 use Rattle.lengths.specs.Length.{gridPoints}
 use Rattle.grid.specs.Row.{usedPosition}
 use Rattle.grid.specs.Grid.{contentAt}
 use Rattle.ground.specs.Ground.{bare}
 
--- a point put on a place of run i of a row, where the run has that place
-unfoldable pub pilotPut : (setup : Setup) (row i place : ℕ) (p : Point) (floats : List Float) → List Float
-pilotPut setup row i place p floats =
-    pick (ltb place (runStep setup)) (putPoint floats (usedPosition setup row (i * runStep setup + place)) p) floats
+-- the place of the second pilot of a run that has pilots, or of its only one
+unfoldable pub lastPilot : (b : Runs) → ℕ
+lastPilot b = pick (ltb (b .second) (b .step)) (b .second) (b .first)
 
 -- what the ground has at point n of the grid
 abbrev pub groundAt : (setup : Setup) (mask slot : ℕ) (p : Point) (n : ℕ) → Point

@@ -1,17 +1,20 @@
 // The ground of a slot's grid: pilots and zeros.
 use map::Setup;
 use points::Point;
+use runs::Runs;
 ghost use mathlib.Core.Path.{_≡_};
-ghost use Prim.Native.Nat.{_*_, _<_};
+ghost use Prim.Native.Nat.{_+_, _*_, _<_};
 ghost use lib.ListN.{length};
 ghost use Rattle.map.specs.Mode.{symbols, band};
 ghost use Rattle.map.specs.Model.{Valid};
 ghost use Rattle.runs.specs.Model.{LitRuns, runStep, runCount};
+ghost use Rattle.points.specs.Model.{putPoint};
 ghost use Rattle.lengths.specs.Length.{gridPoints};
+ghost use Rattle.grid.specs.Row.{usedPosition};
 ghost use Rattle.ground.specs.Ground.{grounded, groundOf};
-ghost use Rattle.ground.specs.Model.{pilotPut, PilotsBelow};
+ghost use Rattle.ground.specs.Model.{lastPilot, PilotsBelow};
 
-// A point on one place of run i of a row; none where a run, of `step` places, has no such place.
+// A point on a place of run i of a row, whose runs have `step` places.
 fn put_pilot(
     setup: Setup,
     row: usize,
@@ -22,15 +25,22 @@ fn put_pilot(
     grid: &mut [f32],
 )
     requires { ⌜ Valid setup ⌝ }
-    requires { ⌜ (row < symbols setup) × (i < runCount setup) × (step ≡ runStep setup) × (length (now grid) ≡ 2 * gridPoints setup) ⌝ }
-    ensures { λ _. ⌜ now (grid .exit) ≡ pilotPut setup row i place p (now (grid .entry)) ⌝ }
+    requires { ⌜ (row < symbols setup) × (i < runCount setup) × (step ≡ runStep setup) × (place < step) × (length (now grid) ≡ 2 * gridPoints setup) ⌝ }
+    ensures { λ _. ⌜ now (grid .exit) ≡ putPoint (now (grid .entry)) (usedPosition setup row (i * runStep setup + place)) p ⌝ }
 {
-    if step <= place {
-        return;
-    }
     let used = i * step + place;
     let at = row * setup.size + carriers::carrier(map::band(setup), used);
     points::put_point(grid, at, p);
+}
+
+// The place of the second pilot of a run that has pilots, or of its only one.
+fn last_pilot(shape: Runs) -> usize
+    ensures { λ r. ⌜ r ≡ lastPilot shape ⌝ }
+{
+    if shape.second < shape.step {
+        return shape.second;
+    }
+    shape.first
 }
 
 // The pilot point on the lit pilots of a row, 0.0 on the others.
@@ -49,12 +59,16 @@ fn pilot_row(
     ensures { λ _. ⌜ PilotsBelow setup mask slot p row (band setup .used) (now (grid .entry)) (now (grid .exit)) ⌝ }
 {
     let shape = runs::symbol_runs(setup, slot * map::symbols(setup) + row);
+    if shape.step <= shape.first {
+        return;
+    }
+    let last = last_pilot(shape);
     let points = [Point { i: 0.0, q: 0.0 }, p];
     let mut i = 0;
     while i < shape.count {
         let own = points[runs::run_lit(setup, lit, i)];
         put_pilot(setup, row, shape.step, i, shape.first, own, grid);
-        put_pilot(setup, row, shape.step, i, shape.second, own, grid);
+        put_pilot(setup, row, shape.step, i, last, own, grid);
         i += 1;
     }
 }
