@@ -5,6 +5,7 @@ use runs::Runs;
 ghost use mathlib.Core.Path.{_≡_};
 ghost use Prim.Native.Nat.{_+_, _*_, _<_};
 ghost use lib.ListN.{length};
+ghost use Rattle.map.specs.Setup.{alone};
 ghost use Rattle.map.specs.Mode.{symbols, band};
 ghost use Rattle.map.specs.Model.{Valid};
 ghost use Rattle.runs.specs.Model.{LitRuns, runStep, runCount};
@@ -24,9 +25,9 @@ fn put_pilot(
     p: Point,
     grid: &mut [f32],
 )
-    requires { ⌜ Valid setup ⌝ }
-    requires { ⌜ (row < symbols setup) × (i < runCount setup) × (step ≡ runStep setup) × (place < step) × (length (now grid) ≡ 2 * gridPoints setup) ⌝ }
-    ensures { λ _. ⌜ now (grid .exit) ≡ putPoint (now (grid .entry)) (usedPosition setup row (i * runStep setup + place)) p ⌝ }
+    requires { ⌜ Valid (alone setup) ⌝ }
+    requires { ⌜ (row < symbols (alone setup)) × (i < runCount (alone setup)) × (step ≡ runStep (alone setup)) × (place < step) × (length (now grid) ≡ 2 * gridPoints (alone setup)) ⌝ }
+    ensures { λ _. ⌜ now (grid .exit) ≡ putPoint (now (grid .entry)) (usedPosition (alone setup) row (i * runStep (alone setup) + place)) p ⌝ }
 {
     let used = i * step + place;
     let at = row * setup.size + carriers::carrier(map::band(setup), used);
@@ -53,10 +54,10 @@ fn pilot_row(
     p: Point,
     grid: &mut [f32],
 )
-    requires { ⌜ Valid setup ⌝ }
-    requires { ⌜ (slot < 512) × (row < symbols setup) × (length (now grid) ≡ 2 * gridPoints setup) ⌝ }
-    requires { ⌜ LitRuns setup mask (now lit) ⌝ }
-    ensures { λ _. ⌜ PilotsBelow setup mask slot p row (band setup .used) (now (grid .entry)) (now (grid .exit)) ⌝ }
+    requires { ⌜ Valid (alone setup) ⌝ }
+    requires { ⌜ (slot < 512) × (row < symbols (alone setup)) × (length (now grid) ≡ 2 * gridPoints (alone setup)) ⌝ }
+    requires { ⌜ LitRuns (alone setup) mask (now lit) ⌝ }
+    ensures { λ _. ⌜ PilotsBelow (alone setup) mask slot p row (band (alone setup) .used) (now (grid .entry)) (now (grid .exit)) ⌝ }
 {
     let shape = runs::symbol_runs(setup, slot * map::symbols(setup) + row);
     if shape.step <= shape.first {
@@ -75,9 +76,9 @@ fn pilot_row(
 
 // Zeros, and the pilot point on the lit pilots.
 fn zeros_and_pilots(setup: Setup, mask: usize, slot: usize, p: Point, grid: &mut [f32])
-    requires { ⌜ Valid setup ⌝ }
-    requires { ⌜ (mask < 64) × (slot < 512) × (length (now grid) ≡ 2 * gridPoints setup) ⌝ }
-    ensures { λ _. ⌜ now (grid .exit) ≡ grounded setup mask slot p ⌝ }
+    requires { ⌜ Valid (alone setup) ⌝ }
+    requires { ⌜ (mask < 64) × (slot < 512) × (length (now grid) ≡ 2 * gridPoints (alone setup)) ⌝ }
+    ensures { λ _. ⌜ now (grid .exit) ≡ grounded (alone setup) mask slot p ⌝ }
 {
     points::clear(grid);
     let lit = runs::lit_runs(setup, mask);
@@ -91,7 +92,7 @@ fn zeros_and_pilots(setup: Setup, mask: usize, slot: usize, p: Point, grid: &mut
 
 // Lays the ground of a slot's grid, the pilot point on lit pilots and 0.0 elsewhere; or the first refusal of 1, 2, 3, 17, 4, 9.
 pub fn ground(setup: Setup, mask: usize, slot: usize, pilot: Point, grid: &mut [f32]) -> u8
-    ensures { λ r. ⌜ record { refusal = r; buffer = now (grid .exit) } ≡ groundOf setup mask slot pilot (now (grid .entry)) ⌝ }
+    ensures { λ r. ⌜ record { refusal = r; buffer = now (grid .exit) } ≡ groundOf (alone setup) mask slot pilot (now (grid .entry)) ⌝ }
 {
     let refusal = lengths::ground_refusal(setup, mask, slot, grid.len());
     if refusal != 0 {

@@ -5,7 +5,7 @@ use Prim.Native.Nat.{ℕ, _<_}
 use Rattle.base.specs.Answer.{accepted, refused}
 use Rattle.base.specs.Tabulate.{tabulate}
 use Rattle.base.proofs.Tabulate.{tabulated, length-tabulate, getD-tabulate}
-use Rattle.map.specs.declared.Setup.{Setup}
+use Rattle.map.specs.Setup.{Setup}
 use Rattle.map.specs.Mode.{subchannels}
 use Rattle.map.specs.Model.{Valid}
 use Rattle.map.proofs.Accept.{passes, slot-yes, subchannel-yes}

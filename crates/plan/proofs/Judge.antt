@@ -12,7 +12,7 @@ use borrow.Author.Tests.{eqb-true, lt-ltb, ltb-true, ltb-false}
 use Rattle.base.specs.Answer.{Answer, accepted}
 use Rattle.base.proofs.Chain.{ask-yes, yes-all, number-yes}
 use Rattle.base.proofs.Test.{cases, both-true, up-to}
-use Rattle.map.specs.declared.Setup.{Setup}
+use Rattle.map.specs.Setup.{Setup, setupWith}
 use Rattle.map.specs.Mode.{cells, width}
 use Rattle.map.specs.Question.{isMode, isFourSizes, isSize, isCell}
 use Rattle.map.specs.Model.{Valid}
@@ -150,7 +150,7 @@ count-most n e = up-to 8 n e
 
 pub size-small : (size : ℕ) → isFourSizes size ≡ true → size ≤ 2048
 unfolding isSize
-size-small z e = size-most (record { mode = 2; size = z; cell = 0 }) e
+size-small z e = size-most (setupWith 2 z 0) e
 
 -- a plan whose number is 0 is such a plan
 pub fit-of : (p : Plan) → planRefusal p ≡ 0 → Fit p

@@ -2,7 +2,7 @@
 use Prim.Native.Nat.{ℕ, _*_, _%_, _<_}
 use Rattle.base.specs.Model.{Turned}
 use Rattle.carriers.specs.Model.{carrierNumber}
-use Rattle.map.specs.declared.Setup.{Setup}
+use Rattle.map.specs.Setup.{Setup}
 use Rattle.map.specs.Mode.{byMode, band, spotOf}
 use Rattle.rows.specs.declared.CarrierRow.{CarrierRow}
 

@@ -5,6 +5,7 @@ ghost use mathlib.Core.Path.{_≡_};
 ghost use Prim.Native.Nat.{_<_};
 ghost use Rattle.base.specs.Model.{Turned};
 ghost use Rattle.carriers.specs.Model.{spotNumber};
+ghost use Rattle.map.specs.Setup.{alone};
 ghost use Rattle.map.specs.Mode.{subchannels, spotOf};
 ghost use Rattle.map.specs.Model.{Valid};
 ghost use Rattle.rows.specs.Model.{shiftOf, pointPlace, RowOf};
@@ -19,7 +20,7 @@ pub struct CarrierRow {
 // The place in a subchannel's row at which index 0 stands.
 fn shift(setup: Setup, subchannel: usize) -> usize
     requires { ⌜ subchannel < 65536 ⌝ }
-    ensures { λ r. ⌜ (r ≡ shiftOf setup subchannel) × (r < 48) ⌝ }
+    ensures { λ r. ⌜ (r ≡ shiftOf (alone setup) subchannel) × (r < 48) ⌝ }
 {
     if setup.mode == 0 {
         return 0;
@@ -38,9 +39,9 @@ fn shift(setup: Setup, subchannel: usize) -> usize
 
 // Where the points of a subchannel of PUSC downlink or optional FUSC lie in its slot, as numbers, index 0 at place `shift`.
 fn spots(setup: Setup, slot: usize, subchannel: usize) -> [u16; 48]
-    requires { ⌜ Valid setup ⌝ }
-    requires { ⌜ (setup .mode < 3) × (setup .mode ≡ 1 → ⊥) × (subchannel < subchannels setup) ⌝ }
-    ensures { λ r. ⌜ Turned (shiftOf setup subchannel) (λ m. spotNumber (spotOf setup slot subchannel m)) r ⌝ }
+    requires { ⌜ Valid (alone setup) ⌝ }
+    requires { ⌜ (setup .mode < 3) × (setup .mode ≡ 1 → ⊥) × (subchannel < subchannels (alone setup)) ⌝ }
+    ensures { λ r. ⌜ Turned (shiftOf (alone setup) subchannel) (λ m. spotNumber (spotOf (alone setup) slot subchannel m)) r ⌝ }
 {
     if setup.mode == 0 {
         return pusc_dl::spots(setup.cell, subchannel);
@@ -52,9 +53,9 @@ fn spots(setup: Setup, slot: usize, subchannel: usize) -> [u16; 48]
 
 // The carriers of a subchannel's points, index 0 at place `shift`.
 fn carrier_row(setup: Setup, slot: usize, subchannel: usize) -> [u16; 48]
-    requires { ⌜ Valid setup ⌝ }
-    requires { ⌜ subchannel < subchannels setup ⌝ }
-    ensures { λ r. ⌜ Turned (shiftOf setup subchannel) (pointPlace setup slot subchannel) r ⌝ }
+    requires { ⌜ Valid (alone setup) ⌝ }
+    requires { ⌜ subchannel < subchannels (alone setup) ⌝ }
+    ensures { λ r. ⌜ Turned (shiftOf (alone setup) subchannel) (pointPlace (alone setup) slot subchannel) r ⌝ }
 {
     if setup.mode == 1 {
         return pusc_ul::carrier_row(setup.cell, subchannel);
@@ -71,9 +72,9 @@ fn carrier_row(setup: Setup, slot: usize, subchannel: usize) -> [u16; 48]
 
 // The row of a subchannel.
 pub fn subchannel_row(setup: Setup, slot: usize, subchannel: usize) -> CarrierRow
-    requires { ⌜ Valid setup ⌝ }
-    requires { ⌜ subchannel < subchannels setup ⌝ }
-    ensures { λ r. ⌜ RowOf setup slot subchannel r ⌝ }
+    requires { ⌜ Valid (alone setup) ⌝ }
+    requires { ⌜ subchannel < subchannels (alone setup) ⌝ }
+    ensures { λ r. ⌜ RowOf (alone setup) slot subchannel r ⌝ }
 {
     let shift = shift(setup, subchannel);
     CarrierRow {

@@ -7,6 +7,7 @@ ghost use Prim.Native.Nat.{_+_, _*_, _<_, _≤_};
 ghost use lib.ListN.{length};
 ghost use Rattle.base.specs.Model.{Starts};
 ghost use Rattle.base.specs.Tabulate.{tabulate};
+ghost use Rattle.map.specs.Setup.{alone};
 ghost use Rattle.map.specs.Mode.{symbols};
 ghost use Rattle.map.specs.Model.{Valid};
 ghost use Rattle.mask.specs.Mask.{isUsedLit};
@@ -23,8 +24,8 @@ pub struct Runs {
 
 // The runs of a symbol of the zone.
 pub fn symbol_runs(setup: Setup, symbol: usize) -> Runs
-    requires { ⌜ Valid setup ⌝ }
-    ensures { λ r. ⌜ r ≡ runsOf setup symbol ⌝ }
+    requires { ⌜ Valid (alone setup) ⌝ }
+    ensures { λ r. ⌜ r ≡ runsOf (alone setup) symbol ⌝ }
 {
     if setup.mode == 0 {
         let p = pusc_dl::pilots(symbol);
@@ -68,9 +69,9 @@ fn tile_runs(symbol: usize) -> Runs
 
 // Which runs a mask lights: the clusters of PUSC downlink, 1 for each; no other mode reads it.
 pub fn lit_runs(setup: Setup, mask: usize) -> [u8; 120]
-    requires { ⌜ Valid setup ⌝ }
+    requires { ⌜ Valid (alone setup) ⌝ }
     requires { ⌜ mask < 64 ⌝ }
-    ensures { λ r. ⌜ LitRuns setup mask r ⌝ }
+    ensures { λ r. ⌜ LitRuns (alone setup) mask r ⌝ }
 {
     if setup.mode != 0 {
         return [0; 120];
@@ -80,8 +81,8 @@ pub fn lit_runs(setup: Setup, mask: usize) -> [u8; 120]
 
 // 1 where run i is lit, else 0.
 pub fn run_lit(setup: Setup, lit: &[u8; 120], i: usize) -> usize
-    requires { ⌜ IsRun setup i ⌝ }
-    ensures { λ r. ⌜ r ≡ runLit setup (now (lit .entry)) i ⌝ }
+    requires { ⌜ IsRun (alone setup) i ⌝ }
+    ensures { λ r. ⌜ r ≡ runLit (alone setup) (now (lit .entry)) i ⌝ }
 {
     if setup.mode != 0 {
         return 1;
@@ -129,9 +130,9 @@ pub fn points_within(b: Runs, all: usize, room: usize) -> usize
 
 // What setup and mask fix of the clusters or of the first seventy tiles, in PUSC; no other mode reads it.
 pub fn run_table(setup: Setup, mask: usize) -> [u16; 120]
-    requires { ⌜ Valid setup ⌝ }
+    requires { ⌜ Valid (alone setup) ⌝ }
     requires { ⌜ mask < 64 ⌝ }
-    ensures { λ r. ⌜ RunTable setup mask r ⌝ }
+    ensures { λ r. ⌜ RunTable (alone setup) mask r ⌝ }
 {
     if setup.mode == 0 {
         return pusc_dl::clusters(setup.cell, mask);
@@ -144,8 +145,8 @@ pub fn run_table(setup: Setup, mask: usize) -> [u16; 120]
 
 // What the setup fixes of the places of all runs; nothing in PUSC uplink.
 pub fn place_table(setup: Setup) -> [u16; 48]
-    requires { ⌜ Valid setup ⌝ }
-    ensures { λ r. ⌜ PlaceTable setup r ⌝ }
+    requires { ⌜ Valid (alone setup) ⌝ }
+    ensures { λ r. ⌜ PlaceTable (alone setup) r ⌝ }
 {
     if setup.mode == 0 {
         return pusc_dl::inverses(setup.cell);
@@ -166,8 +167,8 @@ pub struct Strides {
 }
 
 pub fn row_strides(setup: Setup) -> Strides
-    requires { ⌜ Valid setup ⌝ }
-    ensures { λ r. ⌜ (r .run ≡ runStride setup) × (r .point ≡ pointStride setup) ⌝ }
+    requires { ⌜ Valid (alone setup) ⌝ }
+    ensures { λ r. ⌜ (r .run ≡ runStride (alone setup)) × (r .point ≡ pointStride (alone setup)) ⌝ }
 {
     if setup.mode == 0 {
         return Strides { run: 12, point: 1 };
@@ -188,10 +189,10 @@ fn run_numbers(
     runs: &[u16; 120],
     places: &[u16; 48],
 ) -> [u16; 12]
-    requires { ⌜ Valid setup ⌝ }
-    requires { ⌜ (setup .mode ≡ 1 → ⊥) × (row < symbols setup) × (i < runCount setup) ⌝ }
-    requires { ⌜ RunTable setup mask (now runs) × PlaceTable setup (now places) ⌝ }
-    ensures { λ r. ⌜ (isUsedLit setup mask (i * runStep setup) ≡ true → Starts (runPoints (runsOf setup (slot * symbols setup + row))) (runNumber setup mask (slot * symbols setup + row) i) r) ⌝ }
+    requires { ⌜ Valid (alone setup) ⌝ }
+    requires { ⌜ (setup .mode ≡ 1 → ⊥) × (row < symbols (alone setup)) × (i < runCount (alone setup)) ⌝ }
+    requires { ⌜ RunTable (alone setup) mask (now runs) × PlaceTable (alone setup) (now places) ⌝ }
+    ensures { λ r. ⌜ (isUsedLit (alone setup) mask (i * runStep (alone setup)) ≡ true → Starts (runPoints (runsOf (alone setup) (slot * symbols (alone setup) + row))) (runNumber (alone setup) mask (slot * symbols (alone setup) + row) i) r) ⌝ }
 {
     if setup.mode == 0 {
         return pusc_dl::cluster_points(setup.cell, mask, row, i, runs, places);
@@ -224,10 +225,10 @@ fn numbers_by_run(
     runs: &[u16; 120],
     places: &[u16; 48],
 ) -> [u16; 1680]
-    requires { ⌜ Valid setup ⌝ }
-    requires { ⌜ (setup .mode ≡ 1 → ⊥) × (row < symbols setup) × (count ≡ runCount setup) ⌝ }
-    requires { ⌜ RunTable setup mask (now runs) × PlaceTable setup (now places) ⌝ }
-    ensures { λ r. ⌜ RowNumbers setup mask (slot * symbols setup + row) r ⌝ }
+    requires { ⌜ Valid (alone setup) ⌝ }
+    requires { ⌜ (setup .mode ≡ 1 → ⊥) × (row < symbols (alone setup)) × (count ≡ runCount (alone setup)) ⌝ }
+    requires { ⌜ RunTable (alone setup) mask (now runs) × PlaceTable (alone setup) (now places) ⌝ }
+    ensures { λ r. ⌜ RowNumbers (alone setup) mask (slot * symbols (alone setup) + row) r ⌝ }
 {
     let stride = row_strides(setup).run;
     let mut numbers = [0; 1680];
@@ -250,10 +251,10 @@ pub fn row_numbers(
     runs: &[u16; 120],
     places: &[u16; 48],
 ) -> [u16; 1680]
-    requires { ⌜ Valid setup ⌝ }
-    requires { ⌜ (row < symbols setup) × (count ≡ runCount setup) ⌝ }
-    requires { ⌜ RunTable setup mask (now runs) × PlaceTable setup (now places) ⌝ }
-    ensures { λ r. ⌜ RowNumbers setup mask (slot * symbols setup + row) r ⌝ }
+    requires { ⌜ Valid (alone setup) ⌝ }
+    requires { ⌜ (row < symbols (alone setup)) × (count ≡ runCount (alone setup)) ⌝ }
+    requires { ⌜ RunTable (alone setup) mask (now runs) × PlaceTable (alone setup) (now places) ⌝ }
+    ensures { λ r. ⌜ RowNumbers (alone setup) mask (slot * symbols (alone setup) + row) r ⌝ }
 {
     if setup.mode == 1 {
         return pusc_ul::row_numbers(setup.cell, row, runs);

@@ -4,6 +4,7 @@ use Prim.Native.Nat.{ℕ, _+_, _-_, _*_, _<_}
 use native.Mathlib.Omega.{arith}
 use lib.ListN.{getD}
 use borrow.Author.Needs.{needs}
+use Rattle.map.specs.Setup.{alone}
 use Rattle.map.specs.Mode.{symbols}
 use Rattle.map.proofs.ByMode.{slot-few, few}
 use Rattle.points.specs.Points.{zeroPoint}
@@ -16,7 +17,7 @@ use Rattle.ground.proofs.pilot_row.Statement.{statement}
 use Rattle.ground.proofs.pilot_row.Tie as tie
 
 abbrev Inv-loop : tie.InvT-loop
-Inv-loop setup mask lit slot row grid₀ shape last points i₀ grid i = PilotsBelow setup mask slot (getD points 1 zeroPoint) row (i * runStep setup) grid₀ grid
+Inv-loop setup mask lit slot row grid₀ shape last points i₀ grid i = PilotsBelow (alone setup) mask slot (getD points 1 zeroPoint) row (i * runStep (alone setup)) grid₀ grid
 
 abbrev μ-loop : tie.MeasureT-loop
 μ-loop setup mask lit slot row grid₀ shape last points i₀ grid i = shape .count - i
@@ -27,15 +28,15 @@ symbol-few c =
     omega (arith, few (start .pre .0), slot-few (start .pre .0) (start .args .slot) (c .symbols .result) (start .pre .1 .0 .0) (c .symbols .ensures), start .pre .1 .0 .1)
 
 -- the runs of the row's symbol
-shape-is : (c : tie.After-symbol-runs Inv-loop μ-loop) → let a = c .before .before .before .args in c .symbol-runs .result ≡ runsOf (a .setup) (a .slot * symbols (a .setup) + a .row)
-shape-is c = let a = c .before .before .before .args in c .symbol-runs .ensures ∙ ap (λ (n : ℕ). runsOf (a .setup) (a .slot * n + a .row)) (c .before .symbols .ensures)
+shape-is : (c : tie.After-symbol-runs Inv-loop μ-loop) → let a = c .before .before .before .args in c .symbol-runs .result ≡ runsOf (alone (a .setup)) (a .slot * symbols (alone (a .setup)) + a .row)
+shape-is c = let a = c .before .before .before .args in c .symbol-runs .ensures ∙ ap (λ (n : ℕ). runsOf (alone (a .setup)) (a .slot * n + a .row)) (c .before .symbols .ensures)
 
 returns : tie.Need-returns Inv-loop μ-loop
 returns c =
     let start = c .before .before .before .before .before in
     none-row _ (start .pre .0) _ _ _ (start .args .lit .now) (start .pre .1 .1) _ (start .pre .1 .0 .1) _ (shape-is (c .before .before)) (c .if1 .taken) _
 
-run-lt : (c : tie.Then2 Inv-loop μ-loop) → c .before .before .loop .i < runCount (c .before .before .before .before .before .before .before .before .before .args .setup)
+run-lt : (c : tie.Then2 Inv-loop μ-loop) → c .before .before .loop .i < runCount (alone (c .before .before .before .before .before .before .before .before .before .args .setup))
 run-lt c = omega (arith, ap (λ (b : Runs). b .count) (shape-is (c .before .before .before .before .before .before)), c .if2 .taken)
 
 -- what a turn puts is 0.0 or the pilot point

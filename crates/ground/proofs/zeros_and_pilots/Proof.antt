@@ -3,6 +3,7 @@ use mathlib.Core.Path.{sym, _∙_}
 use Prim.Native.Nat.{_-_, _<_}
 use native.Mathlib.Omega.{arith}
 use borrow.Author.Needs.{needs}
+use Rattle.map.specs.Setup.{alone}
 use Rattle.map.specs.Mode.{symbols}
 use Rattle.map.proofs.ByMode.{few}
 use Rattle.ground.proofs.Pilots.{GroundTurn, ground-start, ground-next, ground-done}
@@ -10,7 +11,7 @@ use Rattle.ground.proofs.zeros_and_pilots.Statement.{statement}
 use Rattle.ground.proofs.zeros_and_pilots.Tie as tie
 
 abbrev Inv-loop : tie.InvT-loop
-Inv-loop setup mask slot p grid₀ lit rows row₀ grid row = GroundTurn setup mask slot p grid row
+Inv-loop setup mask slot p grid₀ lit rows row₀ grid row = GroundTurn (alone setup) mask slot p grid row
 
 abbrev μ-loop : tie.MeasureT-loop
 μ-loop setup mask slot p grid₀ lit rows row₀ grid row = rows - row
@@ -21,7 +22,7 @@ loop-holds c =
     ground-start _ (start .pre .0) _ _ _ _ (start .pre .1 .2) _ (c .before .before .before .before .clear .ensures)
 
 -- a row of the slot
-row-lt : (c : tie.In-loop Inv-loop μ-loop) → c .before .loop .row < symbols (c .before .before .before .before .before .before .before .before .before .args .setup)
+row-lt : (c : tie.In-loop Inv-loop μ-loop) → c .before .loop .row < symbols (alone (c .before .before .before .before .before .before .before .before .before .args .setup))
 row-lt c = rw (c .before .before .symbols .ensures) at (c .loop-test .taken)
 
 pilot-row-requires : tie.Need-pilot-row-requires Inv-loop μ-loop
