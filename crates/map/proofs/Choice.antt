@@ -4,7 +4,7 @@ use mathlib.Core.Bool.{Bool, true, false}
 use Prim.Native.Nat.{ℕ, zero, suc, _<_, _≤_}
 use native.Mathlib.Omega.{arith}
 use lib.Dec.{eqb, leb, ltb}
-use borrow.Author.Tests.{ne-eqb, eqb-true, eqb-false, leb-true, ltb-true, lt-ltb, le-ltb, le-leb}
+use borrow.Author.Tests.{ne-eqb, eqb-true, eqb-false, leb-true, ltb-true, ltb-false, lt-ltb, le-ltb, le-leb}
 use Rattle.base.proofs.Test.{cases, true-false, both-true}
 use Rattle.base.specs.Choice.{pick}
 use Rattle.amc.specs.Model.{IsShape}
@@ -38,6 +38,10 @@ module _ {mode : ℕ} (t : Bool) where
 
   pub told-bins : t ≡ isOverBins mode → t ≡ true → OverBins mode
   told-bins e y = from 2 mode (sym e ∙ y)
+
+  -- a mode before AMC's
+  pub told-early : t ≡ isAmc mode → t ≡ false → IsListed mode → mode < 3
+  told-early e y l = cases (ltb mode 3) (ltb-true mode 3) (λ n. absurd (not-from 3 mode (sym e ∙ y) (omega (arith, ltb-false mode 3 n))))
 
   -- none of the modes by name
   module _ (n₀ : mode ≡ 0 → ⊥) (n₁ : mode ≡ 1 → ⊥) where
@@ -88,6 +92,12 @@ by-mode {mode = mode} (at-none n) =
 -- the other way, for `simp`: all columns at once
 pub amc-column : {A : Type 0} (mode : ℕ) (dl ul spread adjacent other : A) → IsAmc mode → byMode mode dl ul spread adjacent other ≡ adjacent
 amc-column mode dl ul spread adjacent other q = sym (by-mode (at-amc q))
+
+pub bins-column : {A : Type 0} (mode : ℕ) (dl ul a other : A) → OverBins mode → byMode mode dl ul a a other ≡ a
+bins-column mode dl ul a other q = sym (by-mode (at-bins q))
+
+pub none-column : {A : Type 0} (mode : ℕ) (dl ul spread adjacent other : A) → (IsListed mode → ⊥) → byMode mode dl ul spread adjacent other ≡ other
+none-column mode dl ul spread adjacent other n = sym (by-mode (at-none n))
 
 -- what a function gave for the mode's column
 pub given : {A : Type 0} {mode : ℕ} {dl ul spread adjacent other a : A} (r : A) → Has mode dl ul spread adjacent other a → r ≡ a → r ≡ byMode mode dl ul spread adjacent other

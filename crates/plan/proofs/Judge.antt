@@ -13,7 +13,7 @@ use Rattle.base.specs.Answer.{Answer, accepted}
 use Rattle.base.proofs.Chain.{ask-yes, yes-all, number-yes}
 use Rattle.base.proofs.Test.{cases, both-true, up-to}
 use Rattle.map.specs.Setup.{Setup, setupWith}
-use Rattle.map.specs.Mode.{cells, width}
+use Rattle.map.specs.Mode.{isAmc, cells, width}
 use Rattle.map.specs.Question.{isMode, isFourSizes, isSize, isCell}
 use Rattle.map.specs.Model.{Valid}
 use Rattle.map.proofs.Accept.{valid, size-most}
@@ -105,7 +105,7 @@ cells-small setup h =
     (λ e₁. rw (n₀, e₁) (omega arith))
     (λ n₁. cases (eqb (setup .mode) 2)
     (λ e₂. rw (n₀, n₁, e₂) (omega (arith, square)))
-    (λ n₂. cases (ltb (setup .mode) 7)
+    (λ n₂. cases (isAmc (setup .mode))
     (λ e₃. rw (n₀, n₁, n₂, e₃) (omega arith))
     (λ n₃. rw (n₀, n₁, n₂, n₃) (omega arith)))))
   where

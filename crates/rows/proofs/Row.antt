@@ -25,10 +25,10 @@ use Rattle.carriers.specs.Law.{DataSpot}
 use Rattle.carriers.specs.Model.{spotNumber, carrierNumber, carrierStep}
 use Rattle.carriers.proofs.Row.{step-carrier}
 use Rattle.map.specs.Setup.{Setup}
-use Rattle.map.specs.Mode.{shapeOf, width, subchannels, symbols, band, isPilot, spotOf}
+use Rattle.map.specs.Mode.{isAmc, shapeOf, width, subchannels, symbols, band, isPilot, spotOf}
 use Rattle.map.specs.Model.{IsAmc, Valid, pusc-dl, pusc-ul, ofusc, amc}
 use Rattle.rows.specs.Model.{shiftOf, pointPlace}
-use Rattle.map.proofs.Choice.{amc-shape, mode-0, mode-1, mode-2, mode-amc, mode-other, last-mode}
+use Rattle.map.proofs.Choice.{amc-shape, at-0, at-1, at-2, at-amc, by-mode}
 use Rattle.map.proofs.ByMode.{in-pusc-dl, in-pusc-ul, in-ofusc, in-amc, bin-width, amc-width, amc-spot, shape-symbols, few}
 use Rattle.map.proofs.Slot.{slot-law}
 use Rattle.pusc_ul.specs.Model as pusc-ul
@@ -64,7 +64,7 @@ module _ {c : Setup} (v : Valid c) (s : ℕ) (hs : s < subchannels c) where
   asks-1 e = let r = in-pusc-ul v e in (r .cell-lt, rw (r .subchannels-are) at hs)
 
   pub asks-2 : (n : ℕ) → n ≡ width c → c .mode ≡ 2 → Width n × (s < n) × (c .cell < n * n)
-  asks-2 n q e = let r = in-ofusc v e in rw q (bin-width v (λ z. omega arith) (λ z. omega arith), rw (r .subchannels-are) at hs, r .cell-lt)
+  asks-2 n q e = let r = in-ofusc v e in rw q (bin-width v (omega arith), rw (r .subchannels-are) at hs, r .cell-lt)
 
   pub asks-amc : IsAmc (c .mode) → (shape : Shape) → shape ≡ shapeOf (c .mode) → (n : ℕ) → n ≡ width c
       → IsShape shape × EvenWidth n × (c .cell < 2352) × (s < n * shape .symbols)
@@ -87,16 +87,16 @@ module _ (c : Setup) (slot s : ℕ) where
   unfolding spotOf shiftOf
   row-0 q row e =
       turned-row (shiftOf c s) _ (λ m. spotNumber (pusc-dl-map.spotOf (c .cell) s m)) row e
-      (λ m h. ap (λ (k : ℕ). spotNumber (pusc-dl-map.spotOf (c .cell) s k)) (shift-none m h (sym (mode-0 _ _ _ _ _ _ q))) ∙ ap spotNumber (mode-0 _ _ _ _ _ _ q))
+      (λ m h. ap (λ (k : ℕ). spotNumber (pusc-dl-map.spotOf (c .cell) s k)) (shift-none m h (sym (by-mode (at-0 q)))) ∙ ap spotNumber (by-mode (at-0 q)))
 
   pub spot-2 : c .mode ≡ 2 → (m : ℕ) → m < 48 → record { offset = 0; used = usedOfData slot (ofusc.groupNumber (width c) (c .cell) s ((m + shiftOf c s) % 48)) } ≡ spotOf c slot s m
   unfolding spotOf shiftOf symbols
   spot-2 q m h =
       let d = ofusc-map.dataNumber (width c) (c .cell) s m in
-      ap (λ (by : ℕ). at slot (ofusc.groupNumber (width c) (c .cell) s ((m + by) % 48))) (sym (mode-2 _ _ _ _ _ _ q))
+      ap (λ (by : ℕ). at slot (ofusc.groupNumber (width c) (c .cell) s ((m + by) % 48))) (sym (by-mode (at-2 q)))
       ∙ ap (at slot) (number-in-group (width c) (c .cell) s m)
-      ∙ ap (λ (y : ℕ). at y d) (omega arith ∙ ap (λ (t : ℕ). slot * t + 0) (mode-2 (c .mode) 2 3 1 _ _ q))
-      ∙ mode-2 _ _ _ _ _ _ q
+      ∙ ap (λ (y : ℕ). at y d) (omega arith ∙ ap (λ (t : ℕ). slot * t + 0) (by-mode (at-2 q)))
+      ∙ by-mode (at-2 q)
     where
       at : ℕ → ℕ → Spot
       at y d = record { offset = 0; used = usedOfData y d }
@@ -109,10 +109,10 @@ module _ (c : Setup) (slot s : ℕ) where
   row-amc v q shape e n f row starts m h =
       let first = slot * shape .symbols in
       let size-is : 64 * n ≡ c .size = ap (λ (x : ℕ). 64 * x) f ∙ sym (bin-size v q) in
-      let band-is : binBand n ≡ band c = ap binBand f ∙ mode-amc _ _ _ _ _ _ q in
+      let band-is : binBand n ≡ band c = ap binBand f ∙ by-mode (at-amc q) in
       let spot-is = amc-spot c slot s m (shape .symbols) (ap (λ (t : Shape). t .symbols) e ∙ shape-symbols c q) (amc-map.dataNumber shape (c .cell) s m) _ refl q shape e refl in
       starts ((m + shiftOf c s) % 48) (omega arith)
-      ∙ ap (λ (by : ℕ). amc.sequenceCarrier shape n first (c .cell) s ((m + by) % 48)) (sym (mode-amc _ _ _ _ _ _ q))
+      ∙ ap (λ (by : ℕ). amc.sequenceCarrier shape n first (c .cell) s ((m + by) % 48)) (sym (by-mode (at-amc q)))
       ∙ carrier-at shape n first (c .cell) s m
       ∙ (λ i. carrierNumber (size-is i) (band-is i) (spot-is i))
 
@@ -130,7 +130,7 @@ shift-lt c s =
     cases (eqb (c .mode) 0) (λ e. rw e (lit< tt))
     (λ e. rw e (cases (eqb (c .mode) 1) (λ e₁. rw e₁ (omega arith))
     (λ e₁. rw e₁ (cases (eqb (c .mode) 2) (λ e₂. rw e₂ (omega arith))
-    (λ e₂. rw e₂ (cases (ltb (c .mode) 7) (λ e₃. rw e₃ (omega arith)) (λ e₃. rw e₃ (lit< tt))))))))
+    (λ e₂. rw e₂ (cases (isAmc (c .mode)) (λ e₃. rw e₃ (omega arith)) (λ e₃. rw e₃ (lit< tt))))))))
 
 -- in the modes before AMC a row starts at the same number in the grid as in the numbers of spots: either the size is 2048 or there is one row
 row-start : {c : Setup} → Valid c → c .mode < 3 → (row : ℕ) → row < symbols c → row * 2048 ≡ row * c .size
@@ -159,8 +159,8 @@ module _ {c : Setup} (v : Valid c) (early : c .mode < 3) (slot s : ℕ) (hs : s 
   unfolding spotOf shiftOf band
   row-1 q row e =
       turned-row (shiftOf c s) _ (pusc-ul.placeNumber (c .cell) s) row e
-      (λ m h. ap (λ (by : ℕ). pusc-ul.placeNumber (c .cell) s ((m + by) % 48)) (sym (mode-1 _ _ _ _ _ _ q))
-      ∙ number-on-place (c .cell) s m ∙ ap₂ (carrierNumber 2048) (mode-1 _ _ _ _ _ _ q) (mode-1 _ _ _ _ _ _ q) ∙ by-size m h)
+      (λ m h. ap (λ (by : ℕ). pusc-ul.placeNumber (c .cell) s ((m + by) % 48)) (sym (by-mode (at-1 q)))
+      ∙ number-on-place (c .cell) s m ∙ ap₂ (carrierNumber 2048) (by-mode (at-1 q)) (by-mode (at-1 q)) ∙ by-size m h)
 
   -- a subchannel's spots are small, so that a row of them becomes a row of carriers
   module _ (row : List ℕ) (t : Turned (shiftOf c s) (λ m. spotNumber (spotOf c slot s m)) row) where
@@ -174,25 +174,3 @@ module _ {c : Setup} (v : Valid c) (early : c .mode < 3) (slot s : ℕ) (hs : s 
         turned-by (shiftOf c s) (λ m. spotNumber (spotOf c slot s m)) (carrierStep (band c)) row row′ t e m h
         ∙ step-carrier (band c) (spotOf c slot s m) (omega (arith, few v, lies m h .used-lt))
         ∙ by-size m h
-
--- the shift by the mode
-module _ (c : Setup) (s : ℕ) where
-  pub shift-0 : c .mode ≡ 0 → 0 ≡ shiftOf c s
-  unfolding shiftOf
-  shift-0 q = mode-0 _ _ _ _ _ _ q
-
-  pub shift-1 : c .mode ≡ 1 → 13 * s % 48 ≡ shiftOf c s
-  unfolding shiftOf
-  shift-1 q = mode-1 _ _ _ _ _ _ q
-
-  pub shift-2 : c .mode ≡ 2 → 23 * s % 48 ≡ shiftOf c s
-  unfolding shiftOf
-  shift-2 q = mode-2 _ _ _ _ _ _ q
-
-  pub shift-amc : c .mode < 7 → (c .mode ≡ 0 → ⊥) → (c .mode ≡ 1 → ⊥) → (c .mode ≡ 2 → ⊥) → c .cell % 48 ≡ shiftOf c s
-  unfolding shiftOf
-  shift-amc h n₀ n₁ n₂ = mode-amc _ _ _ _ _ _ (last-mode (c .mode) h n₀ n₁ n₂)
-
-  pub shift-other : 7 ≤ c .mode → 0 ≡ shiftOf c s
-  unfolding shiftOf
-  shift-other h = mode-other _ _ _ _ _ _ h

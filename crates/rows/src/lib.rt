@@ -31,7 +31,7 @@ fn shift(setup: Setup, subchannel: usize) -> usize
     if setup.mode == 2 {
         return 23 * subchannel % 48;
     }
-    if setup.mode < 7 {
+    if map::is_amc(setup.mode) {
         return setup.cell % 48;
     }
     0
@@ -60,14 +60,14 @@ fn carrier_row(setup: Setup, slot: usize, subchannel: usize) -> [u16; 48]
     if setup.mode == 1 {
         return pusc_ul::carrier_row(setup.cell, subchannel);
     }
-    if setup.mode < 3 {
-        let row = spots(setup, slot, subchannel);
-        return carriers::carrier_row(map::band(setup), row);
+    if map::is_amc(setup.mode) {
+        let shape = map::shape(setup.mode);
+        let width = map::width(setup);
+        let table = amc::table(shape, width, slot, setup.cell);
+        return amc::carrier_row(shape, width, slot, setup.cell, subchannel, &table);
     }
-    let shape = map::shape(setup.mode);
-    let width = map::width(setup);
-    let table = amc::table(shape, width, slot, setup.cell);
-    amc::carrier_row(shape, width, slot, setup.cell, subchannel, &table)
+    let row = spots(setup, slot, subchannel);
+    carriers::carrier_row(map::band(setup), row)
 }
 
 // The row of a subchannel.

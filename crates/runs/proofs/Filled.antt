@@ -15,8 +15,8 @@ use Rattle.base.proofs.Test.{cases}
 use Rattle.ofusc.proofs.Sequence.{size}
 use Rattle.map.specs.Setup.{Setup}
 use Rattle.map.specs.Mode.{width}
-use Rattle.map.specs.Model.{Valid, pusc-dl, pusc-ul, ofusc, amc}
-use Rattle.map.proofs.Choice.{mode-1, mode-bins}
+use Rattle.map.specs.Model.{OverBins, Valid, pusc-dl, pusc-ul, ofusc, amc}
+use Rattle.map.proofs.Choice.{at-1, at-bins, by-mode}
 use Rattle.map.proofs.ByMode.{bin-width}
 use Rattle.mask.specs.Mask.{isUsedLit}
 use Rattle.pusc_dl.specs.Cluster.{firstPilot, secondPilot}
@@ -56,15 +56,15 @@ pub record ByRun (c : Setup) (y : ℕ) : Type 0 where
   pub points-room : runPoints (runsOf c y) ≤ runStride c
   pub next-point : pointStride c ≡ 1
 
-bins-by-run : (c : Setup) (y : ℕ) → c .mode < 7 → (c .mode ≡ 0 → ⊥) → (c .mode ≡ 1 → ⊥) → width c ≤ 32 → ByRun c y
+bins-by-run : (c : Setup) (y : ℕ) → OverBins (c .mode) → width c ≤ 32 → ByRun c y
 unfolding runCount runStride pointStride
-bins-by-run c y h n₀ n₁ few =
-    let stride = mode-bins {A = ℕ} (c .mode) 12 1 8 0 h n₀ n₁ in
-    let count = mode-bins {A = ℕ} (c .mode) 120 420 (6 * width c) 0 h n₀ n₁ in
+bins-by-run c y o few =
+    let stride : 8 ≡ runStride c = by-mode (at-bins o) in
+    let count : 6 * width c ≡ runCount c = by-mode (at-bins o) in
     record {
       run-room = λ i l. rw (← stride) (omega arith);
-      points-room = omega (arith, stride, ap runPoints (runs-bins c y h n₀ n₁), one-point (bin-runs (width c) y) (bin-apart (width c) y) (omega arith));
-      next-point = sym (mode-bins {A = ℕ} (c .mode) 1 420 1 0 h n₀ n₁);
+      points-room = omega (arith, stride, ap runPoints (runs-bins c y o), one-point (bin-runs (width c) y) (bin-apart (width c) y) (omega arith));
+      next-point = sym (by-mode (at-bins o));
     }
 
 pub by-run : {c : Setup} → Valid c → (y : ℕ) → (c .mode ≡ 1 → ⊥) → ByRun c y
@@ -77,8 +77,8 @@ by-run (pusc-dl h) y ne =
       next-point = refl;
     }
 by-run (pusc-ul h) y ne = absurd (ne refl)
-by-run {c} (ofusc {pilots = lent} w h) y ne = bins-by-run c y (omega arith) (λ e. omega arith) (λ e. omega arith) (size (bin-width (ofusc {pilots = lent} w h) (λ e. omega arith) (λ e. omega arith)) .most)
-by-run {c} (amc {pilots = lent} q w h) y ne = bins-by-run c y (q .1) (λ e. omega arith) (λ e. omega arith) (size (bin-width (amc {pilots = lent} q w h) (λ e. omega arith) (λ e. omega arith)) .most)
+by-run {c} (ofusc {pilots = lent} w h) y ne = bins-by-run c y (omega arith) (size (bin-width (ofusc {pilots = lent} w h) (omega arith)) .most)
+by-run {c} (amc {pilots = lent} q w h) y ne = bins-by-run c y (omega arith) (size (bin-width (amc {pilots = lent} q w h) (omega arith)) .most)
 
 -- what holds before each turn of the loop over runs: the numbers of the first i are there
 pub record RunsTurn (c : Setup) (mask y : ℕ) (numbers : List ℕ) (i : ℕ) : Type 0 where
@@ -132,7 +132,7 @@ unfolding runCount runStride
 from-below {c} v i h =
     cases (eqb (c .mode) 1)
     (λ t. let e = eqb-true (c .mode) 1 t in
-    let one = mode-1 {A = ℕ} (c .mode) 12 1 8 8 0 e in
-    let count = mode-1 {A = ℕ} (c .mode) 120 420 (6 * width c) (6 * width c) 0 e in
+    let one : 1 ≡ runStride c = by-mode (at-1 e) in
+    let count : 420 ≡ runCount c = by-mode (at-1 e) in
     rw (← one) (omega arith))
     (λ t. omega (arith, by-run v 0 (eqb-false (c .mode) 1 t) .run-room i h))

@@ -22,8 +22,8 @@ use Rattle.pusc_ul.specs.Tile.{isTilePilot}
 use Rattle.ofusc.proofs.Sequence.{pos}
 use Rattle.map.specs.Setup.{Setup, setupLent, setupWith}
 use Rattle.map.specs.Mode.{width, band, isPilot}
-use Rattle.map.specs.Model.{Valid, pusc-dl, pusc-ul, ofusc, amc}
-use Rattle.map.proofs.Choice.{amc-tests, mode-bins}
+use Rattle.map.specs.Model.{IsListed, OverBins, Valid, pusc-dl, pusc-ul, ofusc, amc}
+use Rattle.map.proofs.Choice.{amc-tests, amc-column, bins-column, none-column}
 use Rattle.map.proofs.Accept.{width-is}
 use Rattle.mask.specs.Mask.{isUsedLit}
 use Rattle.runs.specs.declared.Runs.{Runs}
@@ -39,15 +39,13 @@ module _ (c : Setup) (y : ℕ) where
   unfolding runFirst runSecond runStep runCount
   runs-1 q = rw q
 
-  pub runs-bins : c .mode < 7 → (c .mode ≡ 0 → ⊥) → (c .mode ≡ 1 → ⊥) → record { first = binPilotPlace y; second = 9; step = 9; count = 6 * width c } ≡ runsOf c y
+  pub runs-bins : OverBins (c .mode) → record { first = binPilotPlace y; second = 9; step = 9; count = 6 * width c } ≡ runsOf c y
   unfolding runFirst runSecond runStep runCount
-  runs-bins h n₀ n₁ =
-      λ i. record {
-        first = mode-bins (c .mode) (firstPilot y) (tileRuns y .first) (binPilotPlace y) 0 h n₀ n₁ i;
-        second = mode-bins (c .mode) (secondPilot y) (tileRuns y .second) 9 0 h n₀ n₁ i;
-        step = mode-bins (c .mode) 14 4 9 1 h n₀ n₁ i;
-        count = mode-bins (c .mode) 120 420 (6 * width c) 0 h n₀ n₁ i;
-      }
+  runs-bins o = simp bins-column
+
+  pub runs-none : (IsListed (c .mode) → ⊥) → record { first = 0; second = 0; step = 1; count = 0 } ≡ runsOf c y
+  unfolding runFirst runSecond runStep runCount
+  runs-none n = simp none-column
 
 -- a point of a run lies below a place exactly when it is one of those that are counted there
 module _ (b : Runs) (j place : ℕ) where
@@ -262,14 +260,14 @@ run-law (pusc-ul h) y =
     }
 run-law (ofusc {n = n} {cell = cell} {pilots = lent} w h) y =
     let c = setupLent 2 (64 * n) cell lent in
-    bin-law n y c (sym (runs-bins c y (omega arith) (λ e. omega arith) (λ e. omega arith)) ∙ ap (λ (t : ℕ). bin-runs t y) (width-is n))
+    bin-law n y c (sym (runs-bins c y (omega arith)) ∙ ap (λ (t : ℕ). bin-runs t y) (width-is n))
     (ap (λ (t : ℕ). 54 * t) (width-is n)) (ap (λ (t : ℕ). 27 * t) (width-is n)) (λ u. refl) (λ mask u. refl)
 run-law (amc {mode = mode} {n = n} {cell = cell} {pilots = lent} q w h) y =
     let c = setupLent mode (64 * n) cell lent in
     let t = amc-tests q in
-    bin-law n y c (sym (runs-bins c y (q .1) (λ e. omega arith) (λ e. omega arith)) ∙ ap (λ (t : ℕ). bin-runs t y) (width-is n))
-    (rw (t .not-0, t .not-1, t .not-2, t .listed) (ap (λ (t : ℕ). 54 * t) (width-is n))) (rw (t .not-0, t .not-1, t .not-2, t .listed) (ap (λ (t : ℕ). 27 * t) (width-is n)))
-    (λ u. rw (t .not-0, t .not-1, t .not-2, t .listed)) (λ mask u. rw (t .not-0))
+    bin-law n y c (sym (runs-bins c y (omega arith)) ∙ ap (λ (t : ℕ). bin-runs t y) (width-is n))
+    (simp amc-column (ap (λ (t : ℕ). 54 * t) (width-is n))) (simp amc-column (ap (λ (t : ℕ). 27 * t) (width-is n)))
+    (λ u. simp amc-column) (λ mask u. rw (t .not-0))
 
 -- a run is one of PUSC downlink's 120 clusters, where it has these
 pub run-is : {c : Setup} → Valid c → (i : ℕ) → i < runCount c → IsRun c i
@@ -285,7 +283,7 @@ unfolding runCount width
 some-run (pusc-dl h) = omega arith
 some-run (pusc-ul h) = omega arith
 some-run (ofusc w h) = omega (arith, pos w)
-some-run (amc q w h) = let t = amc-tests q in rw (t .not-0, t .not-1, t .not-2, t .listed) (omega (arith, pos w))
+some-run (amc q w h) = simp amc-column (omega (arith, pos w))
 
 -- and the table of lit runs tells whether it is lit
 pub run-light : {c : Setup} → Valid c → (mask : ℕ) (lit : List ℕ) → LitRuns c mask lit → (i : ℕ) → i < runCount c → runLit c lit i ≡ pick (isUsedLit c mask (i * runStep c)) 1 0

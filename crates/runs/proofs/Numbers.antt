@@ -24,8 +24,8 @@ use Rattle.amc.specs.declared.Shape.{Shape}
 use Rattle.amc.specs.Model.{IsShape}
 use Rattle.map.specs.Setup.{Setup, setupLent}
 use Rattle.map.specs.Mode.{shapeOf, width, symbols, addressOf}
-use Rattle.map.specs.Model.{IsAmc, Valid, pusc-dl, pusc-ul, ofusc, amc}
-use Rattle.map.proofs.Choice.{amc-shape, mode-0, mode-1, mode-2, mode-amc, mode-bins}
+use Rattle.map.specs.Model.{OverBins, IsAmc, Valid, pusc-dl, pusc-ul, ofusc, amc}
+use Rattle.map.proofs.Choice.{amc-shape, at-0, at-1, at-2, at-amc, at-bins, by-mode}
 use Rattle.map.proofs.ByMode.{listed-mode, shape-symbols, in-pusc-ul, bin-width}
 use Rattle.mask.specs.Mask.{isLit, isUsedLit}
 use Rattle.pusc_dl.specs.Cluster.{firstPilot, secondPilot, clusterPlace}
@@ -59,33 +59,32 @@ module _ {n n′ : ℕ} {f f′ : ℕ → ℕ} (table : List ℕ) (a : TableAs n
 module _ (c : Setup) where
   pub clusters-as : (mask : ℕ) → c .mode ≡ 0 → TableAs 120 (runEntries c) (dl.clusterEntry (c .cell) mask) (runEntry c mask)
   unfolding runEntries runEntry
-  clusters-as mask q = record { length-is = mode-0 _ _ _ _ _ _ q; entry-is = λ i. mode-0 _ _ _ _ _ _ q }
+  clusters-as mask q = record { length-is = by-mode (at-0 q); entry-is = λ i. by-mode (at-0 q) }
 
   pub tiles-as : (mask : ℕ) → c .mode ≡ 1 → TableAs 70 (runEntries c) (tileSubchannel (c .cell)) (runEntry c mask)
   unfolding runEntries runEntry
-  tiles-as mask q = record { length-is = mode-1 _ _ _ _ _ _ q; entry-is = λ i. mode-1 _ _ _ _ _ _ q }
+  tiles-as mask q = record { length-is = by-mode (at-1 q); entry-is = λ i. by-mode (at-1 q) }
 
   pub inverses-as : c .mode ≡ 0 → TableAs 48 (placeEntries c) (dl.inverseEntry (c .cell)) (placeEntry c)
   unfolding placeEntries placeEntry
-  inverses-as q = record { length-is = mode-0 _ _ _ _ _ _ q; entry-is = λ i. mode-0 _ _ _ _ _ _ q }
+  inverses-as q = record { length-is = by-mode (at-0 q); entry-is = λ i. by-mode (at-0 q) }
 
   pub groups-as : c .mode ≡ 2 → TableAs 48 (placeEntries c) (spread.cellNumber (width c) (c .cell)) (placeEntry c)
   unfolding placeEntries placeEntry
-  groups-as q = record { length-is = mode-2 _ _ _ _ _ _ q; entry-is = λ i. mode-2 _ _ _ _ _ _ q }
+  groups-as q = record { length-is = by-mode (at-2 q); entry-is = λ i. by-mode (at-2 q) }
 
   pub indices-as : IsAmc (c .mode) → TableAs 48 (placeEntries c) (adjacent.indexOf (c .cell)) (placeEntry c)
   unfolding placeEntries placeEntry
-  indices-as q = record { length-is = mode-amc _ _ _ _ _ _ q; entry-is = λ i. mode-amc _ _ _ _ _ _ q }
+  indices-as q = record { length-is = by-mode (at-amc q); entry-is = λ i. by-mode (at-amc q) }
 
 -- the others have none
 module _ (c : Setup) (table : List ℕ) where
-  pub no-runs : (mask : ℕ) → c .mode < 7 → (c .mode ≡ 0 → ⊥) → (c .mode ≡ 1 → ⊥) → RunTable c mask table
+  pub no-runs : (mask : ℕ) → OverBins (c .mode) → RunTable c mask table
   unfolding runEntries
-  no-runs mask h n₀ n₁ k k-lt = absurd (omega (arith, mode-bins {A = ℕ} (c .mode) 120 70 0 0 h n₀ n₁))
+  no-runs mask o k k-lt = let none : 0 ≡ runEntries c = by-mode (at-bins o) in absurd (omega arith)
 
-  pub no-places : c .mode ≡ 1 → PlaceTable c table
-  unfolding placeEntries
-  no-places q = rw q (λ k k-lt. absurd (omega arith))
+  pub no-places : 0 ≡ placeEntries c → PlaceTable c table
+  no-places none k k-lt = absurd (omega arith)
 
 -- ---- where all is lit, a subchannel's rank is its number
 
@@ -184,8 +183,8 @@ module _ (mask slot row i : ℕ) (r : List ℕ) where
   numbers-2 {c} v q hr n e s =
       let y = slot * symbols c + row in
       bin-numbers c (width c) y (spread-map.addressOf (width c) (c .cell))
-      (sym (runs-bins c y (listed-mode v) (λ z. omega arith) (λ z. omega arith))) (λ z. omega arith)
-      (λ j l. sym (mode-2 (c .mode) _ _ _ _ _ q) ∙ ap (spread-map.addressOf (width c) (c .cell)) (bin-data (width c) y i j l))
+      (sym (runs-bins c y (omega arith))) (λ z. omega arith)
+      (λ j l. sym (by-mode (at-2 q)) ∙ ap (spread-map.addressOf (width c) (c .cell)) (bin-data (width c) y i j l))
       (rw e at s)
 
   pub numbers-amc : {c : Setup} → Valid c → IsAmc (c .mode) → row < symbols c → (shape : Shape) → shape ≡ shapeOf (c .mode) → Starts 8 (λ j. addressNumber (adjacent.addressOf shape (c .cell) row (i * 8 + j))) r
@@ -195,8 +194,8 @@ module _ (mask slot row i : ℕ) (r : List ℕ) where
       let y = slot * symbols c + row in
       let offset : y % shapeOf (c .mode) .symbols ≡ row = rw (shape-symbols c q) (digits-mod slot hr) in
       bin-numbers c (width c) y (adjacent.addressOf (shapeOf (c .mode)) (c .cell) row)
-      (sym (runs-bins c y (listed-mode v) (λ z. omega arith) (λ z. omega arith))) (λ z. omega arith)
-      (λ j l. sym (mode-amc (c .mode) _ _ _ _ _ q) ∙ ap₂ (adjacent.addressOf (shapeOf (c .mode)) (c .cell)) offset (bin-data (width c) y i j l))
+      (sym (runs-bins c y (omega arith))) (λ z. omega arith)
+      (λ j l. sym (by-mode (at-amc q)) ∙ ap₂ (adjacent.addressOf (shapeOf (c .mode)) (c .cell)) offset (bin-data (width c) y i j l))
       (rw e at s)
 
 -- ---- what each mode's function asks
@@ -206,18 +205,18 @@ module _ {c : Setup} (v : Valid c) (row i : ℕ) (hr : row < symbols c) (hi : i 
   unfolding symbols runCount
   asks-0 q = ((rw q at hr, rw q at hi), (from-table runs (clusters-as c mask q) tr, from-table places (inverses-as c q) tp))
 
-  bin-lt : (c .mode ≡ 0 → ⊥) → (c .mode ≡ 1 → ⊥) → i < 6 * width c
+  bin-lt : OverBins (c .mode) → i < 6 * width c
   unfolding runCount
-  bin-lt n₀ n₁ = omega (arith, hi, mode-bins {A = ℕ} (c .mode) 120 420 (6 * width c) 0 (listed-mode v) n₀ n₁)
+  bin-lt o = let count : 6 * width c ≡ runCount c = by-mode (at-bins o) in omega arith
 
   pub asks-2 : c .mode ≡ 2 → (n : ℕ) → n ≡ width c → Width n × ((i < 6 * n) × Starts 48 (spread.cellNumber n (c .cell)) places)
   asks-2 q n e =
-      rw e (bin-width v (λ z. omega arith) (λ z. omega arith), (bin-lt (λ z. omega arith) (λ z. omega arith), from-table places (groups-as c q) tp))
+      rw e (bin-width v (omega arith), (bin-lt (omega arith), from-table places (groups-as c q) tp))
 
   pub asks-amc : IsAmc (c .mode) → (shape : Shape) → shape ≡ shapeOf (c .mode) → (IsShape shape × (row < shape .symbols) × (i < 192)) × Starts 48 (adjacent.indexOf (c .cell)) places
   asks-amc q shape e =
-      let w = size (bin-width v (λ z. omega arith) (λ z. omega arith)) .most in
-      let l = bin-lt (λ z. omega arith) (λ z. omega arith) in
+      let w = size (bin-width v (omega arith)) .most in
+      let l = bin-lt (omega arith) in
       (rw e (amc-shape (c .mode) q, rw (shape-symbols c q) hr, omega arith), from-table places (indices-as c q) tp)
 
 pub asks-1 : {c : Setup} → Valid c → (row : ℕ) → row < symbols c → (mask : ℕ) (runs : List ℕ) → RunTable c mask runs → c .mode ≡ 1

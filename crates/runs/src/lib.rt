@@ -39,11 +39,19 @@ pub fn symbol_runs(setup: Setup, symbol: usize) -> Runs
     if setup.mode == 1 {
         return tile_runs(symbol);
     }
+    if map::is_over_bins(setup.mode) {
+        return Runs {
+            first: carriers::bin_pilot_place(symbol),
+            second: 9,
+            step: 9,
+            count: 6 * map::width(setup),
+        };
+    }
     Runs {
-        first: carriers::bin_pilot_place(symbol),
-        second: 9,
-        step: 9,
-        count: 6 * map::width(setup),
+        first: 0,
+        second: 0,
+        step: 1,
+        count: 0,
     }
 }
 
@@ -157,7 +165,10 @@ pub fn place_table(setup: Setup) -> [u16; 48]
     if setup.mode == 2 {
         return ofusc::table(map::width(setup), setup.cell);
     }
-    amc::indices(setup.cell)
+    if map::is_amc(setup.mode) {
+        return amc::indices(setup.cell);
+    }
+    [0; 48]
 }
 
 // How far apart the numbers of two runs in a row are in a row's table, and those of two points of a run.
@@ -176,7 +187,10 @@ pub fn row_strides(setup: Setup) -> Strides
     if setup.mode == 1 {
         return Strides { run: 1, point: 420 };
     }
-    Strides { run: 8, point: 1 }
+    if map::is_over_bins(setup.mode) {
+        return Strides { run: 8, point: 1 };
+    }
+    Strides { run: 0, point: 0 }
 }
 
 // The numbers of the points on run i of a row of the slot, by rising carrier, where it is lit; not in PUSC uplink.
@@ -200,7 +214,10 @@ fn run_numbers(
     if setup.mode == 2 {
         return ofusc::bin_points(map::width(setup), setup.cell, i, places);
     }
-    amc::bin_points(map::shape(setup.mode), setup.cell, row, i, places)
+    if map::is_amc(setup.mode) {
+        return amc::bin_points(map::shape(setup.mode), setup.cell, row, i, places);
+    }
+    [0; 12]
 }
 
 // A run's numbers put into a row's table.

@@ -1,4 +1,5 @@
 -- `runs::run_table` meets its contract.
+use native.Mathlib.Omega.{arith}
 use lib.ListN.{replicate}
 use Rattle.map.proofs.ByMode.{listed-mode, in-pusc-dl, in-pusc-ul}
 use Rattle.runs.proofs.Numbers.{to-table, clusters-as, tiles-as, no-runs}
@@ -13,4 +14,4 @@ run-table-spec =
     (λ c. to-table (c .clusters .result) (clusters-as _ _ (c .before .if1 .taken)) (c .clusters .ensures))
     (λ c κs. in-pusc-ul (c .before .before .before .before .pre .0) (c .if2 .taken) .cell-lt)
     (λ c. to-table (c .tiles .result) (tiles-as _ _ (c .before .if2 .taken)) (c .tiles .ensures))
-    (λ c. no-runs _ (replicate 120 0) _ (listed-mode (c .before .before .before .before .pre .0)) (c .before .before .if1 .left) (c .if2 .left)))
+    (λ c. let l = listed-mode (c .before .before .before .before .pre .0) in no-runs _ (replicate 120 0) _ (omega arith)))
