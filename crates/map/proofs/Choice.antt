@@ -51,6 +51,12 @@ module _ {mode : ℕ} (t : Bool) where
     pub unlisted-bins : t ≡ isOverBins mode → t ≡ false → IsListed mode → ⊥
     unlisted-bins e y l = not-from 2 mode (sym e ∙ y) (omega arith)
 
+pub amc-below : (mode : ℕ) → (mode ≡ 0 → ⊥) → (mode ≡ 1 → ⊥) → (mode ≡ 2 → ⊥) → mode < 7 → IsAmc mode
+amc-below mode n₀ n₁ n₂ h = omega arith
+
+pub past-listed : (mode : ℕ) → 7 ≤ mode → IsListed mode → ⊥
+past-listed mode h l = omega arith
+
 -- the tests at AMC's modes
 pub record AmcTests (mode : ℕ) : Type 0 where
   pub not-0 : eqb mode 0 ≡ false
@@ -104,4 +110,4 @@ pub given : {A : Type 0} {mode : ℕ} {dl ul spread adjacent other a : A} (r : A
 given r h e = e ∙ by-mode h
 
 -- a function that chooses by the mode, at each of its returns, for `search`
-pub ruleset choosing = (given, by-mode, at-0, at-1, at-2, at-amc, at-bins, at-none, told-amc, told-bins, unlisted-amc, unlisted-bins)
+pub ruleset choosing = (given, by-mode, at-0, at-1, at-2, at-amc, at-bins, at-none, told-amc, told-bins, unlisted-amc, unlisted-bins, amc-below, past-listed)

@@ -31,7 +31,7 @@ fn shift(setup: Setup, subchannel: usize) -> usize
     if setup.mode == 2 {
         return 23 * subchannel % 48;
     }
-    if map::is_amc(setup.mode) {
+    if setup.mode < 7 {
         return setup.cell % 48;
     }
     0
