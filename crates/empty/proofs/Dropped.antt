@@ -24,10 +24,10 @@ use Rattle.mask.specs.Mask.{isUsedLit, litSubchannels}
 use Rattle.points.specs.Points.{pointAt}
 use Rattle.points.specs.Model.{puts, RunWithin}
 use Rattle.points.proofs.Points.{length-puts, puts-as}
-use Rattle.rows.specs.declared.Runs.{Runs}
-use Rattle.rows.specs.Model.{runStep, runCount, runsOf, runPlace, runPoints, pointsWithin, runNumber, runStride, pointStride, RowNumbers}
-use Rattle.rows.proofs.Walk.{run-law, within-place, within-few}
-use Rattle.rows.proofs.Filled.{in-table, from-below}
+use Rattle.runs.specs.declared.Runs.{Runs}
+use Rattle.runs.specs.Model.{runStep, runCount, runsOf, runPlace, runPoints, pointsWithin, runNumber, runStride, pointStride, RowNumbers}
+use Rattle.runs.proofs.Law.{run-law, within-place, within-few}
+use Rattle.runs.proofs.Filled.{in-table, from-below}
 use Rattle.lengths.specs.Length.{gridPoints}
 use Rattle.grid.specs.Row.{columnPosition, usedPosition}
 use Rattle.empty.specs.Empty.{emptiedFirst}

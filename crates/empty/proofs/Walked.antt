@@ -28,9 +28,9 @@ use Rattle.points.specs.declared.Point.{Point}
 use Rattle.points.specs.Points.{pointAt, floatsOf}
 use Rattle.points.specs.Model.{puts}
 use Rattle.points.proofs.Points.{length-floats, point-floats, by-points, length-puts, puts-miss, puts-hit}
-use Rattle.rows.specs.declared.Runs.{Runs}
-use Rattle.rows.specs.Model.{runStep, runCount, runsOf, runPlace, pointsBelow, runPoints, pointsWithin, numberAt, runNumber}
-use Rattle.rows.proofs.Walk.{RunLaw, run-law, place-below, below-place, within-place, place-within}
+use Rattle.runs.specs.declared.Runs.{Runs}
+use Rattle.runs.specs.Model.{runStep, runCount, runsOf, runPlace, pointsBelow, runPoints, pointsWithin, numberAt, runNumber}
+use Rattle.runs.proofs.Law.{RunLaw, run-law, no-pilot, back, place-below, below-place, within-place, place-within}
 use Rattle.lengths.specs.Length.{gridPoints}
 use Rattle.grid.specs.Row.{columnPosition, usedPosition}
 use Rattle.grid.specs.Grid.{standsAt}
@@ -273,7 +273,7 @@ module _ (setup : Setup) (v : Valid setup) (mask slot : ℕ) where
             ap₂ (λ (o u : ℕ). isPilot setup (slot * symbols setup + o) u) (sym same-row) used-here ∙ lies n h .no-pilot
 
         own-place : runPlace b own ≡ place
-        own-place = own-law .back i place (place-lt n h) no-pilot-here
+        own-place = back own-law i place (place-lt n h) no-pilot-here
 
         own-lt : own < runPoints b
         own-lt = below-place b own step (rw own-place (place-lt n h))
@@ -307,10 +307,10 @@ module _ (setup : Setup) (v : Valid setup) (mask slot : ℕ) where
           used-lit = own-law .lit mask i (runPlace b j) place-in ∙ is-lit
 
           pub point-lt : number j < 48 * lit
-          point-lt = number-lt row used hr used-lt (own-law .no-pilot i j hj) used-lit
+          point-lt = number-lt row used hr used-lt (no-pilot own-law i j hj) used-lit
 
           point-spot : spot (number j) ≡ record { offset = row; used = used }
-          point-spot = number-spot row used hr used-lt (own-law .no-pilot i j hj) used-lit
+          point-spot = number-spot row used hr used-lt (no-pilot own-law i j hj) used-lit
 
           point-run : runAt setup mask slot (number j) ≡ r
           unfolding runAt

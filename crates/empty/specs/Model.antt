@@ -9,7 +9,7 @@ use Rattle.map.specs.Setup.{Setup}
 use Rattle.carriers.specs.declared.Spot.{Spot}
 use Rattle.map.specs.Mode.{symbols, spotOf}
 use Rattle.mask.specs.Mask.{isUsedLit, litSubchannels, ofLitRank}
-use Rattle.rows.specs.Model.{runStep, runCount, runsOf, runPlace, pointsWithin, runNumber}
+use Rattle.runs.specs.Model.{runStep, runCount, runsOf, runPlace, pointsWithin, runNumber}
 use Rattle.points.specs.Points.{pointAt, floatsOf}
 use Rattle.points.specs.Model.{puts}
 use Rattle.grid.specs.Row.{usedPosition}

@@ -1,7 +1,7 @@
 // The lit subchannels' points taken off a slot's grid, by rising carrier.
 use map::Setup;
-use rows::Runs;
-use rows::Strides;
+use runs::Runs;
+use runs::Strides;
 ghost use mathlib.Core.Path.{_≡_};
 ghost use Prim.Native.Nat.{_+_, _*_, _<_, _≤_};
 ghost use lib.ListN.{length};
@@ -10,7 +10,7 @@ ghost use Rattle.map.specs.Setup.{alone};
 ghost use Rattle.map.specs.Mode.{symbols};
 ghost use Rattle.map.specs.Model.{Valid};
 ghost use Rattle.mask.specs.Mask.{litSubchannels};
-ghost use Rattle.rows.specs.Model.{LitRuns, runCount, runsOf, runPlace, runPoints, runStride, pointStride, RowNumbers, RunTable, PlaceTable};
+ghost use Rattle.runs.specs.Model.{LitRuns, runCount, runsOf, runPlace, runPoints, runStride, pointStride, RowNumbers, RunTable, PlaceTable};
 ghost use Rattle.lengths.specs.Length.{gridPoints};
 ghost use Rattle.empty.specs.Empty.{emptiedFirst, emptyOf, emptyFirstOf};
 ghost use Rattle.empty.specs.Model.{RowWalked, runStart, dropped};
@@ -40,10 +40,10 @@ fn drop_run(
     requires { ⌜ (strides .run ≡ runStride (alone setup)) × (strides .point ≡ pointStride (alone setup)) × RowNumbers (alone setup) mask (slot * symbols (alone setup) + row) (now numbers) ⌝ }
     ensures { λ _. ⌜ now (points .exit) ≡ dropped (alone setup) mask slot carriers row i (now (grid .entry)) (now (points .entry)) ⌝ }
 {
-    if rows::run_lit(setup, lit, i) == 0 {
+    if runs::run_lit(setup, lit, i) == 0 {
         return;
     }
-    let n = rows::points_within(shape, all, carriers - start);
+    let n = runs::points_within(shape, all, carriers - start);
     points::drop_run(
         numbers,
         i * strides.run,
@@ -78,11 +78,11 @@ fn empty_row(
     if carriers <= first {
         return;
     }
-    let shape = rows::symbol_runs(setup, slot * map::symbols(setup) + row);
-    let all = rows::run_points(shape);
-    let its_places = rows::run_places(shape);
-    let strides = rows::row_strides(setup);
-    let numbers = rows::row_numbers(setup, mask, slot, row, shape.count, runs, places);
+    let shape = runs::symbol_runs(setup, slot * map::symbols(setup) + row);
+    let all = runs::run_points(shape);
+    let its_places = runs::run_places(shape);
+    let strides = runs::row_strides(setup);
+    let numbers = runs::row_numbers(setup, mask, slot, row, shape.count, runs, places);
     let band = map::band(setup);
     let mut i = 0;
     while i < shape.count {
@@ -124,9 +124,9 @@ fn empty_rows(
     requires { ⌜ (mask < 64) × (slot < 512) × (length (now points) ≡ 96 * litSubchannels (alone setup) mask) × (length (now grid) ≡ 2 * gridPoints (alone setup)) ⌝ }
     ensures { λ _. ⌜ now (points .exit) ≡ emptiedFirst (alone setup) mask slot carriers (now (grid .entry)) (now (points .entry)) ⌝ }
 {
-    let lit = rows::lit_runs(setup, mask);
-    let runs = rows::run_table(setup, mask);
-    let places = rows::place_table(setup);
+    let lit = runs::lit_runs(setup, mask);
+    let runs = runs::run_table(setup, mask);
+    let places = runs::place_table(setup);
     let symbols = map::symbols(setup);
     let mut row = 0;
     while row < symbols {

@@ -17,7 +17,7 @@ use Rattle.map.specs.Setup.{setupWith}
 use Rattle.map.specs.Mode.{shapeOf, width, subchannels, symbols, band, spotOf}
 use Rattle.map.specs.Model.{IsAmc, amc}
 use Rattle.map.proofs.Accept.{width-is}
-use Rattle.map.proofs.Choice.{amc-shape, amc-tests}
+use Rattle.map.proofs.Choice.{amc-shape, amc-column}
 use Rattle.map.proofs.Law.{place-accepts}
 use Rattle.collision.specs.Collision.{amcHit}
 use Rattle.collision.proofs.Group.{carrierAt, numberOf, number-at}
@@ -41,9 +41,8 @@ module _ {mode : ℕ} (q : IsAmc mode) {n : ℕ} (w : Width n) (slot s : ℕ) wh
       → placeOf (setupWith mode (64 * n) cell) slot s j ≡ accepted (at (traffic cell j))
   unfolding usedCarrier placeAt spotOf symbols band width dataNumber
   placed cell j h hy hs hj =
-      let t = amc-tests q in
       place-accepts (setupWith mode (64 * n) cell) slot s j (amc q w h) hy hs hj
-      ∙ rw (t .not-0, t .not-1, t .not-2, t .listed, width-is n)
+      ∙ simp (amc-column, width-is n)
 
   -- and what v a place has
   v-of : Place → ℕ
@@ -73,8 +72,7 @@ module _ {mode : ℕ} (q : IsAmc mode) {n : ℕ} (w : Width n) (slot s : ℕ) wh
     pub amc-meets : SamePlace (placeOf (setupWith mode (64 * n) a) slot s j) (placeOf (setupWith mode (64 * n) b) slot s j) → amcHit a b j ≡ true
     unfolding amcHit subchannels width
     amc-meets c =
-        let t = amc-tests q in
-        let hs′ : s < n * shape .symbols = rw (t .not-0, t .not-1, t .not-2, t .listed, width-is n) at hs in
+        let hs′ : s < n * shape .symbols = simp (amc-column, width-is n) at hs in
         let same : at (traffic a j) ≡ at (traffic b j) = same-accepted (sym (placed a j ha hy hs hj) ∙ c .first ∙ sym (c .second) ∙ placed b j hb hy hs hj) in
         eq-eqb (traffic a j) (traffic b j)
         (sym (v-back (traffic a j) (traffic-lt a ha j) hs′) ∙ ap v-of same ∙ v-back (traffic b j) (traffic-lt b hb j) hs′)

@@ -12,10 +12,8 @@ use Rattle.base.specs.Choice.{pick}
 use Rattle.base.specs.Answer.{accepted}
 use Rattle.carriers.specs.declared.Band.{Band}
 use Rattle.carriers.specs.declared.Spot.{Spot}
-use Rattle.base.specs.Model.{Turned}
 use Rattle.base.proofs.Tabulate.{turned-below}
 use Rattle.carriers.specs.Band.{carrierOf, usedOf}
-use Rattle.carriers.specs.Model.{carrierNumber}
 use Rattle.carriers.specs.Law.{DataSpot}
 use Rattle.carriers.proofs.Guards.{carrier-lt, used-carrier}
 use Rattle.centre.specs.Centre.{fromDc}
@@ -36,8 +34,8 @@ use Rattle.points.specs.declared.Point.{Point}
 use Rattle.points.specs.Points.{pointAt, floatsOf}
 use Rattle.points.specs.Model.{puts, turned, Within}
 use Rattle.points.proofs.Points.{length-floats, puts-as}
-use Rattle.rows.specs.Model.{shiftOf}
-use Rattle.rows.proofs.Row.{shift-lt}
+use Rattle.rows.specs.declared.CarrierRow.{CarrierRow}
+use Rattle.rows.specs.Model.{pointPlace, RowOf}
 
 -- a grid by its points has the length that is asked for
 pub floats-long : (setup : Setup) (f : ℕ → Point) → length (floatsOf (gridPoints setup) f) ≡ 2 * gridPoints setup
@@ -195,19 +193,18 @@ module _ (setup : Setup) (v : Valid setup) (slot : ℕ) (hs : slot < 512) (n : �
       }
 
 -- the carrier of a point, as a number, is where the point stands
-carrier-stands : (setup : Setup) (slot s m : ℕ) → carrierNumber (setup .size) (band setup) (spotOf setup slot s m) ≡ standsAt setup slot s m
+carrier-stands : (setup : Setup) (slot s m : ℕ) → pointPlace setup slot s m ≡ standsAt setup slot s m
 unfolding standsAt usedPosition columnPosition
 carrier-stands setup slot s m = refl
 
--- a subchannel's row, started at the place of its first point: what the copies ask of it, and what they come to
-module _ {setup : Setup} (v : Valid setup) (slot s : ℕ) (hs : s < subchannels setup) (row : List ℕ)
-    (t : Turned (shiftOf setup s) (λ m. carrierNumber (setup .size) (band setup) (spotOf setup slot s m)) row) (by : ℕ) (e : by ≡ shiftOf setup s) where
-  pub row-at : (m : ℕ) → m < 48 → turned row by m ≡ standsAt setup slot s m
-  row-at m h = rw e (t m h ∙ carrier-stands setup slot s m)
+-- a subchannel's row: what the copies ask of it, and what they come to
+module _ {setup : Setup} (v : Valid setup) (slot s : ℕ) (hs : s < subchannels setup) (row : CarrierRow) (t : RowOf setup slot s row) where
+  pub row-at : (m : ℕ) → m < 48 → turned (row .carriers) (row .shift) m ≡ standsAt setup slot s m
+  row-at m h = t .1 m h ∙ carrier-stands setup slot s m
 
-  pub row-within : (floats : ℕ) → floats ≡ 2 * gridPoints setup → Within row floats
+  pub row-within : (floats : ℕ) → floats ≡ 2 * gridPoints setup → Within (row .carriers) floats
   row-within floats long k h =
-      omega (arith, turned-below (shiftOf setup s) (gridPoints setup) _ row (shift-lt setup s) t (λ m l. rw (carrier-stands setup slot s m) (stands-lt setup v slot s m hs l)) k h)
+      omega (arith, turned-below (row .shift) (gridPoints setup) _ (row .carriers) (t .0) (t .1) (λ m l. rw (carrier-stands setup slot s m) (stands-lt setup v slot s m hs l)) k h)
 
-  pub row-laid : (points l l′ : List Float) → l′ ≡ puts (turned row by) (pointAt points) 48 l → l′ ≡ puts (standsAt setup slot s) (pointAt points) 48 l
+  pub row-laid : (points l l′ : List Float) → l′ ≡ puts (turned (row .carriers) (row .shift)) (pointAt points) 48 l → l′ ≡ puts (standsAt setup slot s) (pointAt points) 48 l
   row-laid points l l′ q = q ∙ puts-as _ _ _ _ 48 l row-at (λ m h. refl)

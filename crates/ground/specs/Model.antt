@@ -1,28 +1,33 @@
 -- How ground goes about it: what the inner functions' contracts cite. No reader needs these to know what the call does.
+use mathlib.Core.Path.{_≡_}
+use mathlib.Core.Bool.{true}
 use mathlib.Core.List.{List}
-use Prim.Native.Nat.{ℕ, _+_, _*_, _/_}
-use lib.Dec.{eqb}
+use Prim.Native.Nat.{ℕ, _+_, _*_, _<_}
+use lib.Dec.{ltb}
+use lib.ListN.{length}
 use lib.Ieee.{Float}
 use Rattle.base.specs.Choice.{pick}
 use Rattle.map.specs.Setup.{Setup}
-use Rattle.rows.specs.declared.Comb.{Comb}
-use Rattle.map.specs.Mode.{symbols}
-use Rattle.rows.specs.Model.{combOf, pilotNumber, runLit}
+use Rattle.map.specs.Mode.{symbols, band, isPilot}
+use Rattle.runs.specs.declared.Runs.{Runs}
 use Rattle.points.specs.declared.Point.{Point}
-use Rattle.points.specs.Points.{zeroPoint}
-use Rattle.points.specs.Model.{puts}
+use Rattle.points.specs.Points.{pointAt}
+use Rattle.lengths.specs.Length.{gridPoints}
 use Rattle.grid.specs.Row.{usedPosition}
+use Rattle.grid.specs.Grid.{contentAt}
+use Rattle.ground.specs.Ground.{bare}
 
--- where pilot j of a row stands in the grid, the row's pilots being a comb
-abbrev pub pilotPlace : (setup : Setup) (row : ℕ) (comb : Comb) (j : ℕ) → ℕ
-pilotPlace setup row comb j = usedPosition setup row (pilotNumber comb j)
+-- the place of the second pilot of a run that has pilots, or of its only one
+unfoldable pub lastPilot : (b : Runs) → ℕ
+lastPilot b = pick (ltb (b .second) (b .step)) (b .second) (b .first)
 
--- the pilot point where run i of the comb is lit, else 0.0
-unfoldable pub runPoint : (setup : Setup) (lit : List ℕ) (p : Point) (i : ℕ) → Point
-runPoint setup lit p i = pick (eqb (runLit setup lit i) 0) zeroPoint p
+-- what the ground has at point n of the grid
+abbrev pub groundAt : (setup : Setup) (mask slot : ℕ) (p : Point) (n : ℕ) → Point
+groundAt setup mask slot p n = bare p (contentAt setup mask slot n)
 
--- the pilot point, or 0.0, put on each pilot of a row
-unfoldable pub pilotRow : (setup : Setup) (lit : List ℕ) (slot : ℕ) (p : Point) (row : ℕ) (floats : List Float) → List Float
-pilotRow setup lit slot p row floats =
-    let comb = combOf setup (slot * symbols setup + row) in
-    puts (pilotPlace setup row comb) (λ j. runPoint setup lit p (j / 2)) (comb .count * 2) floats
+-- The pilots of a row, those below so many used numbers, are as the ground has them; so is what was so before.
+pub record PilotsBelow (setup : Setup) (mask slot : ℕ) (p : Point) (row below : ℕ) (before after : List Float) : Type 0 where
+  pub long : length after ≡ length before
+  pub kept : (n : ℕ) → pointAt before n ≡ groundAt setup mask slot p n → pointAt after n ≡ groundAt setup mask slot p n
+  pub put : (used : ℕ) → used < below → isPilot setup (slot * symbols setup + row) used ≡ true
+      → pointAt after (usedPosition setup row used) ≡ groundAt setup mask slot p (usedPosition setup row used)

@@ -1,43 +1,75 @@
 // The ground of a slot's grid: pilots and zeros.
 use map::Setup;
 use points::Point;
+use runs::Runs;
 ghost use mathlib.Core.Path.{_≡_};
-ghost use Prim.Native.Nat.{_*_, _<_};
+ghost use Prim.Native.Nat.{_+_, _*_, _<_};
 ghost use lib.ListN.{length};
 ghost use Rattle.map.specs.Setup.{alone};
 ghost use Rattle.map.specs.Mode.{symbols, band};
 ghost use Rattle.map.specs.Model.{Valid};
-ghost use Rattle.rows.specs.Model.{RunFlags};
+ghost use Rattle.runs.specs.Model.{LitRuns, runStep, runCount};
 ghost use Rattle.points.specs.Model.{putPoint};
 ghost use Rattle.lengths.specs.Length.{gridPoints};
 ghost use Rattle.grid.specs.Row.{usedPosition};
 ghost use Rattle.ground.specs.Ground.{grounded, groundOf};
-ghost use Rattle.ground.specs.Model.{pilotRow};
+ghost use Rattle.ground.specs.Model.{lastPilot, PilotsBelow};
 
-// A point on a used number of a row.
-fn put_used(setup: Setup, row: usize, used: usize, p: Point, grid: &mut [f32])
+// A point on a place of run i of a row, whose runs have `step` places.
+fn put_pilot(
+    setup: Setup,
+    row: usize,
+    step: usize,
+    i: usize,
+    place: usize,
+    p: Point,
+    grid: &mut [f32],
+)
     requires { ⌜ Valid (alone setup) ⌝ }
-    requires { ⌜ (row < symbols (alone setup)) × (used < band (alone setup) .used) × (length (now grid) ≡ 2 * gridPoints (alone setup)) ⌝ }
-    ensures { λ _. ⌜ now (grid .exit) ≡ putPoint (now (grid .entry)) (usedPosition (alone setup) row used) p ⌝ }
+    requires { ⌜ (row < symbols (alone setup)) × (i < runCount (alone setup)) × (step ≡ runStep (alone setup)) × (place < step) × (length (now grid) ≡ 2 * gridPoints (alone setup)) ⌝ }
+    ensures { λ _. ⌜ now (grid .exit) ≡ putPoint (now (grid .entry)) (usedPosition (alone setup) row (i * runStep (alone setup) + place)) p ⌝ }
 {
-    let place = row * setup.size + carriers::carrier(map::band(setup), used);
-    points::put_point(grid, place, p);
+    let used = i * step + place;
+    let at = row * setup.size + carriers::carrier(map::band(setup), used);
+    points::put_point(grid, at, p);
+}
+
+// The place of the second pilot of a run that has pilots, or of its only one.
+fn last_pilot(shape: Runs) -> usize
+    ensures { λ r. ⌜ r ≡ lastPilot shape ⌝ }
+{
+    if shape.second < shape.step {
+        return shape.second;
+    }
+    shape.first
 }
 
 // The pilot point on the lit pilots of a row, 0.0 on the others.
-fn pilot_row(setup: Setup, lit: &[u8; 120], slot: usize, row: usize, p: Point, grid: &mut [f32])
+fn pilot_row(
+    setup: Setup,
+    mask: usize,
+    lit: &[u8; 120],
+    slot: usize,
+    row: usize,
+    p: Point,
+    grid: &mut [f32],
+)
     requires { ⌜ Valid (alone setup) ⌝ }
     requires { ⌜ (slot < 512) × (row < symbols (alone setup)) × (length (now grid) ≡ 2 * gridPoints (alone setup)) ⌝ }
-    requires { ⌜ RunFlags (alone setup) (now lit) ⌝ }
-    ensures { λ _. ⌜ now (grid .exit) ≡ pilotRow (alone setup) (now (lit .entry)) slot p row (now (grid .entry)) ⌝ }
+    requires { ⌜ LitRuns (alone setup) mask (now lit) ⌝ }
+    ensures { λ _. ⌜ PilotsBelow (alone setup) mask slot p row (band (alone setup) .used) (now (grid .entry)) (now (grid .exit)) ⌝ }
 {
-    let comb = rows::pilot_comb(setup, slot * map::symbols(setup) + row);
+    let shape = runs::symbol_runs(setup, slot * map::symbols(setup) + row);
+    if shape.step <= shape.first {
+        return;
+    }
+    let last = last_pilot(shape);
     let points = [Point { i: 0.0, q: 0.0 }, p];
     let mut i = 0;
-    while i < comb.count {
-        let own = points[rows::run_lit(setup, lit, i)];
-        put_used(setup, row, rows::pilot_number(comb, i * 2), own, grid);
-        put_used(setup, row, rows::pilot_number(comb, i * 2 + 1), own, grid);
+    while i < shape.count {
+        let own = points[runs::run_lit(setup, lit, i)];
+        put_pilot(setup, row, shape.step, i, shape.first, own, grid);
+        put_pilot(setup, row, shape.step, i, last, own, grid);
         i += 1;
     }
 }
@@ -49,11 +81,11 @@ fn zeros_and_pilots(setup: Setup, mask: usize, slot: usize, p: Point, grid: &mut
     ensures { λ _. ⌜ now (grid .exit) ≡ grounded (alone setup) mask slot p ⌝ }
 {
     points::clear(grid);
-    let lit = rows::lit_runs(setup, mask);
+    let lit = runs::lit_runs(setup, mask);
     let symbols = map::symbols(setup);
     let mut row = 0;
     while row < symbols {
-        pilot_row(setup, &lit, slot, row, p, grid);
+        pilot_row(setup, mask, &lit, slot, row, p, grid);
         row += 1;
     }
 }

@@ -20,9 +20,7 @@ pub fn lay(
     if refusal != 0 {
         return refusal;
     }
-    let table = rows::table(setup, slot);
-    let row = rows::carrier_row(setup, slot, subchannel, &table);
-    let by = rows::shift(setup, subchannel);
-    points::lay_row(&row, by, points, grid);
+    let row = rows::subchannel_row(setup, slot, subchannel);
+    points::lay_row(&row.carriers, row.shift, points, grid);
     0
 }

@@ -1,22 +1,22 @@
 -- Questions 1, 2 and 3 let pass just the valid setups; and what 4 and 5 come to.
-use mathlib.Core.Path.{_≡_, refl, ap, subst⁻¹, _∙_}
+use mathlib.Core.Path.{_≡_, refl, sym, ap, subst⁻¹, _∙_}
 use mathlib.Core.Bool.{true, false}
 use mathlib.Core.List.{List, [], _∷_}
 use Prim.Native.Nat.{ℕ, zero, suc, _*_, _/_, _<_, _≤_}
 use native.Mathlib.Nat.{mul-pos}
 use native.Mathlib.Omega.{arith}
 use lib.Dec.{eqb, ltb, lit<}
-use borrow.Author.Tests.{ltb-true, eqb-true, ne-eqb, lt-ltb, le-ltb}
+use borrow.Author.Tests.{ltb-true, ltb-false, eqb-true, ne-eqb, lt-ltb, le-ltb}
 use Rattle.base.specs.Answer.{Answer, accepted, refused, ask, refusalOf}
-use Rattle.base.proofs.Test.{cases}
+use Rattle.base.proofs.Test.{cases, true-false}
 use Rattle.base.proofs.Chain.{numbered, Questions, AllYes, all-numbered, all-yes}
 use Rattle.ofusc.specs.Width.{Width, n4, n8, n16, n32}
 use Rattle.ofusc.proofs.Sequence.{size, pos}
 use Rattle.map.specs.Setup.{Setup, setupLent, setupWith}
 use Rattle.map.specs.Mode.{width, cells, subchannels}
 use Rattle.map.specs.Question.{isListed, isMode, isFourSizes, isSizeOf, isSize, isCell, isSlot, isSubchannel, askSetup}
-use Rattle.map.specs.Model.{setupRefusal, IsAmc, Valid, pusc-dl, pusc-ul, ofusc, amc}
-use Rattle.map.proofs.Choice.{amc-tests, mode-amc}
+use Rattle.map.specs.Model.{setupRefusal, IsListed, IsAmc, Valid, pusc-dl, pusc-ul, ofusc, amc}
+use Rattle.map.proofs.Choice.{at-amc, at-none, by-mode, amc-column}
 
 -- N of a size
 pub width-is : (n : ℕ) → 64 * n / 64 ≡ n
@@ -28,7 +28,7 @@ data Listed : ℕ → Type 0 where
   m2 : Listed 2
   m-amc : {m : ℕ} → IsAmc m → Listed m
 
-listed : (m : ℕ) → m < 7 → Listed m
+listed : (m : ℕ) → IsListed m → Listed m
 listed zero h = m0
 listed (suc zero) h = m1
 listed (suc (suc zero)) h = m2
@@ -57,8 +57,7 @@ valid-at z k l m2 s e = spread (four-sizes z s) (ltb-true k (z / 64 * (z / 64)) 
     spread : {z : ℕ} → Sized z → k < z / 64 * (z / 64) → Valid (setupLent 2 z k l)
     spread (sized {n = n} w) h = ofusc w (rw (width-is n) at h)
 valid-at {m = m} z k l (m-amc q) s e =
-    adjacent (four-sizes z (rw (le-ltb m 2 (omega arith), lt-ltb m 7 (omega arith)) at s))
-    (ltb-true k 2352 (ap (ltb k) (mode-amc m 32 70 (z / 64 * (z / 64)) 2352 0 q) ∙ e))
+    adjacent (four-sizes z (by-mode (at-amc q) ∙ s)) (ltb-true k 2352 (simp amc-column at e))
   where
     adjacent : {z : ℕ} → Sized z → k < 2352 → Valid (setupLent m z k l)
     adjacent (sized w) h = amc q w h
@@ -79,7 +78,7 @@ some-cell m z e = at (listed m (ltb-true m 7 e))
     at m0 s = lit< tt
     at m1 s = lit< tt
     at m2 s = spread (four-sizes z s)
-    at (m-amc q) s = let t = amc-tests q in rw (t .not-0, t .not-1, t .not-2, t .listed) (lit< tt)
+    at (m-amc q) s = simp amc-column (lit< tt)
 
 -- and a valid setup passes
 pub size-passes : {n : ℕ} → Width n → isFourSizes (64 * n) ≡ true
@@ -94,9 +93,7 @@ unfolding isMode isSize isCell cells width
 passes (pusc-dl h) = rw (lt-ltb _ _ h)
 passes (pusc-ul h) = rw (lt-ltb _ _ h)
 passes (ofusc {n = n} w h) = rw (size-passes w, width-is n, lt-ltb _ _ h)
-passes (amc {mode = m} q w h) =
-    let t = amc-tests q in
-    rw (t .not-0, t .not-1, t .not-2, t .listed, le-ltb m 2 (omega arith), size-passes w, lt-ltb _ _ h)
+passes (amc q w h) = simp amc-column (rw (lt-ltb _ 7 (q .1), size-passes w, lt-ltb _ _ h))
 
 -- what the first three questions come to: a number, or a valid setup
 abbrev pub setupQuestions : (c : Setup) → Questions
@@ -115,15 +112,19 @@ four-rest size a b d = rw (ne-eqb size 256 a, ne-eqb size 512 b, ne-eqb size 102
 
 pub size-most : (c : Setup) → isSize c ≡ true → c .size ≤ 2048
 unfolding isSize
-size-most c h =
-    cases (ltb (c .mode) 2)
-    (λ e. omega (arith, eqb-true (c .size) 2048 (rw e at h)))
-    (λ e. cases (ltb (c .mode) 7)
-    (λ f. most (four-sizes (c .size) (rw (e, f) at h)))
-    (λ f. absurd (let z : false ≡ true = rw (e, f) at h in let w : _≡_ {A = ℕ} 0 1 = cc in omega arith)))
+size-most c e =
+    cases (ltb (c .mode) 7)
+    (λ t. at (listed (c .mode) (ltb-true (c .mode) 7 t)) e)
+    (λ t. absurd (true-false (sym (by-mode (at-none (λ (l : c .mode < 7). omega (arith, ltb-false (c .mode) 7 t))) ∙ e))))
   where
     most : {z : ℕ} → Sized z → z ≤ 2048
     most (sized w) = omega (arith, size w .most)
+
+    at : {m : ℕ} → Listed m → isSizeOf m (c .size) ≡ true → c .size ≤ 2048
+    at m0 s = omega (arith, eqb-true (c .size) 2048 s)
+    at m1 s = omega (arith, eqb-true (c .size) 2048 s)
+    at m2 s = most (four-sizes (c .size) s)
+    at (m-amc q) s = most (four-sizes (c .size) (by-mode (at-amc q) ∙ s))
 
 -- 4 and 5, before whatever follows them
 module _ {A : Type 0} (rest : Answer A) where

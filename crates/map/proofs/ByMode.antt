@@ -23,36 +23,33 @@ use Rattle.amc.specs.Model.{IsShape}
 use Rattle.amc.proofs.Parts.{symbols-pos, symbols-few, symbols-are}
 use Rattle.map.specs.Setup.{Setup}
 use Rattle.map.specs.Mode.{shapeOf, width, cells, subchannels, symbols, band, isPilot, spotOf, addressOf}
-use Rattle.map.specs.Model.{IsAmc, Valid, pusc-dl, pusc-ul, ofusc, amc}
-use Rattle.map.proofs.Choice.{amc-shape, amc-tests, mode-0, mode-1, mode-2, mode-amc, last-mode}
+use Rattle.map.specs.Model.{IsListed, OverBins, IsAmc, Valid, pusc-dl, pusc-ul, ofusc, amc}
+use Rattle.map.proofs.Choice.{amc-shape, at-0, at-1, at-2, at-amc, by-mode, amc-column}
 use Rattle.map.proofs.Accept.{width-is}
 use Rattle.ofusc.specs.Map as spread
 use Rattle.ofusc.proofs.Law as spread-law
 use Rattle.amc.specs.Map as adjacent
 use Rattle.amc.proofs.Law as adjacent-law
 
-pub listed-mode : {c : Setup} → Valid c → c .mode < 7
+pub listed-mode : {c : Setup} → Valid c → IsListed (c .mode)
 listed-mode (pusc-dl h) = omega arith
 listed-mode (pusc-ul h) = omega arith
 listed-mode (ofusc w h) = omega arith
 listed-mode (amc q w h) = omega arith
 
-pub amc-mode : {c : Setup} → Valid c → (c .mode ≡ 0 → ⊥) → (c .mode ≡ 1 → ⊥) → (c .mode ≡ 2 → ⊥) → IsAmc (c .mode)
-amc-mode v n₀ n₁ n₂ = last-mode _ (listed-mode v) n₀ n₁ n₂
-
 -- what AMC's shape gives
 module _ (c : Setup) (q : IsAmc (c .mode)) where
   pub shape-symbols : shapeOf (c .mode) .symbols ≡ symbols c
   unfolding symbols
-  shape-symbols = mode-amc (c .mode) 2 3 1 (shapeOf (c .mode) .symbols) 0 q
+  shape-symbols = by-mode (at-amc q)
 
   pub shape-subchannels : width c * shapeOf (c .mode) .symbols ≡ subchannels c
   unfolding subchannels
-  shape-subchannels = mode-amc (c .mode) 60 70 (width c) (width c * shapeOf (c .mode) .symbols) 0 q
+  shape-subchannels = by-mode (at-amc q)
 
   bin-used : band c .used ≡ 54 * width c
   unfolding band
-  bin-used = ap (λ (b : Band). b .used) (sym (mode-amc (c .mode) puscBand puscBand (binBand (width c)) (binBand (width c)) noBand q))
+  bin-used = simp amc-column
 
 -- a slot has 1, 2, 3 or 6 symbols
 pub six-symbols : {c : Setup} → Valid c → (symbols c ≡ 1 → ⊥) → (symbols c ≡ 2 → ⊥) → (symbols c ≡ 3 → ⊥) → symbols c ≡ 6
@@ -79,7 +76,7 @@ unfolding cells width
 cell-in (pusc-dl h) = h
 cell-in (pusc-ul h) = h
 cell-in (ofusc {n = n} w h) = rw (width-is n) h
-cell-in (amc {mode = m} q w h) = rw (← mode-amc {A = ℕ} m 32 70 _ 2352 0 q) h
+cell-in (amc q w h) = simp amc-column h
 
 module _ {c : Setup} (v : Valid c) where
   pub in-pusc-dl : c .mode ≡ 0 → Ranges c 32 60 1680
@@ -98,25 +95,25 @@ module _ {c : Setup} (v : Valid c) where
   unfolding cells
   in-amc q =
       record {
-        cell-lt = rw (← mode-amc {A = ℕ} (c .mode) 32 70 (width c * width c) 2352 0 q) at (cell-in v);
+        cell-lt = simp amc-column at (cell-in v);
         subchannels-are = sym (shape-subchannels c q);
         used-are = bin-used c q;
       }
 
 -- the modes over bins have a width N
-pub bin-width : {c : Setup} → Valid c → (c .mode ≡ 0 → ⊥) → (c .mode ≡ 1 → ⊥) → Width (width c)
+pub bin-width : {c : Setup} → Valid c → OverBins (c .mode) → Width (width c)
 unfolding width
-bin-width (pusc-dl h) n₀ n₁ = absurd (n₀ refl)
-bin-width (pusc-ul h) n₀ n₁ = absurd (n₁ refl)
-bin-width (ofusc {n = n} w h) n₀ n₁ = rw (width-is n) w
-bin-width (amc {n = n} q w h) n₀ n₁ = rw (width-is n) w
+bin-width (pusc-dl h) o = absurd (omega arith)
+bin-width (pusc-ul h) o = absurd (omega arith)
+bin-width (ofusc {n = n} w h) o = rw (width-is n) w
+bin-width (amc {n = n} q w h) o = rw (width-is n) w
 
 -- what the numberings of the modes over bins ask of a valid setup, and that their numbers are few
 module _ {c : Setup} (v : Valid c) (n : ℕ) (e : n ≡ width c) (s m : ℕ) (hs : s < subchannels c) (hm : m < 48) where
   pub ofusc-asks : c .mode ≡ 2 → Width n × ((c .cell < n * n) × (s < n) × (m < 48))
   ofusc-asks q =
       let r = in-ofusc v q in
-      (rw e (bin-width v (λ z. omega arith) (λ z. omega arith)), (rw e (r .cell-lt), rw e (rw (r .subchannels-are) at hs), hm))
+      (rw e (bin-width v (omega arith)), (rw e (r .cell-lt), rw e (rw (r .subchannels-are) at hs), hm))
 
   pub ofusc-few : c .mode ≡ 2 → spread.dataNumber n (c .cell) s m < 65536
   ofusc-few q =
@@ -126,7 +123,7 @@ module _ {c : Setup} (v : Valid c) (n : ℕ) (e : n ≡ width c) (s m : ℕ) (hs
 -- what AMC asks
 module _ {c : Setup} (v : Valid c) (q : IsAmc (c .mode)) where
   pub amc-width : Width (width c)
-  amc-width = bin-width v (λ z. omega arith) (λ z. omega arith)
+  amc-width = bin-width v (omega arith)
 
   few-symbols : shapeOf (c .mode) .symbols ≤ 6
   few-symbols = symbols-few (shapeOf (c .mode)) (amc-shape (c .mode) q)
@@ -163,17 +160,16 @@ few (pusc-dl h) = omega arith
 few (pusc-ul h) = omega arith
 few (ofusc w h) = let b = size w .most in omega arith
 few {c} (amc {mode = m} {pilots = lent} q w h) =
-    let t = amc-tests q in
     let shape = amc-shape m q in
     let n = size w .most in
     record {
-      symbols-pos = rw (t .not-0, t .not-1, t .not-2, t .listed) (symbols-pos (shapeOf m) shape);
-      symbols-few = rw (t .not-0, t .not-1, t .not-2, t .listed) (symbols-few (shapeOf m) shape);
+      symbols-pos = simp amc-column (symbols-pos (shapeOf m) shape);
+      symbols-few = simp amc-column (symbols-few (shapeOf m) shape);
       size-few = omega arith;
       subchannels-few = few-subchannels (amc {pilots = lent} q w h) q;
-      left-few = rw (t .not-0, t .not-1, t .not-2, t .listed) (omega arith);
-      half-few = rw (t .not-0, t .not-1, t .not-2, t .listed) (omega arith);
-      used-few = rw (t .not-0, t .not-1, t .not-2, t .listed) (omega arith);
+      left-few = simp amc-column (omega arith);
+      half-few = simp amc-column (omega arith);
+      used-few = simp amc-column (omega arith);
     }
 
 -- a zone's symbols and a grid's rows are few
@@ -196,21 +192,21 @@ module _ {c : Setup} (v : Valid c) (y u : ℕ) (hu : u < band c .used) (np : isP
         r .cell-lt,
         omega arith,
         rw (r .used-are) at hu,
-        sym (pilot-parity (y / 2) (y % 2) u) ∙ ap (λ (t : ℕ). isClusterPilot t u) (div-add-mod' y 2) ∙ mode-0 _ _ _ _ _ _ q ∙ np,
+        sym (pilot-parity (y / 2) (y % 2) u) ∙ ap (λ (t : ℕ). isClusterPilot t u) (div-add-mod' y 2) ∙ by-mode (at-0 q) ∙ np,
       )
 
   pub pusc-ul-asks : c .mode ≡ 1 → (c .cell < 70) × (y % 3 < 3) × (u < 1680) × (isTilePilot (y % 3) u ≡ false)
   unfolding isPilot
   pusc-ul-asks q =
       let r = in-pusc-ul v q in
-      (r .cell-lt, omega arith, rw (r .used-are) at hu, mode-1 _ _ _ _ _ _ q ∙ np)
+      (r .cell-lt, omega arith, rw (r .used-are) at hu, by-mode (at-1 q) ∙ np)
 
   pub ofusc-back-asks : (n : ℕ) → n ≡ width c → (d : ℕ) → d ≡ dataOfUsed y u → c .mode ≡ 2 → Width n × ((c .cell < n * n) × (d < 48 * n))
   unfolding isPilot
   ofusc-back-asks n e d h q =
       let r = in-ofusc v q in (
-        rw e (bin-width v (λ z. omega arith) (λ z. omega arith)),
-        (rw e (r .cell-lt), rw (e, h) (data-lt y u (mode-2 _ _ _ _ _ _ q ∙ np) (width c) (rw (r .used-are) at hu))),
+        rw e (bin-width v (omega arith)),
+        (rw e (r .cell-lt), rw (e, h) (data-lt y u (by-mode (at-2 q) ∙ np) (width c) (rw (r .used-are) at hu))),
       )
 
   pub amc-back-asks : (shape : Shape) → shape ≡ shapeOf (c .mode) → (o : ℕ) → o ≡ y % symbols c → (d : ℕ) → d ≡ dataOfUsed y u → IsAmc (c .mode)
@@ -228,16 +224,16 @@ module _ {c : Setup} (v : Valid c) (y u : ℕ) (hu : u < band c .used) (np : isP
 module _ (c : Setup) (slot s m n : ℕ) (e : n ≡ symbols c) (x : DataNumber) (r : Spot) (f : r ≡ binSpot (slot * n) x) where
   pub ofusc-spot : c .mode ≡ 2 → x ≡ inOnlySymbol (spread.dataNumber (width c) (c .cell) s m) → r ≡ spotOf c slot s m
   unfolding spotOf
-  ofusc-spot q g = f ∙ ap₂ (λ (k : ℕ) (t : DataNumber). binSpot (slot * k) t) e g ∙ mode-2 _ _ _ _ _ _ q
+  ofusc-spot q g = f ∙ ap₂ (λ (k : ℕ) (t : DataNumber). binSpot (slot * k) t) e g ∙ by-mode (at-2 q)
 
   pub amc-spot : IsAmc (c .mode) → (shape : Shape) → shape ≡ shapeOf (c .mode) → x ≡ adjacent.dataNumber shape (c .cell) s m → r ≡ spotOf c slot s m
   unfolding spotOf
   amc-spot q shape h g =
-      f ∙ ap₂ (λ (k : ℕ) (t : DataNumber). binSpot (slot * k) t) e (g ∙ ap (λ (t : Shape). adjacent.dataNumber t (c .cell) s m) h) ∙ mode-amc _ _ _ _ _ _ q
+      f ∙ ap₂ (λ (k : ℕ) (t : DataNumber). binSpot (slot * k) t) e (g ∙ ap (λ (t : Shape). adjacent.dataNumber t (c .cell) s m) h) ∙ by-mode (at-amc q)
 
 pub amc-address : (c : Setup) (y u : ℕ) (shape : Shape) → shape ≡ shapeOf (c .mode) → (o : ℕ) → o ≡ y % symbols c → (d : ℕ) → d ≡ dataOfUsed y u
     → (r : Address) → r ≡ adjacent.addressOf shape (c .cell) o d → IsAmc (c .mode) → r ≡ addressOf c y u
 unfolding addressOf
 amc-address c y u shape e o f d h r g q =
     let o-is : o ≡ y % shapeOf (c .mode) .symbols = f ∙ ap (λ (t : ℕ). y % t) (sym (shape-symbols c q)) in
-    g ∙ rw (e, o-is, h) (mode-amc _ _ _ _ _ _ q)
+    g ∙ rw (e, o-is, h) (by-mode (at-amc q))

@@ -1,18 +1,15 @@
 -- A choice by the mode, and AMC's modes and shapes.
-use mathlib.Core.Path.{_≡_, refl, ap, ap₂, _∙_}
-use mathlib.Core.Bool.{true, false}
-use Prim.Native.Nat.{ℕ, zero, suc, _*_, _<_, _≤_}
-use native.Mathlib.Nat.{mul-zero}
+use mathlib.Core.Path.{_≡_, refl, sym, _∙_}
+use mathlib.Core.Bool.{Bool, true, false}
+use Prim.Native.Nat.{ℕ, zero, suc, _<_, _≤_}
 use native.Mathlib.Omega.{arith}
-use lib.Dec.{eqb, ltb}
-use borrow.Author.Tests.{ne-eqb, eqb-true, eqb-false, ltb-true, ltb-false, lt-ltb, le-ltb}
-use Rattle.base.proofs.Test.{cases}
-use Rattle.amc.specs.declared.Shape.{Shape}
+use lib.Dec.{eqb, leb, ltb}
+use borrow.Author.Tests.{ne-eqb, eqb-true, eqb-false, leb-true, ltb-true, ltb-false, lt-ltb, le-ltb, le-leb}
+use Rattle.base.proofs.Test.{cases, true-false, both-true}
+use Rattle.base.specs.Choice.{pick}
 use Rattle.amc.specs.Model.{IsShape}
-use Rattle.amc.proofs.Parts.{symbols-few}
-use Rattle.map.specs.Setup.{Setup}
-use Rattle.map.specs.Mode.{shape, shapeOf, byMode, width, subchannels, symbols}
-use Rattle.map.specs.Model.{IsAmc}
+use Rattle.map.specs.Mode.{isAmc, shapeOf, byMode}
+use Rattle.map.specs.Model.{IsListed, OverBins, isOverBins, IsAmc}
 
 -- each of AMC's shapes has six bins in all
 pub amc-shape : (mode : ℕ) → IsAmc mode → IsShape (shapeOf mode)
@@ -26,12 +23,46 @@ amc-shape (suc (suc (suc (suc (suc zero))))) h = refl
 amc-shape (suc (suc (suc (suc (suc (suc zero)))))) h = refl
 amc-shape (suc (suc (suc (suc (suc (suc (suc mode))))))) h = absurd (omega arith)
 
+-- ---- what a test of the mode says, as the code makes it
+
+-- a mode from a first one to AMC's last
+from : (least mode : ℕ) → pick (leb least mode) (ltb mode 7) false ≡ true → (least ≤ mode) × (mode < 7)
+from least mode e = let t = both-true (leb least mode) (ltb mode 7) e in (leb-true least mode (t .0), ltb-true mode 7 (t .1))
+
+not-from : (least mode : ℕ) → pick (leb least mode) (ltb mode 7) false ≡ false → (least ≤ mode) × (mode < 7) → ⊥
+not-from least mode e q = true-false (rw (le-leb least mode (q .0), lt-ltb mode 7 (q .1)) at e)
+
+module _ {mode : ℕ} (t : Bool) where
+  pub told-amc : t ≡ isAmc mode → t ≡ true → IsAmc mode
+  told-amc e y = from 3 mode (sym e ∙ y)
+
+  pub told-bins : t ≡ isOverBins mode → t ≡ true → OverBins mode
+  told-bins e y = from 2 mode (sym e ∙ y)
+
+  -- a mode before AMC's
+  pub told-early : t ≡ isAmc mode → t ≡ false → IsListed mode → mode < 3
+  told-early e y l = cases (ltb mode 3) (ltb-true mode 3) (λ n. absurd (not-from 3 mode (sym e ∙ y) (omega (arith, ltb-false mode 3 n))))
+
+  -- none of the modes by name
+  module _ (n₀ : mode ≡ 0 → ⊥) (n₁ : mode ≡ 1 → ⊥) where
+    pub unlisted-amc : (mode ≡ 2 → ⊥) → t ≡ isAmc mode → t ≡ false → IsListed mode → ⊥
+    unlisted-amc n₂ e y l = not-from 3 mode (sym e ∙ y) (omega arith)
+
+    pub unlisted-bins : t ≡ isOverBins mode → t ≡ false → IsListed mode → ⊥
+    unlisted-bins e y l = not-from 2 mode (sym e ∙ y) (omega arith)
+
+pub amc-below : (mode : ℕ) → (mode ≡ 0 → ⊥) → (mode ≡ 1 → ⊥) → (mode ≡ 2 → ⊥) → mode < 7 → IsAmc mode
+amc-below mode n₀ n₁ n₂ h = omega arith
+
+pub past-listed : (mode : ℕ) → 7 ≤ mode → IsListed mode → ⊥
+past-listed mode h l = omega arith
+
 -- the tests at AMC's modes
 pub record AmcTests (mode : ℕ) : Type 0 where
   pub not-0 : eqb mode 0 ≡ false
   pub not-1 : eqb mode 1 ≡ false
   pub not-2 : eqb mode 2 ≡ false
-  pub listed : ltb mode 7 ≡ true
+  pub amc : isAmc mode ≡ true
 
 pub amc-tests : {mode : ℕ} → IsAmc mode → AmcTests mode
 amc-tests {mode} h =
@@ -39,71 +70,44 @@ amc-tests {mode} h =
       not-0 = ne-eqb mode 0 (λ e. omega arith);
       not-1 = ne-eqb mode 1 (λ e. omega arith);
       not-2 = ne-eqb mode 2 (λ e. omega arith);
-      listed = lt-ltb mode 7 (omega arith);
+      amc = rw (le-leb 3 mode (h .0), lt-ltb mode 7 (h .1));
     }
 
-module _ {A : Type 0} (mode : ℕ) (a₀ a₁ a₂ a₃ other : A) where
-  pub mode-0 : mode ≡ 0 → a₀ ≡ byMode mode a₀ a₁ a₂ a₃ other
-  mode-0 e = rw e
+-- ---- WHAT A MODE HAS of a column of the table, by what is known of the mode
 
-  pub mode-1 : mode ≡ 1 → a₁ ≡ byMode mode a₀ a₁ a₂ a₃ other
-  mode-1 e = rw e
-
-  pub mode-2 : mode ≡ 2 → a₂ ≡ byMode mode a₀ a₁ a₂ a₃ other
-  mode-2 e = rw e
-
-  pub mode-amc : IsAmc mode → a₃ ≡ byMode mode a₀ a₁ a₂ a₃ other
-  mode-amc h = let t = amc-tests h in rw (t .not-0, t .not-1, t .not-2, t .listed)
-
-  pub mode-other : 7 ≤ mode → other ≡ byMode mode a₀ a₁ a₂ a₃ other
-  mode-other h = rw (ne-eqb mode 0 (λ e. omega arith), ne-eqb mode 1 (λ e. omega arith), ne-eqb mode 2 (λ e. omega arith), le-ltb mode 7 h)
+pub data Has {A : Type 0} (mode : ℕ) (dl ul spread adjacent other : A) : A → Type 0 where
+  at-0 : mode ≡ 0 → Has mode dl ul spread adjacent other dl
+  at-1 : mode ≡ 1 → Has mode dl ul spread adjacent other ul
+  at-2 : mode ≡ 2 → Has mode dl ul spread adjacent other spread
+  at-amc : IsAmc mode → Has mode dl ul spread adjacent other adjacent
+  at-none : (IsListed mode → ⊥) → Has mode dl ul spread adjacent other other
 
 -- modes 2 to 6 alike
-pub mode-bins : {A : Type 0} (mode : ℕ) (a₀ a₁ a other : A) → mode < 7 → (mode ≡ 0 → ⊥) → (mode ≡ 1 → ⊥) → a ≡ byMode mode a₀ a₁ a a other
-mode-bins mode a₀ a₁ a other h n₀ n₁ =
-    cases (eqb mode 2)
-    (λ e. mode-2 mode a₀ a₁ a a other (eqb-true mode 2 e))
-    (λ e. mode-amc mode a₀ a₁ a a other (omega (arith, eqb-false mode 2 e)))
+pub at-bins : {A : Type 0} {mode : ℕ} {dl ul a other : A} → OverBins mode → Has mode dl ul a a other a
+at-bins {mode = mode} q = cases (eqb mode 2) (λ e. at-2 (eqb-true mode 2 e)) (λ e. at-amc (omega (arith, eqb-false mode 2 e)))
 
--- AMC's column serves an unlisted mode too where it gives the same
-pub mode-rest : {A : Type 0} (mode : ℕ) (a₀ a₁ a₂ a₃ other : A) → (7 ≤ mode → a₃ ≡ other) → (mode ≡ 0 → ⊥) → (mode ≡ 1 → ⊥) → (mode ≡ 2 → ⊥)
-    → a₃ ≡ byMode mode a₀ a₁ a₂ a₃ other
-mode-rest mode a₀ a₁ a₂ a₃ other same n₀ n₁ n₂ =
-    cases (ltb mode 7)
-    (λ e. mode-amc mode a₀ a₁ a₂ a₃ other (omega (arith, ltb-true mode 7 e)))
-    (λ e. let l = ltb-false mode 7 e in same l ∙ mode-other mode a₀ a₁ a₂ a₃ other l)
+pub by-mode : {A : Type 0} {mode : ℕ} {dl ul spread adjacent other r : A} → Has mode dl ul spread adjacent other r → r ≡ byMode mode dl ul spread adjacent other
+by-mode (at-0 e) = rw e
+by-mode (at-1 e) = rw e
+by-mode (at-2 e) = rw e
+by-mode (at-amc q) = let t = amc-tests q in rw (t .not-0, t .not-1, t .not-2, t .amc)
+by-mode {mode = mode} (at-none n) =
+    let l : 7 ≤ mode = omega arith in
+    rw (ne-eqb mode 0 (λ e. omega arith), ne-eqb mode 1 (λ e. omega arith), ne-eqb mode 2 (λ e. omega arith), le-leb 3 mode (omega arith), le-ltb mode 7 l)
 
--- no other mode has a shape
-pub no-shape : (mode : ℕ) → (IsAmc mode → ⊥) → shapeOf mode ≡ shape 0 0
-unfolding shapeOf
-no-shape mode n =
-    let other : (k : ℕ) → IsAmc k → eqb mode k ≡ false = λ k q. ne-eqb mode k (λ e. n (rw e q)) in
-    rw (other 3 (omega arith), other 4 (omega arith), other 5 (omega arith), other 6 (omega arith))
+-- the other way, for `simp`: all columns at once
+pub amc-column : {A : Type 0} (mode : ℕ) (dl ul spread adjacent other : A) → IsAmc mode → byMode mode dl ul spread adjacent other ≡ adjacent
+amc-column mode dl ul spread adjacent other q = sym (by-mode (at-amc q))
 
--- whatever the mode, a shape has few symbols
-pub shape-few : (mode : ℕ) → shapeOf mode .symbols ≤ 6
-shape-few mode =
-    cases (ltb mode 7)
-    (λ e. cases (ltb mode 3) (λ f. none (λ q. omega (arith, ltb-true mode 3 f))) (λ f. symbols-few (shapeOf mode) (amc-shape mode (omega (arith, ltb-true mode 7 e, ltb-false mode 3 f)))))
-    (λ e. none (λ q. omega (arith, ltb-false mode 7 e)))
-  where
-    none : (IsAmc mode → ⊥) → shapeOf mode .symbols ≤ 6
-    none n = rw (no-shape mode n) (omega arith)
+pub bins-column : {A : Type 0} (mode : ℕ) (dl ul a other : A) → OverBins mode → byMode mode dl ul a a other ≡ a
+bins-column mode dl ul a other q = sym (by-mode (at-bins q))
 
--- symbols and subchannels of a mode that is none of 0, 1 and 2, by its shape
-module _ (c : Setup) (s : Shape) (e : s ≡ shapeOf (c .mode)) (n₀ : c .mode ≡ 0 → ⊥) (n₁ : c .mode ≡ 1 → ⊥) (n₂ : c .mode ≡ 2 → ⊥) where
-  no-symbols : 7 ≤ c .mode → shapeOf (c .mode) .symbols ≡ 0
-  no-symbols l = ap (λ (t : Shape). t .symbols) (no-shape (c .mode) (λ q. omega arith))
+pub none-column : {A : Type 0} (mode : ℕ) (dl ul spread adjacent other : A) → (IsListed mode → ⊥) → byMode mode dl ul spread adjacent other ≡ other
+none-column mode dl ul spread adjacent other n = sym (by-mode (at-none n))
 
-  pub rest-symbols : s .symbols ≡ symbols c
-  unfolding symbols
-  rest-symbols = ap (λ (t : Shape). t .symbols) e ∙ mode-rest (c .mode) 2 3 1 (shapeOf (c .mode) .symbols) 0 no-symbols n₀ n₁ n₂
+-- what a function gave for the mode's column
+pub given : {A : Type 0} {mode : ℕ} {dl ul spread adjacent other a : A} (r : A) → Has mode dl ul spread adjacent other a → r ≡ a → r ≡ byMode mode dl ul spread adjacent other
+given r h e = e ∙ by-mode h
 
-  pub rest-subchannels : (n : ℕ) → n ≡ width c → n * s .symbols ≡ subchannels c
-  unfolding subchannels
-  rest-subchannels n f =
-      ap₂ (λ (k : ℕ) (t : Shape). k * t .symbols) f e
-      ∙ mode-rest (c .mode) 60 70 (width c) (width c * shapeOf (c .mode) .symbols) 0 (λ l. ap (λ (k : ℕ). width c * k) (no-symbols l) ∙ mul-zero (width c)) n₀ n₁ n₂
-
-pub last-mode : (mode : ℕ) → mode < 7 → (mode ≡ 0 → ⊥) → (mode ≡ 1 → ⊥) → (mode ≡ 2 → ⊥) → IsAmc mode
-last-mode mode h n₀ n₁ n₂ = omega arith
+-- a function that chooses by the mode, at each of its returns, for `search`
+pub ruleset choosing = (given, by-mode, at-0, at-1, at-2, at-amc, at-bins, at-none, told-amc, told-bins, unlisted-amc, unlisted-bins, amc-below, past-listed)

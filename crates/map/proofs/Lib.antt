@@ -1,5 +1,6 @@
 -- Laws of the map.
 pub mod Choice
+pub mod Before
 pub mod Accept
 pub mod ByMode
 pub mod Slot

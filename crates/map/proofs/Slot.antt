@@ -16,7 +16,7 @@ use Rattle.ofusc.proofs.Sequence.{pos}
 use Rattle.map.specs.Setup.{Setup}
 use Rattle.map.specs.Mode.{shapeOf, width, subchannels, symbols, band, isPilot, spotOf, addressOf}
 use Rattle.map.specs.Model.{Valid, pusc-dl, pusc-ul, ofusc, amc}
-use Rattle.map.proofs.Choice.{amc-shape, amc-tests}
+use Rattle.map.proofs.Choice.{amc-shape, amc-column}
 use Rattle.map.proofs.Accept.{width-is}
 use Rattle.pusc_dl.specs.Map as dl
 use Rattle.pusc_dl.proofs.Law as dl-law
@@ -56,10 +56,9 @@ slot-law (ofusc {n = n} {cell = cell} w h) slot =
     subst⁻¹ (λ (t : ℕ). SlotLaw 1 t (54 * t) (λ o u. isBinPilot (slot * 1 + o) u) (λ s m. binSpot (slot * 1) (inOnlySymbol (spread.dataNumber t cell s m))) (λ o u. spread.addressOf t cell (dataOfUsed (slot * 1 + o) u)))
     (width-is n) (bin-law (slot * 1) n (spread-law.law w cell))
 slot-law (amc {mode = mode} {n = n} {cell = cell} q w h) slot =
-    let t = amc-tests q in
     let shape = shapeOf mode in
     let first = slot * shape .symbols in
-    rw (t .not-0, t .not-1, t .not-2, t .listed, width-is n)
+    simp (amc-column, width-is n)
     (relabel
     (λ o u l. refl)
     (λ o u l. ap (λ (y : ℕ). adjacent.addressOf shape cell y (dataOfUsed (first + o) u)) (digits-mod slot l))
@@ -71,7 +70,7 @@ unfolding band width
 band-law (pusc-dl h) = pusc-band
 band-law (pusc-ul h) = pusc-band
 band-law (ofusc {n = n} w h) = rw (width-is n) (bin-band n (pos w))
-band-law (amc {n = n} q w h) = let t = amc-tests q in rw (t .not-0, t .not-1, t .not-2, t .listed, width-is n) (bin-band n (pos w))
+band-law (amc {n = n} q w h) = simp (amc-column, width-is n) (bin-band n (pos w))
 
 -- every size is even, and DC stands in its middle
 pub centred : {c : Setup} → Valid c → CentreLaw (c .size) × (band c .dc ≡ c .size / 2)
@@ -79,4 +78,4 @@ unfolding band width
 centred (pusc-dl h) = (centre-law 2048 refl, refl)
 centred (pusc-ul h) = (centre-law 2048 refl, refl)
 centred (ofusc {n = n} w h) = (centre-law (64 * n) (omega arith), rw (width-is n) (omega arith))
-centred (amc {n = n} q w h) = let t = amc-tests q in (centre-law (64 * n) (omega arith), rw (t .not-0, t .not-1, t .not-2, t .listed, width-is n) (omega arith))
+centred (amc {n = n} q w h) = (centre-law (64 * n) (omega arith), simp (amc-column, width-is n) (omega arith))

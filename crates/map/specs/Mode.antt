@@ -1,7 +1,7 @@
 -- Document 01, "Modes and their ranges", and document 02, wish 2: one column of the table a definition, the modes in order, then what an unlisted mode has.
 use mathlib.Core.Bool.{Bool, false}
 use Prim.Native.Nat.{ℕ, _*_, _/_, _%_}
-use lib.Dec.{eqb, ltb}
+use lib.Dec.{eqb, leb, ltb}
 use Rattle.base.specs.Choice.{pick}
 use Rattle.carriers.specs.declared.Band.{Band}
 use Rattle.carriers.specs.declared.Spot.{Spot}
@@ -25,13 +25,17 @@ unfoldable pub shapeOf : (mode : ℕ) → Shape
 shapeOf mode =
     pick (eqb mode 3) (shape 6 1) (pick (eqb mode 4) (shape 2 3) (pick (eqb mode 5) (shape 3 2) (pick (eqb mode 6) (shape 1 6) (shape 0 0))))
 
+-- Is it one of AMC's modes, 3 to 6?
+abbrev pub isAmc : (mode : ℕ) → Bool
+isAmc mode = pick (leb 3 mode) (ltb mode 7) false
+
 -- PUSC downlink (mode 0, partial down), PUSC uplink (1, partial up), optional FUSC (2, spread), AMC (3 to 6, adjacent); any other mode
 abbrev pub byMode : {A : Type 0} (mode : ℕ) (dl ul spread adjacent other : A) → A
 byMode mode dl ul spread adjacent other =
     pick (eqb mode 0) dl
     (pick (eqb mode 1) ul
     (pick (eqb mode 2) spread
-    (pick (ltb mode 7) adjacent
+    (pick (isAmc mode) adjacent
     other)))
 
 -- N of the modes over bins: the size is 64N

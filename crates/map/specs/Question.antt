@@ -7,7 +7,7 @@ use Rattle.base.specs.Choice.{pick}
 use Rattle.base.specs.Answer.{Answer, ask}
 use Rattle.centre.specs.Centre.{inRange}
 use Rattle.map.specs.Setup.{Setup}
-use Rattle.map.specs.Mode.{cells, subchannels, symbols}
+use Rattle.map.specs.Mode.{byMode, cells, subchannels, symbols}
 
 -- 1 Is the mode listed? Document 01 lists 0 to 3, document 02, wish 2, adds 4 to 6.
 abbrev pub isListed : (mode : ℕ) → Bool
@@ -21,7 +21,7 @@ unfoldable pub isFourSizes : (size : ℕ) → Bool
 isFourSizes size = pick (eqb size 256) true (pick (eqb size 512) true (pick (eqb size 1024) true (eqb size 2048)))
 
 abbrev pub isSizeOf : (mode size : ℕ) → Bool
-isSizeOf mode size = pick (ltb mode 2) (eqb size 2048) (pick (ltb mode 7) (isFourSizes size) false)
+isSizeOf mode size = byMode mode (eqb size 2048) (eqb size 2048) (isFourSizes size) (isFourSizes size) false
 
 unfoldable pub isSize : (setup : Setup) → Bool
 isSize setup = isSizeOf (setup .mode) (setup .size)

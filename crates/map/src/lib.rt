@@ -11,9 +11,9 @@ ghost use Rattle.base.specs.Answer.{accepted};
 ghost use Rattle.carriers.specs.Bin.{binSpot, inOnlySymbol};
 ghost use Rattle.ofusc.specs.Map.{dataNumber as ofuscNumber};
 ghost use Rattle.map.specs.Setup.{alone};
-ghost use Rattle.map.specs.Mode.{shapeOf, width as WidthOf, cells as Cells, subchannels as Subchannels, symbols as Symbols, band as BandOf, isPilot, spotOf, addressOf};
+ghost use Rattle.map.specs.Mode.{isAmc, shapeOf, width as WidthOf, cells as Cells, subchannels as Subchannels, symbols as Symbols, band as BandOf, isPilot, spotOf, addressOf};
 ghost use Rattle.map.specs.Question.{isFourSizes, isSize};
-ghost use Rattle.map.specs.Model.{setupRefusal, Valid};
+ghost use Rattle.map.specs.Model.{isOverBins, setupRefusal, Valid};
 ghost use Rattle.map.specs.Place.{placed, placeAt, placeOf, located, contentOf, locateOf};
 
 // What a zone fixes: mode, FFT size and cell.
@@ -40,6 +40,26 @@ pub enum Located {
         index: usize,
     },
     Refused(u8),
+}
+
+// Is a mode one of AMC's?
+pub fn is_amc(mode: usize) -> bool
+    ensures { λ r. ⌜ r ≡ isAmc mode ⌝ }
+{
+    if mode < 3 {
+        return false;
+    }
+    mode < 7
+}
+
+// Is a mode one over bins: optional FUSC or AMC?
+pub fn is_over_bins(mode: usize) -> bool
+    ensures { λ r. ⌜ r ≡ isOverBins mode ⌝ }
+{
+    if mode < 2 {
+        return false;
+    }
+    mode < 7
 }
 
 // The shape of AMC's slots; no other mode has one.
@@ -84,7 +104,7 @@ pub fn width(setup: Setup) -> usize
 }
 
 fn cells(setup: Setup) -> usize
-    requires { ⌜ (setup .mode < 7) × (setup .size ≤ 2048) ⌝ }
+    requires { ⌜ setup .size ≤ 2048 ⌝ }
     ensures { λ r. ⌜ r ≡ Cells (alone setup) ⌝ }
 {
     if setup.mode == 0 {
@@ -96,7 +116,10 @@ fn cells(setup: Setup) -> usize
     if setup.mode == 2 {
         return width(setup) * width(setup);
     }
-    2352
+    if is_amc(setup.mode) {
+        return 2352;
+    }
+    0
 }
 
 pub fn subchannels(setup: Setup) -> usize
@@ -111,7 +134,10 @@ pub fn subchannels(setup: Setup) -> usize
     if setup.mode == 2 {
         return width(setup);
     }
-    width(setup) * shape(setup.mode).symbols
+    if is_amc(setup.mode) {
+        return width(setup) * shape(setup.mode).symbols;
+    }
+    0
 }
 
 // Symbols a slot.
@@ -127,7 +153,10 @@ pub fn symbols(setup: Setup) -> usize
     if setup.mode == 2 {
         return 1;
     }
-    shape(setup.mode).symbols
+    if is_amc(setup.mode) {
+        return shape(setup.mode).symbols;
+    }
+    0
 }
 
 // The slot of a zone's symbol, by a constant for each number of symbols.
@@ -166,7 +195,16 @@ pub fn band(setup: Setup) -> Band
     if setup.mode == 1 {
         return carriers::pusc_band();
     }
-    carriers::bin_band(width(setup))
+    if is_over_bins(setup.mode) {
+        return carriers::bin_band(width(setup));
+    }
+    Band {
+        left: 0,
+        right: 0,
+        dc: 0,
+        used: 0,
+        half: 0,
+    }
 }
 
 // Is it one of the four sizes of the modes over bins?
@@ -188,10 +226,13 @@ pub fn is_four_sizes(size: usize) -> bool
 fn is_size(setup: Setup) -> bool
     ensures { λ r. ⌜ r ≡ isSize (alone setup) ⌝ }
 {
-    if setup.mode < 2 {
+    if setup.mode == 0 {
         return setup.size == 2048;
     }
-    if setup.mode < 7 {
+    if setup.mode == 1 {
+        return setup.size == 2048;
+    }
+    if is_over_bins(setup.mode) {
         return is_four_sizes(setup.size);
     }
     false
@@ -252,10 +293,11 @@ fn spot(setup: Setup, slot: usize, subchannel: usize, index: usize) -> Spot
     if setup.mode == 2 {
         return bin_spot(first, ofusc_number(setup, subchannel, index));
     }
-    bin_spot(
-        first,
-        amc::data_number(shape(setup.mode), setup.cell, subchannel, index),
-    )
+    if is_amc(setup.mode) {
+        let x = amc::data_number(shape(setup.mode), setup.cell, subchannel, index);
+        return bin_spot(first, x);
+    }
+    Spot { offset: 0, used: 0 }
 }
 
 fn is_pilot(setup: Setup, symbol: usize, used: usize) -> bool
@@ -268,7 +310,10 @@ fn is_pilot(setup: Setup, symbol: usize, used: usize) -> bool
     if setup.mode == 1 {
         return pusc_ul::is_pilot(symbol % 3, used);
     }
-    carriers::is_bin_pilot(symbol, used)
+    if is_over_bins(setup.mode) {
+        return carriers::is_bin_pilot(symbol, used);
+    }
+    false
 }
 
 // Whose point a used number holds that is no pilot.
@@ -288,7 +333,13 @@ fn address(setup: Setup, symbol: usize, used: usize) -> Address
     if setup.mode == 2 {
         return ofusc::address(width(setup), setup.cell, d);
     }
-    amc::address(shape(setup.mode), setup.cell, offset_of(setup, symbol), d)
+    if is_amc(setup.mode) {
+        return amc::address(shape(setup.mode), setup.cell, offset_of(setup, symbol), d);
+    }
+    Address {
+        subchannel: 0,
+        index: 0,
+    }
 }
 
 // The place of a spot of a slot.

@@ -2,18 +2,16 @@
 use mathlib.Core.Path.{_≡_, sym, ap, _∙_}
 use mathlib.Core.List.{List}
 use Prim.Native.Nat.{ℕ, _<_}
-use lib.ListN.{length, getD}
 use Rattle.base.specs.Answer.{accepted, refused}
-use Rattle.base.specs.Model.{Turned}
 use Rattle.base.specs.Tabulate.{tabulate}
 use Rattle.base.proofs.Tabulate.{tabulated, length-tabulate, getD-tabulate}
-use Rattle.carriers.specs.Model.{carrierNumber}
 use Rattle.map.specs.Setup.{Setup}
-use Rattle.map.specs.Mode.{subchannels, band, spotOf}
+use Rattle.map.specs.Mode.{subchannels}
 use Rattle.map.specs.Model.{Valid}
 use Rattle.map.proofs.Accept.{passes, slot-yes, subchannel-yes}
 use Rattle.points.specs.Model.{turned}
-use Rattle.rows.specs.Model.{shiftOf}
+use Rattle.rows.specs.declared.CarrierRow.{CarrierRow}
+use Rattle.rows.specs.Model.{RowOf}
 use Rattle.grid.specs.Grid.{standsAt}
 use Rattle.grid.proofs.Slot.{row-at}
 use Rattle.places.specs.declared.PlaceRow.{PlaceRow}
@@ -31,10 +29,11 @@ module _ (setup : Setup) (slot s : ℕ) where
     row-is = ap (placeRow (standsAt setup slot s)) (passes v ∙ slot-yes _ slot h ∙ subchannel-yes _ setup s l)
 
     -- the row that is worked out, in order
-    pub row-done : (row : List ℕ) → Turned (shiftOf setup s) (λ m. carrierNumber (setup .size) (band setup) (spotOf setup slot s m)) row
-        → (by : ℕ) → by ≡ shiftOf setup s → (places : List ℕ) → places ≡ tabulate 48 (turned row by) → _≡_ {A = PlaceRow} (record { refusal = 0; places = places }) (placesOf setup slot s)
-    row-done row t by e places q =
+    pub row-done : (row : CarrierRow) → RowOf setup slot s row → (places : List ℕ) → places ≡ tabulate 48 (turned (row .carriers) (row .shift)) → _≡_ {A = PlaceRow} (record { refusal = 0; places = places }) (placesOf setup slot s)
+    row-done row t places q =
         ap (λ (x : List ℕ). record { refusal = 0; places = x })
-        (tabulated 0 places 48 (standsAt setup slot s) (ap length q ∙ length-tabulate 48 (turned row by))
-        (λ m h. ap (λ (x : List ℕ). getD x m 0) q ∙ getD-tabulate 48 (turned row by) m 0 h ∙ row-at v slot s l row t by e m h))
+        (q ∙ tabulated 0 (tabulate 48 at) 48 (standsAt setup slot s) (length-tabulate 48 at) (λ m h. getD-tabulate 48 at m 0 h ∙ row-at v slot s l row t m h))
         ∙ sym row-is
+      where
+        at : ℕ → ℕ
+        at = turned (row .carriers) (row .shift)

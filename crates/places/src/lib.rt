@@ -56,11 +56,9 @@ pub fn row(setup: Setup, slot: usize, subchannel: usize) -> PlaceRow
     if map::subchannels(setup) <= subchannel {
         return refused(5);
     }
-    let table = rows::table(setup, slot);
-    let row = rows::carrier_row(setup, slot, subchannel, &table);
-    let by = rows::shift(setup, subchannel);
+    let row = rows::subchannel_row(setup, slot, subchannel);
     PlaceRow {
         refusal: 0,
-        places: in_order(&row, by),
+        places: in_order(&row.carriers, row.shift),
     }
 }

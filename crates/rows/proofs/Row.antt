@@ -26,10 +26,10 @@ use Rattle.carriers.specs.Law.{DataSpot}
 use Rattle.carriers.specs.Model.{spotNumber, carrierNumber, carrierStep}
 use Rattle.carriers.proofs.Row.{step-carrier}
 use Rattle.map.specs.Setup.{Setup}
-use Rattle.map.specs.Mode.{shapeOf, width, subchannels, symbols, band, isPilot, spotOf}
+use Rattle.map.specs.Mode.{isAmc, shapeOf, width, subchannels, symbols, band, isPilot, spotOf}
 use Rattle.map.specs.Model.{IsAmc, Valid, pusc-dl, pusc-ul, ofusc, amc}
-use Rattle.rows.specs.Model.{tableLength, tableEntry, TableOf, shiftOf}
-use Rattle.map.proofs.Choice.{amc-shape, mode-0, mode-1, mode-2, mode-amc, mode-other, last-mode}
+use Rattle.rows.specs.Model.{shiftOf, pointPlace}
+use Rattle.map.proofs.Choice.{amc-shape, at-0, at-1, at-2, at-amc, by-mode}
 use Rattle.map.proofs.ByMode.{in-pusc-dl, in-pusc-ul, in-ofusc, in-amc, bin-width, amc-width, amc-spot, shape-symbols, few}
 use Rattle.map.proofs.Slot.{slot-law}
 use Rattle.pusc_ul_rows.specs.Model as pusc-ul
@@ -38,38 +38,6 @@ use Rattle.amc_rows.specs.Model as amc
 use Rattle.pusc_dl.specs.Map as pusc-dl-map
 use Rattle.ofusc.specs.Map as ofusc-map
 use Rattle.amc.specs.Map as amc-map
-
--- the table of a mode is the setup's: so many entries, and the same
-pub record TableAs (n n′ : ℕ) (f f′ : ℕ → ℕ) : Type 0 where
-  pub length-is : n ≡ n′
-  pub entry-is : (i : ℕ) → f i ≡ f′ i
-
-module _ {n n′ : ℕ} {f f′ : ℕ → ℕ} (table : List ℕ) (a : TableAs n n′ f f′) where
-  pub to-table : Starts n f table → Starts n′ f′ table
-  to-table s = starts-as table s (a .length-is) (a .entry-is)
-
-  pub from-table : Starts n′ f′ table → Starts n f table
-  from-table s = starts-as table s (sym (a .length-is)) (λ i. sym (a .entry-is i))
-
--- PUSC has none
-pub no-table : (c : Setup) (slot : ℕ) → c .mode < 2 → (table : List ℕ) → TableOf c slot table
-unfolding tableLength
-no-table c slot h table k k-lt = absurd (omega (arith, none))
-  where
-    none : 0 ≡ tableLength c
-    none =
-        cases (eqb (c .mode) 0)
-        (λ e. rw e)
-        (λ e. let n = eqb-false (c .mode) 0 e in mode-1 (c .mode) 0 0 48 48 0 (omega arith))
-
-module _ (c : Setup) (slot : ℕ) where
-  pub as-2 : c .mode ≡ 2 → TableAs 48 (tableLength c) (ofusc.cellNumber (width c) (c .cell)) (tableEntry c slot)
-  unfolding tableLength tableEntry
-  as-2 e = record { length-is = mode-2 _ _ _ _ _ _ e; entry-is = λ i. mode-2 _ _ _ _ _ _ e }
-
-  pub as-amc : IsAmc (c .mode) → TableAs 48 (tableLength c) (amc.sequenceCarrier (shapeOf (c .mode)) (width c) (slot * shapeOf (c .mode) .symbols) (c .cell) 0) (tableEntry c slot)
-  unfolding tableLength tableEntry
-  as-amc q = record { length-is = mode-amc _ _ _ _ _ _ q; entry-is = λ i. mode-amc _ _ _ _ _ _ q }
 
 -- a row of data numbers of optional FUSC: they are small, and their used numbers are the spots of a slot of one symbol
 module _ (numbers : List ℕ) (f : ℕ → ℕ) (e : numbers ≡ tabulate 48 f) where
@@ -88,12 +56,7 @@ even-width n8 = omega arith
 even-width n16 = omega arith
 even-width n32 = omega arith
 
--- what AMC's table asks
-pub table-asks : {c : Setup} → Valid c → IsAmc (c .mode) → (shape : Shape) → shape ≡ shapeOf (c .mode) → (n : ℕ) → n ≡ width c
-    → IsShape shape × EvenWidth n × (c .cell < 2352)
-table-asks {c} v q shape e n f = rw (e, f) (amc-shape (c .mode) q, even-width (amc-width v q), in-amc v q .cell-lt)
-
--- what each mode's row asks
+-- what each mode's row asks, and its table
 module _ {c : Setup} (v : Valid c) (s : ℕ) (hs : s < subchannels c) where
   pub asks-0 : c .mode ≡ 0 → (c .cell < 32) × (s < 60)
   asks-0 e = let r = in-pusc-dl v e in (r .cell-lt, rw (r .subchannels-are) at hs)
@@ -101,18 +64,12 @@ module _ {c : Setup} (v : Valid c) (s : ℕ) (hs : s < subchannels c) where
   pub asks-1 : c .mode ≡ 1 → (c .cell < 70) × (s < 70)
   asks-1 e = let r = in-pusc-ul v e in (r .cell-lt, rw (r .subchannels-are) at hs)
 
--- and of the table
-module _ {c : Setup} (v : Valid c) (s : ℕ) (hs : s < subchannels c) (slot : ℕ) (table : List ℕ) (t : TableOf c slot table) where
-  pub asks-2 : (n : ℕ) → n ≡ width c → c .mode ≡ 2 → Width n × (s < n) × Starts 48 (ofusc.cellNumber n (c .cell)) table
-  asks-2 n q e =
-      let r = in-ofusc v e in
-      (rw q (bin-width v (λ z. omega arith) (λ z. omega arith)), rw q (rw (r .subchannels-are) at hs), rw q (from-table table (as-2 c slot e) t))
+  pub asks-2 : (n : ℕ) → n ≡ width c → c .mode ≡ 2 → Width n × (s < n) × (c .cell < n * n)
+  asks-2 n q e = let r = in-ofusc v e in rw q (bin-width v (omega arith), rw (r .subchannels-are) at hs, r .cell-lt)
 
   pub asks-amc : IsAmc (c .mode) → (shape : Shape) → shape ≡ shapeOf (c .mode) → (n : ℕ) → n ≡ width c
-      → (IsShape shape × EvenWidth n × (c .cell < 2352) × (s < n * shape .symbols)) × Starts 48 (amc.sequenceCarrier shape n (slot * shape .symbols) (c .cell) 0) table
-  asks-amc q shape e n f =
-      let a = table-asks v q shape e n f in
-      ((a .0, a .1, a .2, rw (e, f) (rw (in-amc v q .subchannels-are) at hs)), rw (e, f) (from-table table (as-amc c slot q) t))
+      → IsShape shape × EvenWidth n × (c .cell < 2352) × (s < n * shape .symbols)
+  asks-amc q shape e n f = let r = in-amc v q in rw (e, f) (amc-shape (c .mode) q, even-width (amc-width v q), r .cell-lt, rw (r .subchannels-are) at hs)
 
 -- the size is 64N
 bin-size : {c : Setup} → Valid c → IsAmc (c .mode) → c .size ≡ 64 * width c
@@ -131,16 +88,16 @@ module _ (c : Setup) (slot s : ℕ) where
   unfolding spotOf shiftOf
   row-0 q row e =
       turned-row (shiftOf c s) _ (λ m. spotNumber (pusc-dl-map.spotOf (c .cell) s m)) row e
-      (λ m h. ap (λ (k : ℕ). spotNumber (pusc-dl-map.spotOf (c .cell) s k)) (shift-none m h (sym (mode-0 _ _ _ _ _ _ q))) ∙ ap spotNumber (mode-0 _ _ _ _ _ _ q))
+      (λ m h. ap (λ (k : ℕ). spotNumber (pusc-dl-map.spotOf (c .cell) s k)) (shift-none m h (sym (by-mode (at-0 q)))) ∙ ap spotNumber (by-mode (at-0 q)))
 
   pub spot-2 : c .mode ≡ 2 → (m : ℕ) → m < 48 → record { offset = 0; used = usedOfData slot (ofusc.groupNumber (width c) (c .cell) s ((m + shiftOf c s) % 48)) } ≡ spotOf c slot s m
   unfolding spotOf shiftOf symbols
   spot-2 q m h =
       let d = ofusc-map.dataNumber (width c) (c .cell) s m in
-      ap (λ (by : ℕ). at slot (ofusc.groupNumber (width c) (c .cell) s ((m + by) % 48))) (sym (mode-2 _ _ _ _ _ _ q))
+      ap (λ (by : ℕ). at slot (ofusc.groupNumber (width c) (c .cell) s ((m + by) % 48))) (sym (by-mode (at-2 q)))
       ∙ ap (at slot) (number-in-group (width c) (c .cell) s m)
-      ∙ ap (λ (y : ℕ). at y d) (omega arith ∙ ap (λ (t : ℕ). slot * t + 0) (mode-2 (c .mode) 2 3 1 _ _ q))
-      ∙ mode-2 _ _ _ _ _ _ q
+      ∙ ap (λ (y : ℕ). at y d) (omega arith ∙ ap (λ (t : ℕ). slot * t + 0) (by-mode (at-2 q)))
+      ∙ by-mode (at-2 q)
     where
       at : ℕ → ℕ → Spot
       at y d = record { offset = 0; used = usedOfData y d }
@@ -148,15 +105,15 @@ module _ (c : Setup) (slot s : ℕ) where
   -- AMC's row, the carriers of P's entries
   pub row-amc : Valid c → IsAmc (c .mode) → (shape : Shape) → shape ≡ shapeOf (c .mode) → (n : ℕ) → n ≡ width c
       → (row : List ℕ) → Starts 48 (amc.sequenceCarrier shape n (slot * shape .symbols) (c .cell) s) row
-      → Turned (shiftOf c s) (λ m. carrierNumber (c .size) (band c) (spotOf c slot s m)) row
+      → Turned (shiftOf c s) (pointPlace c slot s) row
   unfolding shiftOf band amc.trafficCarrier amc-map.dataNumber
   row-amc v q shape e n f row starts m h =
       let first = slot * shape .symbols in
       let size-is : 64 * n ≡ c .size = ap (λ (x : ℕ). 64 * x) f ∙ sym (bin-size v q) in
-      let band-is : binBand n ≡ band c = ap binBand f ∙ mode-amc _ _ _ _ _ _ q in
+      let band-is : binBand n ≡ band c = ap binBand f ∙ by-mode (at-amc q) in
       let spot-is = amc-spot c slot s m (shape .symbols) (ap (λ (t : Shape). t .symbols) e ∙ shape-symbols c q) (amc-map.dataNumber shape (c .cell) s m) _ refl q shape e refl in
       starts ((m + shiftOf c s) % 48) (omega arith)
-      ∙ ap (λ (by : ℕ). amc.sequenceCarrier shape n first (c .cell) s ((m + by) % 48)) (sym (mode-amc _ _ _ _ _ _ q))
+      ∙ ap (λ (by : ℕ). amc.sequenceCarrier shape n first (c .cell) s ((m + by) % 48)) (sym (by-mode (at-amc q)))
       ∙ carrier-at shape n first (c .cell) s m
       ∙ (λ i. carrierNumber (size-is i) (band-is i) (spot-is i))
 
@@ -174,7 +131,7 @@ shift-lt c s =
     cases (eqb (c .mode) 0) (λ e. rw e (lit< tt))
     (λ e. rw e (cases (eqb (c .mode) 1) (λ e₁. rw e₁ (omega arith))
     (λ e₁. rw e₁ (cases (eqb (c .mode) 2) (λ e₂. rw e₂ (omega arith))
-    (λ e₂. rw e₂ (cases (ltb (c .mode) 7) (λ e₃. rw e₃ (omega arith)) (λ e₃. rw e₃ (lit< tt))))))))
+    (λ e₂. rw e₂ (cases (isAmc (c .mode)) (λ e₃. rw e₃ (omega arith)) (λ e₃. rw e₃ (lit< tt))))))))
 
 -- in the modes before AMC a row starts at the same number in the grid as in the numbers of spots: either the size is 2048 or there is one row
 row-start : {c : Setup} → Valid c → c .mode < 3 → (row : ℕ) → row < symbols c → row * 2048 ≡ row * c .size
@@ -199,12 +156,12 @@ module _ {c : Setup} (v : Valid c) (early : c .mode < 3) (slot s : ℕ) (hs : s 
   by-size m h = ap (λ (x : ℕ). x + carrierOf (band c) (spotOf c slot s m .used)) (row-start v early (spotOf c slot s m .offset) (lies m h .offset-lt))
 
   pub row-1 : c .mode ≡ 1 → (row : List ℕ) → row ≡ tabulate 48 (pusc-ul.placeNumber (c .cell) s)
-      → Turned (shiftOf c s) (λ m. carrierNumber (c .size) (band c) (spotOf c slot s m)) row
+      → Turned (shiftOf c s) (pointPlace c slot s) row
   unfolding spotOf shiftOf band
   row-1 q row e =
       turned-row (shiftOf c s) _ (pusc-ul.placeNumber (c .cell) s) row e
-      (λ m h. ap (λ (by : ℕ). pusc-ul.placeNumber (c .cell) s ((m + by) % 48)) (sym (mode-1 _ _ _ _ _ _ q))
-      ∙ number-on-place (c .cell) s m ∙ ap₂ (carrierNumber 2048) (mode-1 _ _ _ _ _ _ q) (mode-1 _ _ _ _ _ _ q) ∙ by-size m h)
+      (λ m h. ap (λ (by : ℕ). pusc-ul.placeNumber (c .cell) s ((m + by) % 48)) (sym (by-mode (at-1 q)))
+      ∙ number-on-place (c .cell) s m ∙ ap₂ (carrierNumber 2048) (by-mode (at-1 q)) (by-mode (at-1 q)) ∙ by-size m h)
 
   -- a subchannel's spots are small, so that a row of them becomes a row of carriers
   module _ (row : List ℕ) (t : Turned (shiftOf c s) (λ m. spotNumber (spotOf c slot s m)) row) where
@@ -213,30 +170,8 @@ module _ {c : Setup} (v : Valid c) (early : c .mode < 3) (slot s : ℕ) (hs : s 
         turned-below (shiftOf c s) 8192 _ row (shift-lt c s) t
         (λ m h. omega (arith, few v, early-symbols v early, lies m h .offset-lt, lies m h .used-lt))
 
-    pub carriers-of : (row′ : List ℕ) → row′ ≡ tabulate 48 (λ k. carrierStep (band c) (entry row k)) → Turned (shiftOf c s) (λ m. carrierNumber (c .size) (band c) (spotOf c slot s m)) row′
+    pub carriers-of : (row′ : List ℕ) → row′ ≡ tabulate 48 (λ k. carrierStep (band c) (entry row k)) → Turned (shiftOf c s) (pointPlace c slot s) row′
     carriers-of row′ e m h =
         turned-by (shiftOf c s) (λ m. spotNumber (spotOf c slot s m)) (carrierStep (band c)) row row′ t e m h
         ∙ step-carrier (band c) (spotOf c slot s m) (omega (arith, few v, lies m h .used-lt))
         ∙ by-size m h
-
--- the shift by the mode
-module _ (c : Setup) (s : ℕ) where
-  pub shift-0 : c .mode ≡ 0 → 0 ≡ shiftOf c s
-  unfolding shiftOf
-  shift-0 q = mode-0 _ _ _ _ _ _ q
-
-  pub shift-1 : c .mode ≡ 1 → 13 * s % 48 ≡ shiftOf c s
-  unfolding shiftOf
-  shift-1 q = mode-1 _ _ _ _ _ _ q
-
-  pub shift-2 : c .mode ≡ 2 → 23 * s % 48 ≡ shiftOf c s
-  unfolding shiftOf
-  shift-2 q = mode-2 _ _ _ _ _ _ q
-
-  pub shift-amc : c .mode < 7 → (c .mode ≡ 0 → ⊥) → (c .mode ≡ 1 → ⊥) → (c .mode ≡ 2 → ⊥) → c .cell % 48 ≡ shiftOf c s
-  unfolding shiftOf
-  shift-amc h n₀ n₁ n₂ = mode-amc _ _ _ _ _ _ (last-mode (c .mode) h n₀ n₁ n₂)
-
-  pub shift-other : 7 ≤ c .mode → 0 ≡ shiftOf c s
-  unfolding shiftOf
-  shift-other h = mode-other _ _ _ _ _ _ h

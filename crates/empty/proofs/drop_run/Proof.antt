@@ -5,8 +5,8 @@ use Prim.Native.Nat.{_*_}
 use borrow.Author.Needs.{needs}
 use Rattle.map.specs.Setup.{alone}
 use Rattle.mask.specs.Mask.{isUsedLit}
-use Rattle.rows.specs.Model.{runStep}
-use Rattle.rows.proofs.Walk.{run-is, run-dark, run-bright}
+use Rattle.runs.specs.Model.{runStep}
+use Rattle.runs.proofs.Law.{run-is, run-dark, run-bright}
 use Rattle.empty.proofs.Dropped.{dark-run, run-asks, lit-dropped, from-small}
 use Rattle.empty.proofs.drop_run.Statement.{statement}
 use Rattle.empty.proofs.drop_run.Tie as tie

@@ -8,9 +8,9 @@ use Rattle.carriers.specs.Band.{carrierOf}
 use Rattle.map.specs.Setup.{alone}
 use Rattle.map.specs.Mode.{symbols}
 use Rattle.map.proofs.ByMode.{few, slot-few, row-few}
-use Rattle.rows.specs.declared.Runs.{Runs}
-use Rattle.rows.specs.Model.{runStep, runCount, runsOf}
-use Rattle.rows.proofs.Walk.{some-run}
+use Rattle.runs.specs.declared.Runs.{Runs}
+use Rattle.runs.specs.Model.{runStep, runCount, runsOf}
+use Rattle.runs.proofs.Law.{some-run}
 use Rattle.empty.specs.Model.{runStart}
 use Rattle.empty.proofs.Dropped.{RowTurn, row-first, row-start, row-next, row-done, row-over, run-used, start-small, start-is}
 use Rattle.empty.proofs.empty_row.Statement.{statement}

@@ -1,72 +1,85 @@
 -- `ground::pilot_row` meets its contract.
-use mathlib.Core.Path.{_≡_, sym, _∙_}
-use mathlib.Core.List.{[], _∷_}
-use Prim.Native.Nat.{_-_, _*_, _<_}
+use mathlib.Core.Path.{_≡_, sym, ap, _∙_}
+use Prim.Native.Nat.{ℕ, _+_, _-_, _*_, _<_}
 use native.Mathlib.Omega.{arith}
 use lib.ListN.{getD}
 use borrow.Author.Needs.{needs}
 use Rattle.map.specs.Setup.{alone}
+use Rattle.map.specs.Mode.{symbols}
 use Rattle.map.proofs.ByMode.{slot-few, few}
-use Rattle.points.specs.declared.Point.{Point}
 use Rattle.points.specs.Points.{zeroPoint}
-use Rattle.ground.specs.Model.{runPoint}
-use Rattle.ground.proofs.Pilots.{RowTurn, row-start, turn-long, turn-few, own-point, first-asks, second-asks, two-more, row-done}
+use Rattle.runs.specs.declared.Runs.{Runs}
+use Rattle.runs.specs.Model.{runStep, runCount, runsOf}
+use Rattle.runs.proofs.Law.{run-is}
+use Rattle.ground.specs.Model.{PilotsBelow}
+use Rattle.ground.proofs.Pilots.{lit-two, none-row, row-start, last-in, long-1, run-next, row-done}
 use Rattle.ground.proofs.pilot_row.Statement.{statement}
 use Rattle.ground.proofs.pilot_row.Tie as tie
 
 abbrev Inv-loop : tie.InvT-loop
-Inv-loop setup lit slot row grid₀ comb points i₀ grid i = RowTurn (alone setup) lit slot row (getD points 1 zeroPoint) grid₀ comb grid (i * 2)
+Inv-loop setup mask lit slot row grid₀ shape last points i₀ grid i = PilotsBelow (alone setup) mask slot (getD points 1 zeroPoint) row (i * runStep (alone setup)) grid₀ grid
 
 abbrev μ-loop : tie.MeasureT-loop
-μ-loop setup lit slot row grid₀ comb points i₀ grid i = comb .count - i
+μ-loop setup mask lit slot row grid₀ shape last points i₀ grid i = shape .count - i
 
-mul-pilot-comb : tie.Need-mul-pilot-comb Inv-loop μ-loop
-mul-pilot-comb c =
+symbol-few : (c : tie.After-symbols Inv-loop μ-loop) → let a = c .before .before .args in a .slot * c .symbols .result + a .row < 4096
+symbol-few c =
     let start = c .before .before in
-    omega (arith, slot-few (start .pre .0) (start .args .slot) (c .symbols .result) (start .pre .1 .0 .0) (c .symbols .ensures))
+    omega (arith, few (start .pre .0), slot-few (start .pre .0) (start .args .slot) (c .symbols .result) (start .pre .1 .0 .0) (c .symbols .ensures), start .pre .1 .0 .1)
 
-add-pilot-comb : tie.Need-add-pilot-comb Inv-loop μ-loop
-add-pilot-comb c =
-    let start = c .before .before in
-    omega (arith, few (start .pre .0), slot-few (start .pre .0) (start .args .slot) (c .symbols .result) (start .pre .1 .0 .0) (c .symbols .ensures))
+-- the runs of the row's symbol
+shape-is : (c : tie.After-symbol-runs Inv-loop μ-loop) → let a = c .before .before .before .args in c .symbol-runs .result ≡ runsOf (alone (a .setup)) (a .slot * symbols (alone (a .setup)) + a .row)
+shape-is c = let a = c .before .before .before .args in c .symbol-runs .ensures ∙ ap (λ (n : ℕ). runsOf (alone (a .setup)) (a .slot * n + a .row)) (c .before .symbols .ensures)
 
-loop-holds : tie.Need-loop-holds Inv-loop μ-loop
-loop-holds c =
-    let start = c .before .before .before in
-    row-start (start .pre .0) (start .pre .1 .0 .1) (start .pre .1 .0 .2) _ (c .before .symbols .ensures) _ (c .pilot-comb .ensures)
+returns : tie.Need-returns Inv-loop μ-loop
+returns c =
+    let start = c .before .before .before .before .before in
+    none-row _ (start .pre .0) _ _ _ (start .args .lit .now) (start .pre .1 .1) _ (start .pre .1 .0 .1) _ (shape-is (c .before .before)) (c .if1 .taken) _
 
-run-lit-requires : tie.Need-run-lit-requires Inv-loop μ-loop
-run-lit-requires c κs e = turn-few (c .before .before .loop .inv) (c .if1 .taken) e
+run-lt : (c : tie.Then2 Inv-loop μ-loop) → c .before .before .loop .i < runCount (alone (c .before .before .before .before .before .before .before .before .before .args .setup))
+run-lt c = omega (arith, ap (λ (b : Runs). b .count) (shape-is (c .before .before .before .before .before .before)), c .if2 .taken)
 
--- what the turn puts is 0.0 or the pilot point
+-- what a turn puts is 0.0 or the pilot point
 two : (c : tie.After-run-lit Inv-loop μ-loop) → c .run-lit .result < 2
 two c =
-    let start = c .before .before .before .before .before .before .before in
-    rw (c .run-lit .ensures) (start .pre .1 .1 _ (turn-few (c .before .before .before .loop .inv) (c .before .if1 .taken)))
+    let start = c .before .before .before .before .before .before .before .before .before .before in
+    lit-two (start .pre .0) (start .args .mask) (start .args .lit .now) (start .pre .1 .1) _ (run-lt (c .before)) _ (c .run-lit .ensures)
 
-own : (c : tie.After-run-lit Inv-loop μ-loop) → let start = c .before .before .before .before .before .before .before in
-    (d : Point) → getD (zeroPoint ∷ start .args .p ∷ []) (c .run-lit .result) d ≡ runPoint (alone (start .args .setup)) (start .args .lit .now) (start .args .p) (c .before .before .before .loop .i)
-own c d = own-point _ _ _ _ d _ (c .run-lit .ensures) (two c)
+put-pilot-requires : tie.Need-put-pilot-requires Inv-loop μ-loop
+put-pilot-requires c κs =
+    let then = c .before .before .before in
+    let start = then .before .before .before .before .before .before .before .before .before in
+    (start .pre .0, (start .pre .1 .0 .1, run-lt then, ap (λ (b : Runs). b .step) (shape-is (then .before .before .before .before .before .before)), then .before .before .before .before .if1 .left, then .before .before .loop .inv .long ∙ start .pre .1 .0 .2))
 
-second-put : tie.Need-put-used-requires-2 Inv-loop μ-loop
-second-put c κs =
-    second-asks (c .before .before .before .before .before .before .before .before .before .before .before .loop .inv) (c .before .before .before .before .before .before .before .before .before .if1 .taken)
-    _ (c .before .before .before .before .before .before .pilot-number .ensures) _ (own (c .before .before .before .before .before .before .before .before) _) _ (c .before .before .before .before .put-used .ensures)
-    _ (c .before .pilot-number2 .ensures)
+put-pilot-requires-2 : tie.Need-put-pilot-requires-2 Inv-loop μ-loop
+put-pilot-requires-2 c κs =
+    let then = c .before .before .before .before .before .before .before in
+    let start = then .before .before .before .before .before .before .before .before .before in
+    let shape = shape-is (then .before .before .before .before .before .before) in (
+      start .pre .0,
+      (
+        start .pre .1 .0 .1,
+        run-lt then,
+        ap (λ (b : Runs). b .step) shape,
+        rw (then .before .before .before .last-pilot .ensures) (last-in _ (start .pre .0) (start .args .mask) (start .args .slot) (start .args .p) (start .args .lit .now) (start .pre .1 .1) _ (start .pre .1 .0 .1) _ shape (then .before .before .before .before .if1 .left)),
+        long-1 _ (start .pre .0) _ _ _ (start .args .lit .now) (start .pre .1 .1) _ (start .pre .1 .0 .1) _ shape (then .before .before .before .before .if1 .left) (start .pre .1 .0 .2) _ (then .before .before .loop .inv) (run-lt then)
+            _ (c .before .before .before .before .before .before .run-lit .ensures) _ _ (c .before .before .before .put-pilot .ensures),
+      ),
+    )
 
 loop-again : tie.Need-loop-again Inv-loop μ-loop
 loop-again c =
-    two-more (c .before .before .before .before .before .before .before .before .before .before .before .before .before .before .loop .inv) (c .before .before .before .before .before .before .before .before .before .before .before .before .if1 .taken)
-    _ (c .before .before .before .before .before .before .before .before .before .pilot-number .ensures) _ (own (c .before .before .before .before .before .before .before .before .before .before .before) _) _ (c .before .before .before .before .before .before .before .put-used .ensures)
-    _ (c .before .before .before .before .pilot-number2 .ensures) _ (c .before .before .put-used2 .ensures)
+    let then = c .before .before .before .before .before .before .before .before .before .before in
+    let start = then .before .before .before .before .before .before .before .before .before in
+    run-next _ (start .pre .0) _ _ _ (start .args .lit .now) (start .pre .1 .1) _ (start .pre .1 .0 .1) _ (shape-is (then .before .before .before .before .before .before)) (then .before .before .before .before .if1 .left) (start .pre .1 .0 .2) _ (then .before .before .loop .inv) (run-lt then)
+    _ (c .before .before .before .before .before .before .before .before .before .run-lit .ensures) _ _ (c .before .before .before .before .before .before .put-pilot .ensures) _ (then .before .before .before .last-pilot .ensures) _ (c .before .before .put-pilot2 .ensures)
 
 pub pilot-row-spec : {M : Type 1} → statement M
 pilot-row-spec =
     tie.close
     (tie.spec
-    Inv-loop μ-loop (λ c κs. search needs) mul-pilot-comb add-pilot-comb (λ c κs. search needs) loop-holds
-    run-lit-requires (λ c. omega (arith, two c)) two (λ c. omega arith) (λ c κs. search needs)
-    (λ c κs. first-asks (c .before .before .before .before .before .before .loop .inv) (c .before .before .before .before .if1 .taken) _ (c .before .pilot-number .ensures)) (λ c. omega arith) (λ c. omega arith)
-    (λ c κs. search needs) second-put (λ c. omega arith) (λ c. omega arith) loop-again
-    (λ c. turn-long (c .before .before .loop .inv) ∙ sym (c .before .before .loop .inv .long))
-    (λ c. row-done (c .before .before .loop .inv) (c .if1 .left)))
+    Inv-loop μ-loop (λ c κs. search needs) (λ c. omega (arith, symbol-few c)) (λ c. omega (arith, symbol-few c)) (λ c κs. search needs) returns (λ c κs. search needs)
+    (λ c. row-start _ (c .before .before .before .before .before .before .pre .0) _ _ _ _ _) (λ c κs. run-is (c .before .before .before .before .before .before .before .before .before .pre .0) _ (run-lt c)) (λ c. omega (arith, two c)) two put-pilot-requires put-pilot-requires-2
+    (λ c. omega (arith, c .before .before .before .before .before .before .before .before .before .before .if2 .taken)) (λ c. omega (arith, c .before .before .before .before .before .before .before .before .before .before .if2 .taken)) loop-again
+    (λ c. c .before .before .loop .inv .long)
+    (λ c. row-done _ (c .before .before .before .before .before .before .before .before .before .pre .0) _ _ _ _ (c .before .before .loop .inv) (omega (arith, ap (λ (b : Runs). b .count) (shape-is (c .before .before .before .before .before .before)), c .if2 .left))))

@@ -2,7 +2,6 @@
 use mathlib.Core.Path.{sym, _∙_}
 use native.Mathlib.Omega.{arith}
 use borrow.Author.Needs.{needs}
-use Rattle.map.proofs.ByMode.{few}
 use Rattle.lengths.proofs.Refusal.{lay-numbered, lay-accepted}
 use Rattle.lay.specs.Lay.{layOf}
 use Rattle.grid.proofs.Outcome.{refused-leaves, accepted-anew}
@@ -15,44 +14,29 @@ returns : tie.Need-returns
 unfolding layOf
 returns c = refused-leaves _ _ _ (lay-numbered _ _ _ _ _ _ _) _ _ (c .before .lay-refusal .ensures) (c .if1 .taken)
 
-table-requires : tie.Need-table-requires
-table-requires c κs = lay-accepted _ _ _ _ _ _ _ (c .before .lay-refusal .ensures) (c .if1 .left) .fits .lit .valid
-
-carrier-row-requires : tie.Need-carrier-row-requires
-carrier-row-requires c κs =
-    let else = c .before .before in
-    let a = lay-accepted _ _ _ _ _ _ _ (else .before .lay-refusal .ensures) (else .if1 .left) in
-    (a .fits .lit .valid, (a .subchannel-lt, c .before .table .ensures))
-
-shift-requires : tie.Need-shift-requires
-shift-requires c κs =
-    let else = c .before .before .before in
-    let a = lay-accepted _ _ _ _ _ _ _ (else .before .lay-refusal .ensures) (else .if1 .left) in
-    omega (arith, a .subchannel-lt, few (a .fits .lit .valid))
+subchannel-row-requires : tie.Need-subchannel-row-requires
+subchannel-row-requires c κs =
+    let a = lay-accepted _ _ _ _ _ _ _ (c .before .lay-refusal .ensures) (c .if1 .left) in
+    (a .fits .lit .valid, a .subchannel-lt)
 
 lay-row-requires : tie.Need-lay-row-requires
 lay-row-requires c κs =
-    let else = c .before .before .before .before .before .before in
+    let else = c .before .before .before .before in
     let a = lay-accepted _ _ _ _ _ _ _ (else .before .lay-refusal .ensures) (else .if1 .left) in
-    let row = c .before .before .before .carrier-row in
-    let by = c .before .before .shift .ensures in
-    (by .1, omega (arith, a .points-long), row-within (a .fits .lit .valid) _ _ (a .subchannel-lt) (row .result) (row .ensures) _ (by .0) _ (a .fits .grid-long))
+    let row = c .before .before .before .subchannel-row in
+    (row .ensures .0, omega (arith, a .points-long), row-within (a .fits .lit .valid) _ _ (a .subchannel-lt) (row .result) (row .ensures) _ (a .fits .grid-long))
 
 returns-2 : tie.Need-returns-2
 unfolding layOf
 returns-2 c =
-    let else = c .before .before .before .before .before .before .before .before .before in
-    let refusal = else .before .lay-refusal .ensures in
-    let a = lay-accepted _ _ _ _ _ _ _ refusal (else .if1 .left) in
-    let row = c .before .before .before .before .before .before .carrier-row in
-    let by = c .before .before .before .before .before .shift .ensures in
-    accepted-anew _ _ _ (lay-numbered _ _ _ _ _ _ _) _ (sym refusal ∙ else .if1 .left) _
-    (row-laid (a .fits .lit .valid) _ _ (a .subchannel-lt) (row .result) (row .ensures) _ (by .0) _ _ _ (c .before .before .lay-row .ensures)
+    let else = c .before .before .before .before .before .before .before in
+    let a = lay-accepted _ _ _ _ _ _ _ (else .before .lay-refusal .ensures) (else .if1 .left) in
+    let row = c .before .before .before .before .before .before .subchannel-row in
+    accepted-anew _ _ _ (lay-numbered _ _ _ _ _ _ _) _ (sym (else .before .lay-refusal .ensures) ∙ else .if1 .left) _
+    (row-laid (a .fits .lit .valid) _ _ (a .subchannel-lt) (row .result) (row .ensures) _ _ _ (c .before .before .lay-row .ensures)
     ∙ laid-is _ (a .fits .lit .valid) _ _ (a .fits .slot-lt) _ (a .subchannel-lt) (a .subchannel-lit) _ _ (a .fits .grid-long))
 
 pub lay-spec : {M : Type 1} → statement M
 lay-spec =
     tie.close
-    (tie.spec
-    (λ c κs. search needs) returns table-requires carrier-row-requires shift-requires lay-row-requires (λ c. search needs)
-    returns-2)
+    (tie.spec (λ c κs. search needs) returns subchannel-row-requires lay-row-requires (λ c. search needs) returns-2)

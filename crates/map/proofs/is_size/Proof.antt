@@ -1,21 +1,13 @@
 -- `map::is_size` meets its contract.
-use borrow.Author.Tests.{lt-ltb, le-ltb}
+use Rattle.map.proofs.Choice.{choosing}
 use Rattle.map.specs.Question.{isSize}
 use borrow.Author.Needs.{needs}
 use Rattle.map.proofs.is_size.Statement.{statement}
 use Rattle.map.proofs.is_size.Tie as tie
 
-returns : tie.Need-returns
-unfolding isSize
-returns c = simp (lt-ltb _ _ (c .before .if1 .taken))
-
-returns-2 : tie.Need-returns-2
-unfolding isSize
-returns-2 c = rw (c .is-four-sizes .ensures, le-ltb _ _ (c .before .before .before .if1 .left), lt-ltb _ _ (c .before .if2 .taken))
-
-returns-3 : tie.Need-returns-3
-unfolding isSize
-returns-3 c = rw (le-ltb _ _ (c .before .before .if1 .left), le-ltb _ _ (c .if2 .left))
-
 pub is-size-spec : {M : Type 1} → statement M
-is-size-spec = tie.close (tie.spec returns (λ c κs. search needs) returns-2 returns-3)
+unfolding isSize
+is-size-spec =
+    tie.close
+    (tie.spec
+    (λ c. search (choosing, needs)) (λ c. search (choosing, needs)) (λ c κs. search needs) (λ c κs. search needs) (λ c. search (choosing, needs)) (λ c. search (choosing, needs)))

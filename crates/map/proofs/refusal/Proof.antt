@@ -9,7 +9,7 @@ use Rattle.map.proofs.refusal.Statement.{statement}
 use Rattle.map.proofs.refusal.Tie as tie
 
 cells-requires : tie.Need-cells-requires
-cells-requires c κs = (c .before .before .if1 .left, size-most _ (told-yes _ (c .before .is-size .ensures) (c .if2 .left)))
+cells-requires c κs = size-most _ (told-yes _ (c .before .is-size .ensures) (c .if2 .left))
 
 pub refusal-spec : {M : Type 1} → statement M
 unfolding setupRefusal isMode isCell

@@ -1,6 +1,6 @@
 -- `map::spot` meets its contract.
-use Rattle.map.proofs.Choice.{mode-0, mode-1, last-mode}
-use Rattle.map.proofs.ByMode.{in-pusc-dl, in-pusc-ul, ofusc-few, ofusc-spot, amc-asks, amc-few, amc-spot, listed-mode, slot-few}
+use Rattle.map.proofs.Choice.{told-amc, choosing}
+use Rattle.map.proofs.ByMode.{in-pusc-dl, in-pusc-ul, ofusc-few, ofusc-spot, amc-asks, amc-few, amc-spot, slot-few}
 use mathlib.Core.Path.{refl}
 use native.Mathlib.Omega.{arith}
 use Rattle.map.specs.Mode.{spotOf}
@@ -12,16 +12,8 @@ use Rattle.pusc_ul.proofs.spot.Reads as spot-reads′
 spot-requires : tie.Need-spot-requires
 spot-requires c κs = omega (arith, in-pusc-dl (c .before .before .pre .0) (c .if1 .taken))
 
-returns : tie.Need-returns
-unfolding spotOf
-returns c = rw (c .spot .ensures) (search (mode-0, needs))
-
 spot-requires-2 : tie.Need-spot-requires-2
 spot-requires-2 c κs = omega (arith, in-pusc-ul (c .before .before .before .before .pre .0) (c .if2 .taken))
-
-returns-2 : tie.Need-returns-2
-unfolding spotOf
-returns-2 c = rw (c .spot2 .ensures) (search (mode-1, needs))
 
 mul-first : tie.Need-mul-first
 mul-first c =
@@ -40,23 +32,24 @@ bin-spot-requires c κs =
 
 data-number-requires : tie.Need-data-number-requires
 data-number-requires c κs =
-    let p = c .before .before .before .before .before .before .before .before .pre in
-    amc-asks (p .0) (search (last-mode, listed-mode, needs)) _ _ (p .1 .1) (p .1 .2) _ (c .shape .ensures)
+    let p = c .before .before .before .before .before .before .before .before .before .before .pre in
+    amc-asks (p .0) (search (told-amc, needs)) _ _ (p .1 .1) (p .1 .2) _ (c .shape .ensures)
 
 bin-spot-requires-2 : tie.Need-bin-spot-requires-2
 bin-spot-requires-2 c κs =
-    let y = c .before .before .before .before in
+    let y = c .before .before .before .before .before .before in
     let s = y .before .before .before .before .before in
-    let few = amc-few (s .pre .0) (search (last-mode, listed-mode, needs)) _ _ (s .pre .1 .1) (s .pre .1 .2) _ (c .before .shape .ensures) in (
+    let few = amc-few (s .pre .0) (search (told-amc, needs)) _ _ (s .pre .1 .1) (s .pre .1 .2) _ (c .before .shape .ensures) in (
       omega (arith, slot-few (s .pre .0) (s .args .slot) (y .symbols .result) (s .pre .1 .0) (y .symbols .ensures)),
       rw (c .data-number .ensures) (few .0),
       rw (c .data-number .ensures) (few .1),
     )
 
 pub spot-spec : {M : Type 1} → statement M
+unfolding spotOf
 spot-spec =
     tie.close
     (tie.spec
-    spot-requires returns spot-requires-2 returns-2 (λ c κs. search needs) mul-first (λ c κs. search needs)
-    bin-spot-requires (λ c. search (ofusc-spot, needs)) (λ c κs. search needs) data-number-requires bin-spot-requires-2
-    (λ c. search (amc-spot, last-mode, listed-mode, needs)))
+    spot-requires (λ c. search (choosing, needs)) spot-requires-2 (λ c. search (choosing, needs)) (λ c κs. search needs) mul-first (λ c κs. search needs)
+    bin-spot-requires (λ c. search (ofusc-spot, needs)) (λ c κs. search needs) (λ c κs. search needs) data-number-requires bin-spot-requires-2
+    (λ c. search (amc-spot, told-amc, needs)) (λ c. search (choosing, needs)))

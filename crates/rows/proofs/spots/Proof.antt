@@ -5,31 +5,35 @@ use Rattle.rows.proofs.spots.Statement.{statement}
 use Rattle.rows.proofs.spots.Tie as tie
 
 spots-requires : tie.Need-spots-requires
-spots-requires c κs =
-    let p = c .before .before .pre in
-    asks-0 (p .0) _ (p .1 .2) (c .if1 .taken)
+spots-requires c κs = let p = c .before .before .pre in asks-0 (p .0) _ (p .1 .2) (c .if1 .taken)
 
 returns : tie.Need-returns
 returns c = row-0 _ _ _ (c .before .if1 .taken) (c .spots .result) (c .spots .ensures)
 
+table-requires : tie.Need-table-requires
+table-requires c κs =
+    let p = c .before .before .before .pre in
+    let a = asks-2 (p .0) _ (p .1 .2) _ (c .width .ensures) (search (only-ofusc, needs)) in
+    (a .0, a .2)
+
 numbers-requires : tie.Need-numbers-requires
 numbers-requires c κs =
-    let s = c .before .before .before in
-    let a = asks-2 (s .pre .0) _ (s .pre .1 .2) _ (s .args .table .now) (s .pre .1 .3) _ (c .width .ensures) (search (only-ofusc, needs)) in
-    (a .0, (a .1, a .2))
+    let p = c .before .before .before .before .before .pre in
+    let a = asks-2 (p .0) _ (p .1 .2) _ (c .before .before .width .ensures) (search (only-ofusc, needs)) in
+    (a .0, (a .1, c .before .table .ensures))
 
 used-numbers-requires : tie.Need-used-numbers-requires
 used-numbers-requires c κs =
-    let s = c .before .before .before .before in
-    let a = asks-2 (s .pre .0) _ (s .pre .1 .2) _ (s .args .table .now) (s .pre .1 .3) _ (c .before .width .ensures) (search (only-ofusc, needs)) in
+    let p = c .before .before .before .before .before .before .pre in
+    let a = asks-2 (p .0) _ (p .1 .2) _ (c .before .before .before .width .ensures) (search (only-ofusc, needs)) in
     row-below (c .numbers .result) _ (c .numbers .ensures) (λ m h. group-number-lt (a .0) _ _ m (a .1) h)
 
 returns-2 : tie.Need-returns-2
 returns-2 c =
     bin-row (c .before .numbers .result) _ (c .before .numbers .ensures) _ (c .used-numbers .result) (c .used-numbers .ensures) _ _
-    (λ m h. rw (c .before .before .width .ensures) (spot-2 _ _ _ (search (only-ofusc, needs)) m h))
+    (λ m h. rw (c .before .before .before .before .width .ensures) (spot-2 _ _ _ (search (only-ofusc, needs)) m h))
 
 pub spots-spec : {M : Type 1} → statement M
 spots-spec =
     tie.close
-    (tie.spec spots-requires returns (λ c κs. search needs) numbers-requires used-numbers-requires returns-2)
+    (tie.spec spots-requires returns (λ c κs. search needs) table-requires numbers-requires used-numbers-requires returns-2)

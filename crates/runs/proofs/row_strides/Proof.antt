@@ -1,0 +1,13 @@
+-- `runs::row_strides` meets its contract.
+use borrow.Author.Needs.{needs}
+use Rattle.map.proofs.Choice.{choosing}
+use Rattle.runs.specs.Model.{runStride, pointStride}
+use Rattle.runs.proofs.row_strides.Statement.{statement}
+use Rattle.runs.proofs.row_strides.Tie as tie
+
+pub row-strides-spec : {M : Type 1} → statement M
+unfolding runStride pointStride
+row-strides-spec =
+    tie.close
+    (tie.spec
+    (λ c. search (choosing, needs)) (λ c. search (choosing, needs)) (λ c κs. search needs) (λ c. search (choosing, needs)) (λ c. search (choosing, needs)))
