@@ -23,7 +23,7 @@ use Rattle.grid.specs.Grid.{Outcome, outcome}
 use Rattle.empty.specs.Empty.{litStandsAt, emptyOf, emptiedFirst, emptyFirstOf}
 use Rattle.grid.specs.Grid.{Leaves}
 use Rattle.grid.proofs.Outcome.{left, refused-leaves, accepted-anew}
-use Rattle.empty.proofs.Walked.{first-all}
+use Rattle.empty.proofs.Rows.{first-all}
 
 module _ (setup : Setup) (mask slot : ℕ) (grid points : List Float) where
   abbrev lit : ℕ
