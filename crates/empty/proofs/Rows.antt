@@ -21,6 +21,10 @@ use Rattle.row_walk.specs.Model.{TakenTo, Took}
 use Rattle.row_walk.proofs.Taken.{took-then, took-none, at-lt}
 use Rattle.empty.specs.Empty.{litStandsAt, emptied, emptiedFirst}
 
+-- the points by a count, where the points' buffer held `old`
+abbrev pub by-count : (setup : Setup) (mask slot : ℕ) (grid : List Float) (carriers : ℕ) (old : List Float) → ℕ → Point
+by-count setup mask slot grid carriers old n = pick (ltb (litStandsAt setup mask slot n) carriers) (pointAt grid (litStandsAt setup mask slot n)) (pointAt old n)
+
 -- what holds before each turn: the rows before are walked
 abbrev pub SlotTurn : (setup : Setup) (mask slot carriers : ℕ) (grid points₀ points : List Float) (row : ℕ) → Type 0
 SlotTurn setup mask slot carriers grid points₀ points row = (row ≤ symbols setup) × Took setup mask slot carriers grid 0 (row * setup .size) points₀ points
@@ -40,7 +44,7 @@ module _ {setup : Setup} (v : Valid setup) (mask slot carriers : ℕ) (grid poin
       let all : row ≡ symbols setup = omega (arith, t .0) in
       let w : TakenTo setup mask slot carriers grid points₀ (row * setup .size) points =
       t .1 .on points₀ record { taken = λ n hn l. absurd (omega arith); later = λ n hn l. refl; past = λ n hn l. refl } in
-      by-points points (48 * litSubchannels setup mask) _ (omega (arith, t .1 .long))
+      by-points points (48 * litSubchannels setup mask) (by-count setup mask slot grid carriers points₀) (omega (arith, t .1 .long))
       (λ n hn.
       cases (ltb (litStandsAt setup mask slot n) carriers)
       (λ b. rw b (w .taken n hn (rw all (at-lt setup v mask slot n hn)) (ltb-true (litStandsAt setup mask slot n) carriers b)))
@@ -51,8 +55,7 @@ pub first-all : (setup : Setup) → Valid setup → (mask slot carriers : ℕ) (
     → emptiedFirst setup mask slot carriers grid old ≡ emptied setup mask slot grid
 unfolding emptiedFirst emptied
 first-all setup v mask slot carriers grid old enough =
-    by-points (floatsOf (48 * litSubchannels setup mask) first) (48 * litSubchannels setup mask) _ (length-floats (48 * litSubchannels setup mask) first)
-    (λ n h. point-floats (48 * litSubchannels setup mask) first n h ∙ rw (lt-ltb (litStandsAt setup mask slot n) carriers (omega (arith, at-lt setup v mask slot n h))))
-  where
-    first : ℕ → Point
-    first n = pick (ltb (litStandsAt setup mask slot n) carriers) (pointAt grid (litStandsAt setup mask slot n)) (pointAt old n)
+    let n-points = 48 * litSubchannels setup mask in
+    let first = by-count setup mask slot grid carriers old in
+    by-points (floatsOf n-points first) n-points _ (length-floats n-points first)
+    (λ n h. point-floats n-points first n h ∙ rw (lt-ltb (litStandsAt setup mask slot n) carriers (omega (arith, at-lt setup v mask slot n h))))
