@@ -23,8 +23,8 @@ fn empty_rows(
     ensures { λ _. ⌜ now (points .exit) ≡ emptiedFirst (alone setup) mask slot carriers (now (grid .entry)) (now (points .entry)) ⌝ }
 {
     let lit = runs::lit_runs(setup, mask);
-    let runs = runs::run_table(setup, mask);
-    let places = runs::place_table(setup);
+    let runs = point_numbers::run_table(setup, mask);
+    let places = point_numbers::place_table(setup);
     let symbols = map::symbols(setup);
     let mut row = 0;
     while row < symbols {

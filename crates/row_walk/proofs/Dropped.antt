@@ -20,9 +20,10 @@ use Rattle.points.specs.Points.{pointAt}
 use Rattle.points.specs.Model.{puts, RunWithin}
 use Rattle.points.proofs.Points.{puts-as}
 use Rattle.runs.specs.declared.Runs.{Runs}
-use Rattle.runs.specs.Model.{runStep, runCount, runsOf, runPlace, runPoints, pointsWithin, runNumber, runStride, pointStride, RowNumbers}
+use Rattle.runs.specs.Model.{runStep, runCount, runsOf, runPlace, runPoints, pointsWithin}
+use Rattle.point_numbers.specs.Model.{runNumber, runStride, pointStride, RowNumbers}
 use Rattle.runs.proofs.Law.{run-law, within-place, within-few}
-use Rattle.runs.proofs.Filled.{in-table, from-below}
+use Rattle.point_numbers.proofs.Filled.{in-table, from-below}
 use Rattle.lengths.specs.Length.{gridPoints}
 use Rattle.lengths.proofs.Refusal.{grid-few}
 use Rattle.grid.specs.Row.{columnPosition, usedPosition}

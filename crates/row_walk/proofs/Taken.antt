@@ -31,9 +31,10 @@ use Rattle.points.specs.Points.{pointAt}
 use Rattle.points.specs.Model.{puts, RunWithin}
 use Rattle.points.proofs.Points.{length-puts, puts-miss, puts-hit, puts-as}
 use Rattle.runs.specs.declared.Runs.{Runs}
-use Rattle.runs.specs.Model.{runStep, runCount, runsOf, runPlace, pointsBelow, runPoints, pointsWithin, numberAt, runNumber, runStride, pointStride, RowNumbers}
+use Rattle.runs.specs.Model.{runStep, runCount, runsOf, runPlace, pointsBelow, runPoints, pointsWithin}
+use Rattle.point_numbers.specs.Model.{numberAt, runNumber, runStride, pointStride, RowNumbers}
 use Rattle.runs.proofs.Law.{RunLaw, run-law, no-pilot, back, place-below, below-place, within-place, place-within, within-few}
-use Rattle.runs.proofs.Filled.{in-table}
+use Rattle.point_numbers.proofs.Filled.{in-table}
 use Rattle.lengths.specs.Length.{gridPoints}
 use Rattle.grid.specs.Row.{columnPosition, usedPosition}
 use Rattle.grid.specs.Grid.{standsAt}

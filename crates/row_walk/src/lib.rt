@@ -1,7 +1,7 @@
 // The points on one row of a slot's grid taken off, by rising carrier: run after run, each point dropped at its number.
 use map::Setup;
+use point_numbers::Strides;
 use runs::Runs;
-use runs::Strides;
 ghost use mathlib.Core.Path.{_≡_};
 ghost use Prim.Native.Nat.{_+_, _*_, _<_, _≤_};
 ghost use lib.ListN.{length};
@@ -10,7 +10,8 @@ ghost use Rattle.map.specs.Setup.{alone};
 ghost use Rattle.map.specs.Mode.{symbols};
 ghost use Rattle.map.specs.Model.{Valid};
 ghost use Rattle.mask.specs.Mask.{litSubchannels};
-ghost use Rattle.runs.specs.Model.{LitRuns, runCount, runsOf, runPlace, runPoints, runStride, pointStride, RowNumbers, RunTable, PlaceTable};
+ghost use Rattle.runs.specs.Model.{LitRuns, runCount, runsOf, runPlace, runPoints};
+ghost use Rattle.point_numbers.specs.Model.{runStride, pointStride, RowNumbers, RunTable, PlaceTable};
 ghost use Rattle.lengths.specs.Length.{gridPoints};
 ghost use Rattle.row_walk.specs.Model.{Took, runStart};
 
@@ -80,8 +81,8 @@ pub fn empty_row(
     let shape = runs::symbol_runs(setup, slot * map::symbols(setup) + row);
     let all = runs::run_points(shape);
     let its_places = runs::run_places(shape);
-    let strides = runs::row_strides(setup);
-    let numbers = runs::row_numbers(setup, mask, slot, row, shape.count, runs, places);
+    let strides = point_numbers::row_strides(setup);
+    let numbers = point_numbers::row_numbers(setup, mask, slot, row, shape.count, runs, places);
     let band = map::band(setup);
     let mut i = 0;
     while i < shape.count {

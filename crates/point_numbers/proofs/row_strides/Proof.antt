@@ -1,10 +1,10 @@
--- `runs::row_strides` meets its contract.
+-- `point_numbers::row_strides` meets its contract.
 use Prim.Native.Nat.{ℕ}
 use Rattle.map.proofs.Choice.{mode-0, mode-1, mode-bins}
 use Rattle.map.proofs.ByMode.{listed-mode}
-use Rattle.runs.specs.Model.{runStride, pointStride}
-use Rattle.runs.proofs.row_strides.Statement.{statement}
-use Rattle.runs.proofs.row_strides.Tie as tie
+use Rattle.point_numbers.specs.Model.{runStride, pointStride}
+use Rattle.point_numbers.proofs.row_strides.Statement.{statement}
+use Rattle.point_numbers.proofs.row_strides.Tie as tie
 
 returns-3 : tie.Need-returns-3
 unfolding runStride pointStride
