@@ -7,7 +7,6 @@ use lib.Dec.{eqb, ltb}
 use lib.ListN.{length}
 use lib.Ieee.{Float}
 use borrow.Author.Tests.{eqb-true, eqb-false, ltb-false, le-ltb}
-use Rattle.base.specs.Choice.{pick}
 use Rattle.base.specs.Answer.{accepted}
 use Rattle.base.proofs.Test.{cases}
 use Rattle.map.specs.Setup.{Setup}
@@ -23,32 +22,28 @@ use Rattle.grid.specs.Grid.{Outcome, outcome}
 use Rattle.empty.specs.Empty.{litStandsAt, emptyOf, emptiedFirst, emptyFirstOf}
 use Rattle.grid.specs.Grid.{Leaves}
 use Rattle.grid.proofs.Outcome.{left, refused-leaves, accepted-anew}
-use Rattle.empty.proofs.Walked.{first-all}
+use Rattle.empty.proofs.Rows.{by-count, first-all}
 
 module _ (setup : Setup) (mask slot : ℕ) (grid points : List Float) where
   abbrev lit : ℕ
   lit = litSubchannels setup mask
-
-  -- the points by a count, where the points' buffer held `old`
-  abbrev by-count : (carriers : ℕ) (old : List Float) → ℕ → Point
-  by-count carriers old n = pick (ltb (litStandsAt setup mask slot n) carriers) (pointAt grid (litStandsAt setup mask slot n)) (pointAt old n)
 
   abbrev first : (carriers : ℕ) → List Float
   first carriers = emptiedFirst setup mask slot carriers grid points
 
   first-long : (carriers : ℕ) → length (first carriers) ≡ 96 * lit
   unfolding emptiedFirst
-  first-long carriers = length-floats (48 * lit) (by-count carriers points) ∙ omega arith
+  first-long carriers = length-floats (48 * lit) (by-count setup mask slot grid carriers points) ∙ omega arith
 
-  first-at : (carriers n : ℕ) → n < 48 * lit → pointAt (first carriers) n ≡ by-count carriers points n
+  first-at : (carriers n : ℕ) → n < 48 * lit → pointAt (first carriers) n ≡ by-count setup mask slot grid carriers points n
   unfolding emptiedFirst
-  first-at carriers n h = point-floats (48 * lit) (by-count carriers points) n h
+  first-at carriers n h = point-floats (48 * lit) (by-count setup mask slot grid carriers points) n h
 
   -- none is taken
   none-first : length points ≡ 96 * lit → first 0 ≡ points
   unfolding emptiedFirst
   none-first long =
-      sym (by-points points (48 * lit) (by-count 0 points) (omega arith) (λ n h. rw (le-ltb (litStandsAt setup mask slot n) 0 (omega arith))))
+      sym (by-points points (48 * lit) (by-count setup mask slot grid 0 points) (omega arith) (λ n h. rw (le-ltb (litStandsAt setup mask slot n) 0 (omega arith))))
 
   -- ---- the outcome, of empty and of this alike
 
@@ -100,7 +95,7 @@ module _ (setup : Setup) (mask slot : ℕ) (grid points : List Float) where
     unfolding emptyFirstOf
     left-first = left _ _ _ (empty-numbered setup mask slot (length points) (length grid) (accepted (first carriers))) _ next e
 
-    pub left-at : (n : ℕ) → n < 48 * lit → pointAt next n ≡ by-count carriers points n
+    pub left-at : (n : ℕ) → n < 48 * lit → pointAt next n ≡ by-count setup mask slot grid carriers points n
     left-at n h = ap (λ (l : List Float). pointAt l n) (left-first .1) ∙ first-at carriers n h
 
 -- a first count, and then a larger one, of a grid that more has come into since
@@ -112,15 +107,15 @@ module _ (setup : Setup) (mask slot : ℕ) (earlier grid points : List Float) (a
   more-first : emptiedFirst setup mask slot more grid before ≡ emptiedFirst setup mask slot more grid points
   unfolding emptiedFirst
   more-first =
-      by-points (floatsOf (48 * all) again) (48 * all) (by-count setup mask slot grid points more points) (length-floats (48 * all) again) (λ n h. point-floats (48 * all) again n h ∙ same n h)
+      by-points (floatsOf (48 * all) again) (48 * all) (by-count setup mask slot grid more points) (length-floats (48 * all) again) (λ n h. point-floats (48 * all) again n h ∙ same n h)
     where
       all : ℕ
       all = litSubchannels setup mask
 
       again : ℕ → Point
-      again = by-count setup mask slot grid points more before
+      again = by-count setup mask slot grid more before
 
-      same : (n : ℕ) → n < 48 * all → again n ≡ by-count setup mask slot grid points more points n
+      same : (n : ℕ) → n < 48 * all → again n ≡ by-count setup mask slot grid more points n
       same n h =
           let at = litStandsAt setup mask slot n in
           cases (ltb at more)

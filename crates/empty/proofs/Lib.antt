@@ -1,4 +1,3 @@
 -- Laws of emptying.
-pub mod Walked
-pub mod Dropped
+pub mod Rows
 pub mod First

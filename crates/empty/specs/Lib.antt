@@ -1,2 +1,1 @@
 pub mod Empty
-pub mod Model

@@ -1,115 +1,13 @@
-// The lit subchannels' points taken off a slot's grid, by rising carrier.
+// The lit subchannels' points taken off a slot's grid, row after row.
 use map::Setup;
-use runs::Runs;
-use runs::Strides;
 ghost use mathlib.Core.Path.{_≡_};
-ghost use Prim.Native.Nat.{_+_, _*_, _<_, _≤_};
+ghost use Prim.Native.Nat.{_*_, _<_};
 ghost use lib.ListN.{length};
-ghost use Rattle.base.specs.Tabulate.{tabulate};
 ghost use Rattle.map.specs.Setup.{alone};
-ghost use Rattle.map.specs.Mode.{symbols};
 ghost use Rattle.map.specs.Model.{Valid};
 ghost use Rattle.mask.specs.Mask.{litSubchannels};
-ghost use Rattle.runs.specs.Model.{LitRuns, runCount, runsOf, runPlace, runPoints, runStride, pointStride, RowNumbers, RunTable, PlaceTable};
 ghost use Rattle.lengths.specs.Length.{gridPoints};
 ghost use Rattle.empty.specs.Empty.{emptiedFirst, emptyOf, emptyFirstOf};
-ghost use Rattle.empty.specs.Model.{RowWalked, runStart, dropped};
-
-// The points on run i of a row, those among the first `carriers` of the grid, dropped at their numbers; none where it is not
-// lit.
-fn drop_run(
-    setup: Setup,
-    mask: usize,
-    slot: usize,
-    row: usize,
-    i: usize,
-    start: usize,
-    carriers: usize,
-    shape: Runs,
-    all: usize,
-    its_places: &[u16; 12],
-    lit: &[u8; 120],
-    strides: Strides,
-    numbers: &[u16; 1680],
-    grid: &[f32],
-    points: &mut [f32],
-)
-    requires { ⌜ Valid (alone setup) ⌝ }
-    requires { ⌜ (row < symbols (alone setup)) × (i < runCount (alone setup)) × (start ≡ runStart (alone setup) row i) × (start ≤ carriers) × (length (now points) ≡ 96 * litSubchannels (alone setup) mask) × (length (now grid) ≡ 2 * gridPoints (alone setup)) ⌝ }
-    requires { ⌜ (shape ≡ runsOf (alone setup) (slot * symbols (alone setup) + row)) × (all ≡ runPoints shape) × (now «its_places» ≡ tabulate 12 (runPlace shape)) × LitRuns (alone setup) mask (now lit) ⌝ }
-    requires { ⌜ (strides .run ≡ runStride (alone setup)) × (strides .point ≡ pointStride (alone setup)) × RowNumbers (alone setup) mask (slot * symbols (alone setup) + row) (now numbers) ⌝ }
-    ensures { λ _. ⌜ now (points .exit) ≡ dropped (alone setup) mask slot carriers row i (now (grid .entry)) (now (points .entry)) ⌝ }
-{
-    if runs::run_lit(setup, lit, i) == 0 {
-        return;
-    }
-    let n = runs::points_within(shape, all, carriers - start);
-    points::drop_run(
-        numbers,
-        i * strides.run,
-        strides.point,
-        its_places,
-        start,
-        n,
-        grid,
-        points,
-    );
-}
-
-// The points on all runs of a row dropped at their numbers, up to the first run that lies past the first `carriers` of the grid.
-fn empty_row(
-    setup: Setup,
-    mask: usize,
-    slot: usize,
-    row: usize,
-    carriers: usize,
-    lit: &[u8; 120],
-    runs: &[u16; 120],
-    places: &[u16; 48],
-    grid: &[f32],
-    points: &mut [f32],
-)
-    requires { ⌜ Valid (alone setup) ⌝ }
-    requires { ⌜ (slot < 512) × (row < symbols (alone setup)) × (length (now points) ≡ 96 * litSubchannels (alone setup) mask) × (length (now grid) ≡ 2 * gridPoints (alone setup)) ⌝ }
-    requires { ⌜ LitRuns (alone setup) mask (now lit) × RunTable (alone setup) mask (now runs) × PlaceTable (alone setup) (now places) ⌝ }
-    ensures { λ _. ⌜ RowWalked (alone setup) mask slot carriers row (now (grid .entry)) (now (points .entry)) (now (points .exit)) ⌝ }
-{
-    let first = row * setup.size;
-    if carriers <= first {
-        return;
-    }
-    let shape = runs::symbol_runs(setup, slot * map::symbols(setup) + row);
-    let all = runs::run_points(shape);
-    let its_places = runs::run_places(shape);
-    let strides = runs::row_strides(setup);
-    let numbers = runs::row_numbers(setup, mask, slot, row, shape.count, runs, places);
-    let band = map::band(setup);
-    let mut i = 0;
-    while i < shape.count {
-        let start = first + carriers::carrier(band, i * shape.step);
-        if carriers <= start {
-            return;
-        }
-        drop_run(
-            setup,
-            mask,
-            slot,
-            row,
-            i,
-            start,
-            carriers,
-            shape,
-            all,
-            &its_places,
-            lit,
-            strides,
-            &numbers,
-            grid,
-            points,
-        );
-        i += 1;
-    }
-}
 
 // The points on the first `carriers` of the grid dropped at their numbers, row after row.
 fn empty_rows(
@@ -125,12 +23,12 @@ fn empty_rows(
     ensures { λ _. ⌜ now (points .exit) ≡ emptiedFirst (alone setup) mask slot carriers (now (grid .entry)) (now (points .entry)) ⌝ }
 {
     let lit = runs::lit_runs(setup, mask);
-    let runs = runs::run_table(setup, mask);
-    let places = runs::place_table(setup);
+    let runs = point_numbers::run_table(setup, mask);
+    let places = point_numbers::place_table(setup);
     let symbols = map::symbols(setup);
     let mut row = 0;
     while row < symbols {
-        empty_row(
+        row_walk::empty_row(
             setup,
             mask,
             slot,

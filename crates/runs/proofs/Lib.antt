@@ -1,4 +1,2 @@
--- Runs are the map's pilots and points, with the numbers of these.
+-- Runs are the map's pilots and points.
 pub mod Law
-pub mod Numbers
-pub mod Filled

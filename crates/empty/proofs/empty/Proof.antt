@@ -5,7 +5,7 @@ use borrow.Author.Needs.{needs}
 use Rattle.lengths.proofs.Refusal.{mask-few, empty-numbered, empty-accepted}
 use Rattle.empty.specs.Empty.{emptyOf}
 use Rattle.grid.proofs.Outcome.{refused-leaves, accepted-anew}
-use Rattle.empty.proofs.Walked.{first-all}
+use Rattle.empty.proofs.Rows.{first-all}
 use Rattle.empty.proofs.empty.Statement.{statement}
 use Rattle.empty.proofs.empty.Tie as tie
 

@@ -1,13 +1,13 @@
--- `runs::numbers_by_run` meets its contract.
+-- `point_numbers::numbers_by_run` meets its contract.
 use Prim.Native.Nat.{_+_, _-_, _*_, _<_, _≤_}
 use native.Mathlib.Omega.{arith}
 use borrow.Author.Needs.{needs}
 use Rattle.map.specs.Setup.{alone}
 use Rattle.map.specs.Mode.{symbols}
 use Rattle.runs.specs.Model.{runCount}
-use Rattle.runs.proofs.Filled.{RunsTurn, by-run, runs-none, runs-next, runs-all}
-use Rattle.runs.proofs.numbers_by_run.Statement.{statement}
-use Rattle.runs.proofs.numbers_by_run.Tie as tie
+use Rattle.point_numbers.proofs.Filled.{RunsTurn, by-run, runs-none, runs-next, runs-all}
+use Rattle.point_numbers.proofs.numbers_by_run.Statement.{statement}
+use Rattle.point_numbers.proofs.numbers_by_run.Tie as tie
 
 abbrev Inv-loop : tie.InvT-loop
 Inv-loop setup mask slot row count runs places stride numbers₀ i₀ numbers i = RunsTurn (alone setup) mask (slot * symbols (alone setup) + row) numbers i

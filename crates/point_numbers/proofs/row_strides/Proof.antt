@@ -1,9 +1,9 @@
--- `runs::row_strides` meets its contract.
+-- `point_numbers::row_strides` meets its contract.
 use borrow.Author.Needs.{needs}
 use Rattle.map.proofs.Choice.{choosing}
-use Rattle.runs.specs.Model.{runStride, pointStride}
-use Rattle.runs.proofs.row_strides.Statement.{statement}
-use Rattle.runs.proofs.row_strides.Tie as tie
+use Rattle.point_numbers.specs.Model.{runStride, pointStride}
+use Rattle.point_numbers.proofs.row_strides.Statement.{statement}
+use Rattle.point_numbers.proofs.row_strides.Tie as tie
 
 pub row-strides-spec : {M : Type 1} → statement M
 unfolding runStride pointStride

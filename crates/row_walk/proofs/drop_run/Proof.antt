@@ -1,4 +1,4 @@
--- `empty::drop_run` meets its contract.
+-- `row_walk::drop_run` meets its contract.
 use mathlib.Core.Path.{_≡_}
 use mathlib.Core.Bool.{true}
 use Prim.Native.Nat.{_*_}
@@ -7,15 +7,16 @@ use Rattle.map.specs.Setup.{alone}
 use Rattle.mask.specs.Mask.{isUsedLit}
 use Rattle.runs.specs.Model.{runStep}
 use Rattle.runs.proofs.Law.{run-is, run-dark, run-bright}
-use Rattle.empty.proofs.Dropped.{dark-run, run-asks, lit-dropped, from-small}
-use Rattle.empty.proofs.drop_run.Statement.{statement}
-use Rattle.empty.proofs.drop_run.Tie as tie
+use Rattle.row_walk.proofs.Taken.{dark-run}
+use Rattle.row_walk.proofs.Dropped.{run-asks, run-dropped, from-small}
+use Rattle.row_walk.proofs.drop_run.Statement.{statement}
+use Rattle.row_walk.proofs.drop_run.Tie as tie
 
 returns : tie.Need-returns
 returns c =
     let start = c .before .before .before .before in
-    dark-run _ (start .pre .0) (start .args .mask) (start .args .slot) _ _ (start .pre .1 .0 .0) (start .pre .1 .0 .1) _ _ _
-    (run-dark (start .pre .0) (start .args .mask) (start .args .lit .now) (start .pre .1 .1 .0 .3) _ (start .pre .1 .0 .1) _ (c .before .run-lit .ensures) (c .if1 .taken))
+    dark-run _ (start .pre .0) _ _ _ _ (start .pre .1 .0 .0) (start .pre .1 .0 .1)
+    (run-dark (start .pre .0) (start .args .mask) (start .args .lit .now) (start .pre .1 .1 .0 .3) _ (start .pre .1 .0 .1) _ (c .before .run-lit .ensures) (c .if1 .taken)) _ _ _
 
 bright : (c : tie.Else1) → let start = c .before .before .before .before in isUsedLit (alone (start .args .setup)) (start .args .mask) (start .args .i * runStep (alone (start .args .setup))) ≡ true
 bright c =
@@ -32,9 +33,9 @@ drop-run-requires c κs =
 returns-2 : tie.Need-returns-2
 returns-2 c =
     let start = c .before .before .before .before .before .before .before .before .before .before in
-    lit-dropped _ (start .pre .0) (start .args .mask) (start .args .slot) _ _ (start .pre .1 .0 .0) (start .pre .1 .0 .1) (start .args .grid .now) (start .args .points .now) (bright (c .before .before .before .before .before .before))
+    run-dropped _ (start .pre .0) (start .args .mask) (start .args .slot) _ _ (start .pre .1 .0 .0) (start .pre .1 .0 .1) (start .args .grid .now) (start .args .points .now) (bright (c .before .before .before .before .before .before))
     _ (start .args .carriers) (start .pre .1 .0 .2) _ (start .pre .1 .1 .0 .0) (start .args .its-places .now) (start .pre .1 .1 .0 .2) _ _ (start .pre .1 .1 .1 .0) (start .pre .1 .1 .1 .1)
-    (start .args .numbers .now) (start .pre .1 .1 .1 .2) _ (c .before .before .before .before .before .points-within .ensures) _ (c .before .before .drop-run .ensures)
+    (start .args .numbers .now) (start .pre .1 .1 .1 .2) _ (c .before .before .before .before .before .points-within .ensures) (start .pre .1 .0 .4) _ (c .before .before .drop-run .ensures)
 
 pub drop-run-spec : {M : Type 1} → statement M
 drop-run-spec =

@@ -1,10 +1,10 @@
--- `runs::put_run` meets its contract.
+-- `point_numbers::put_run` meets its contract.
 use mathlib.Core.Path.{refl}
 use Prim.Native.Nat.{_-_}
 use borrow.Author.Needs.{needs}
-use Rattle.runs.proofs.Filled.{PutTurn, put-none, put-next, put-all}
-use Rattle.runs.proofs.put_run.Statement.{statement}
-use Rattle.runs.proofs.put_run.Tie as tie
+use Rattle.point_numbers.proofs.Filled.{PutTurn, put-none, put-next, put-all}
+use Rattle.point_numbers.proofs.put_run.Statement.{statement}
+use Rattle.point_numbers.proofs.put_run.Tie as tie
 
 abbrev Inv-loop : tie.InvT-loop
 Inv-loop numbers₀ from own j₀ numbers j = PutTurn numbers₀ own from numbers j

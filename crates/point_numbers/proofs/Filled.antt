@@ -20,8 +20,9 @@ use Rattle.map.proofs.Choice.{at-1, at-bins, by-mode}
 use Rattle.map.proofs.ByMode.{bin-width}
 use Rattle.mask.specs.Mask.{isUsedLit}
 use Rattle.clusters.specs.Cluster.{firstPilot, secondPilot}
-use Rattle.runs.specs.Model.{runStep, runCount, tileRuns, runFirst, runSecond, runsOf, runPoints, runNumber, runStride, pointStride, NumbersBelow, RowNumbers, RunPut}
+use Rattle.runs.specs.Model.{runStep, runCount, tileRuns, runFirst, runSecond, runsOf, runPoints}
+use Rattle.point_numbers.specs.Model.{runNumber, runStride, pointStride, NumbersBelow, RowNumbers, RunPut}
 use Rattle.runs.proofs.Law.{run-law, bin-runs, bin-apart, runs-bins, one-point, two-points, cluster-apart, few-points}
 
 -- what holds before each turn of the loop that puts a run: the first j are put
 pub record PutTurn (before own : List ℕ) (from : ℕ) (after : List ℕ) (j : ℕ) : Type 0 where

@@ -1,10 +1,10 @@
--- `runs::run_table` meets its contract.
+-- `point_numbers::run_table` meets its contract.
 use native.Mathlib.Omega.{arith}
 use lib.ListN.{replicate}
 use Rattle.map.proofs.ByMode.{listed-mode, in-pusc-dl, in-pusc-ul}
-use Rattle.runs.proofs.Numbers.{to-table, clusters-as, tiles-as, no-runs}
-use Rattle.runs.proofs.run_table.Statement.{statement}
-use Rattle.runs.proofs.run_table.Tie as tie
+use Rattle.point_numbers.proofs.Numbers.{to-table, clusters-as, tiles-as, no-runs}
+use Rattle.point_numbers.proofs.run_table.Statement.{statement}
+use Rattle.point_numbers.proofs.run_table.Tie as tie
 
 pub run-table-spec : {M : Type 1} → statement M
 run-table-spec =

@@ -1,7 +1,7 @@
--- `runs::row_numbers` meets its contract.
-use Rattle.runs.proofs.Numbers.{asks-1, numbers-1}
-use Rattle.runs.proofs.row_numbers.Statement.{statement}
-use Rattle.runs.proofs.row_numbers.Tie as tie
+-- `point_numbers::row_numbers` meets its contract.
+use Rattle.point_numbers.proofs.Numbers.{asks-1, numbers-1}
+use Rattle.point_numbers.proofs.row_numbers.Statement.{statement}
+use Rattle.point_numbers.proofs.row_numbers.Tie as tie
 
 row-numbers-requires : tie.Need-row-numbers-requires
 row-numbers-requires c κs =

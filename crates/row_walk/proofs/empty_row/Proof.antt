@@ -1,6 +1,6 @@
--- `empty::empty_row` meets its contract.
+-- `row_walk::empty_row` meets its contract.
 use mathlib.Core.Path.{_≡_, refl, ap, _∙_}
-use Prim.Native.Nat.{ℕ, _+_, _-_, _*_, _<_}
+use Prim.Native.Nat.{ℕ, _+_, _-_, _*_, _<_, _≤_}
 use native.Mathlib.Omega.{arith}
 use borrow.Author.Needs.{needs}
 use Rattle.carriers.specs.declared.Band.{Band}
@@ -10,24 +10,21 @@ use Rattle.map.specs.Mode.{symbols}
 use Rattle.map.proofs.ByMode.{few, slot-few, row-few}
 use Rattle.runs.specs.declared.Runs.{Runs}
 use Rattle.runs.specs.Model.{runStep, runCount, runsOf}
-use Rattle.runs.proofs.Law.{some-run}
-use Rattle.empty.specs.Model.{runStart}
-use Rattle.empty.proofs.Dropped.{RowTurn, row-first, row-start, row-next, row-done, row-over, run-used, start-small, start-is}
-use Rattle.empty.proofs.empty_row.Statement.{statement}
-use Rattle.empty.proofs.empty_row.Tie as tie
+use Rattle.row_walk.specs.Model.{Took, runStart}
+use Rattle.row_walk.proofs.Taken.{took-then, took-past, row-start, row-done, row-over}
+use Rattle.row_walk.proofs.Dropped.{start-used, start-small, start-is}
+use Rattle.row_walk.proofs.empty_row.Statement.{statement}
+use Rattle.row_walk.proofs.empty_row.Tie as tie
 
 abbrev Inv-loop : tie.InvT-loop
-Inv-loop setup mask slot row carriers lit runs places grid points₀ first shape all its-places strides numbers band i₀ points i = RowTurn (alone setup) mask slot carriers row grid points₀ points i
+Inv-loop setup mask slot row carriers lit runs places grid points₀ first shape all its-places strides numbers band i₀ points i = (i ≤ runCount (alone setup)) × Took (alone setup) mask slot carriers grid (row * setup .size) (runStart (alone setup) row i) points₀ points
 
 abbrev μ-loop : tie.MeasureT-loop
 μ-loop setup mask slot row carriers lit runs places grid points₀ first shape all its-places strides numbers band i₀ points i = shape .count - i
 
 -- a row past the count
 returns : tie.Need-returns Inv-loop μ-loop
-returns c =
-    let start = c .before .before .before .before in
-    let past = c .if1 .taken in
-    row-over (row-start _ _ _ _ _ _ _) (start .pre .0) (start .pre .1 .0 .1) (some-run (start .pre .0)) (omega (arith, row-first (alone (start .args .setup)) (start .args .row)))
+returns c = took-past _ _ _ (omega arith) (c .if1 .taken)
 
 -- the runs of the row's symbol
 shape-at : (c : tie.After-row-strides Inv-loop μ-loop) → let start = c .before .before .before .before .before .before .before .before .before in c .before .before .before .symbol-runs .result ≡ runsOf (alone (start .args .setup)) (start .args .slot * symbols (alone (start .args .setup)) + start .args .row)
@@ -54,7 +51,7 @@ used-lt : (c : tie.Then2 Inv-loop μ-loop) → c .before .before .loop .i * c .b
 used-lt c =
     let start = c .before .before .before .before .before .before .before .before .before .before .before .before .before .before in
     let f = few (start .pre .0) in
-    rw (step-is (c .before .before)) (omega (arith, run-used _ (start .pre .0) (start .args .row) _ (start .pre .1 .0 .1) (run-lt c), f .used-few))
+    rw (step-is (c .before .before)) (omega (arith, start-used _ (start .pre .0) (start .args .row) _ (start .pre .1 .0 .1) (run-lt c), f .used-few))
 
 -- and starts where it is worked out to
 run-start : (c : tie.After-carrier Inv-loop μ-loop) → let start = c .before .before .before .before .before .before .before .before .before .before .before .before .before .before .before .before in start .args .row * start .args .setup .size + c .carrier .result ≡ runStart (alone (start .args .setup)) (start .args .row) (c .before .before .before .before .loop .i)
@@ -76,14 +73,14 @@ carrier-requires c κs =
 returns-2 : tie.Need-returns-2 Inv-loop μ-loop
 returns-2 c =
     let start = c .before .before .before .before .before .before .before .before .before .before .before .before .before .before .before .before .before in
-    row-over (c .before .before .before .before .before .loop .inv) (start .pre .0) (start .pre .1 .0 .1) (run-lt (c .before .before .before)) (omega (arith, run-start (c .before), c .if3 .taken))
+    took-then (c .before .before .before .before .before .loop .inv .1) (row-over _ (start .pre .0) _ _ _ _ _ _ _ (run-lt (c .before .before .before)) (omega (arith, run-start (c .before), c .if3 .taken)))
 
 drop-run-requires : tie.Need-drop-run-requires Inv-loop μ-loop
 drop-run-requires c κs =
     let start = c .before .before .before .before .before .before .before .before .before .before .before .before .before .before .before .before .before .before .before .before in (
       start .pre .0,
       (
-        (start .pre .1 .0 .1, run-lt (c .before .before .before .before .before .before), run-start (c .before .before .before .before), omega (arith, c .before .before .before .if3 .left), c .before .before .before .before .before .before .before .before .loop .inv .long ∙ start .pre .1 .0 .2, start .pre .1 .0 .3),
+        (start .pre .1 .0 .1, run-lt (c .before .before .before .before .before .before), run-start (c .before .before .before .before), omega (arith, c .before .before .before .if3 .left), c .before .before .before .before .before .before .before .before .loop .inv .1 .long ∙ start .pre .1 .0 .2, start .pre .1 .0 .3),
         (
           (shape-is (c .before .before .before .before .before .before .before .before), c .before .before .before .before .before .before .before .before .before .before .before .before .before .run-points .ensures, c .before .before .before .before .before .before .before .before .before .before .before .before .run-places .ensures, start .pre .1 .1 .0),
           (c .before .before .before .before .before .before .before .before .before .before .before .row-strides .ensures .0, c .before .before .before .before .before .before .before .before .before .before .before .row-strides .ensures .1, c .before .before .before .before .before .before .before .before .before .before .row-numbers .ensures),
@@ -92,9 +89,7 @@ drop-run-requires c κs =
     )
 
 loop-again : tie.Need-loop-again Inv-loop μ-loop
-loop-again c =
-    let start = c .before .before .before .before .before .before .before .before .before .before .before .before .before .before .before .before .before .before .before .before .before .before .before in
-    row-next (c .before .before .before .before .before .before .before .before .before .before .before .loop .inv) (start .pre .0) (start .pre .1 .0 .1) (run-lt (c .before .before .before .before .before .before .before .before .before)) (start .pre .1 .0 .2) _ (c .before .before .drop-run .ensures)
+loop-again c = (omega (arith, run-lt (c .before .before .before .before .before .before .before .before .before)), took-then (c .before .before .before .before .before .before .before .before .before .before .before .loop .inv .1) (c .before .before .drop-run .ensures))
 
 pub empty-row-spec : {M : Type 1} → statement M
 empty-row-spec =
@@ -104,8 +99,8 @@ empty-row-spec =
     (λ c. omega (arith, slot-few (c .before .before .before .before .before .pre .0) _ _ (c .before .before .before .before .before .pre .1 .0 .0) (c .symbols .ensures)))
     (λ c. omega (arith, slot-few (c .before .before .before .before .before .pre .0) _ _ (c .before .before .before .before .before .pre .1 .0 .0) (c .symbols .ensures), few (c .before .before .before .before .before .pre .0) .symbols-few, c .before .before .before .before .before .pre .1 .0 .1))
     (λ c κs. search needs) (λ c κs. search needs) (λ c κs. search needs) (λ c κs. search needs) row-numbers-requires (λ c κs. search needs)
-    (λ c. row-start _ _ _ _ _ _ _) (λ c. omega (arith, used-lt (c .before))) carrier-requires (λ c. omega (arith, small c))
-    (λ c. c .before .before .before .before .before .loop .inv .long) returns-2 drop-run-requires (λ c. omega (arith, run-lt (c .before .before .before .before .before .before .before .before .before)))
+    (λ c. (omega arith, row-start _ (c .before .before .before .before .before .before .before .before .before .before .before .pre .0) _ _ _ _ _ _)) (λ c. omega (arith, used-lt (c .before))) carrier-requires (λ c. omega (arith, small c))
+    (λ c. c .before .before .before .before .before .loop .inv .1 .long) returns-2 drop-run-requires (λ c. omega (arith, run-lt (c .before .before .before .before .before .before .before .before .before)))
     (λ c. omega (arith, c .before .before .before .before .before .before .before .before .before .if2 .taken)) loop-again
-    (λ c. c .before .before .loop .inv .long)
-    (λ c. row-done (c .before .before .loop .inv) (c .before .before .before .before .before .before .before .before .before .before .before .before .before .before .pre .0) (c .before .before .before .before .before .before .before .before .before .before .before .before .before .before .pre .1 .0 .1) (omega (arith, ap (λ (b : Runs). b .count) (shape-is (c .before .before)), c .if2 .left))))
+    (λ c. c .before .before .loop .inv .1 .long)
+    (λ c. took-then (c .before .before .loop .inv .1) (row-done _ (c .before .before .before .before .before .before .before .before .before .before .before .before .before .before .pre .0) _ _ _ _ _ _ _ (c .before .before .loop .inv .0) (omega (arith, ap (λ (b : Runs). b .count) (shape-is (c .before .before)), c .if2 .left)))))

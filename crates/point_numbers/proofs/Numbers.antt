@@ -31,9 +31,10 @@ use Rattle.mask.specs.Mask.{isLit, isUsedLit}
 use Rattle.clusters.specs.Cluster.{firstPilot, secondPilot, clusterPlace}
 use Rattle.pusc_dl_lit.specs.Lit.{hasGroup}
 use Rattle.pusc_dl.specs.Map.{usedGroup}
 use Rattle.runs.specs.declared.Runs.{Runs}
-use Rattle.runs.specs.Model.{runStep, runCount, tileRuns, runFirst, runSecond, runsOf, runPlace, runPoints, numberAt, runNumber, runStride, pointStride, RowNumbers, runEntries, runEntry, RunTable, placeEntries, placeEntry, PlaceTable}
+use Rattle.runs.specs.Model.{runStep, runCount, tileRuns, runFirst, runSecond, runsOf, runPlace, runPoints}
+use Rattle.point_numbers.specs.Model.{numberAt, runNumber, runStride, pointStride, RowNumbers, runEntries, runEntry, RunTable, placeEntries, placeEntry, PlaceTable}
 use Rattle.runs.proofs.Law.{bin-runs, bin-apart, runs-bins, two-points, one-point, all-points, cluster-apart}
 use Rattle.clusters.specs.Model as dl
 use Rattle.pusc_ul.specs.Tile.{tileSubchannel}
 use Rattle.pusc_ul.specs.Model as ul

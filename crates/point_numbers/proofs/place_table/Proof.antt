@@ -1,13 +1,13 @@
--- `runs::place_table` meets its contract.
+-- `point_numbers::place_table` meets its contract.
 use lib.ListN.{replicate}
 use native.Mathlib.Omega.{arith}
 use borrow.Author.Needs.{needs}
 use Rattle.map.proofs.Choice.{told-amc, at-1, by-mode, choosing}
 use Rattle.map.proofs.ByMode.{in-pusc-dl, in-ofusc, in-amc, bin-width}
-use Rattle.runs.specs.Model.{placeEntries}
-use Rattle.runs.proofs.Numbers.{to-table, inverses-as, groups-as, indices-as, no-places}
-use Rattle.runs.proofs.place_table.Statement.{statement}
-use Rattle.runs.proofs.place_table.Tie as tie
+use Rattle.point_numbers.specs.Model.{placeEntries}
+use Rattle.point_numbers.proofs.Numbers.{to-table, inverses-as, groups-as, indices-as, no-places}
+use Rattle.point_numbers.proofs.place_table.Statement.{statement}
+use Rattle.point_numbers.proofs.place_table.Tie as tie
 
 table-requires : tie.Need-table-requires
 table-requires c κs =

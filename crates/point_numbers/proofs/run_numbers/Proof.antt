@@ -1,13 +1,13 @@
--- `runs::run_numbers` meets its contract.
+-- `point_numbers::run_numbers` meets its contract.
 use mathlib.Core.Path.{_≡_}
 use native.Mathlib.Omega.{arith}
 use borrow.Author.Needs.{needs}
 use Rattle.map.specs.Setup.{alone}
 use Rattle.map.proofs.Choice.{told-amc, choosing}
 use Rattle.runs.specs.Model.{runCount}
-use Rattle.runs.proofs.Numbers.{asks-0, asks-2, asks-amc, numbers-0, numbers-2, numbers-amc}
-use Rattle.runs.proofs.run_numbers.Statement.{statement}
-use Rattle.runs.proofs.run_numbers.Tie as tie
+use Rattle.point_numbers.proofs.Numbers.{asks-0, asks-2, asks-amc, numbers-0, numbers-2, numbers-amc}
+use Rattle.point_numbers.proofs.run_numbers.Statement.{statement}
+use Rattle.point_numbers.proofs.run_numbers.Tie as tie
 
 cluster-points-requires : tie.Need-cluster-points-requires
 cluster-points-requires c κs =

@@ -1,0 +1,3 @@
+-- The walk over a row.
+pub mod Taken
+pub mod Dropped
