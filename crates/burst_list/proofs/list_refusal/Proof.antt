@@ -1,10 +1,10 @@
 -- `burst_list::list_refusal` meets its contract: the bursts before the i-th have passed, and their edges stand in the columns.
-use mathlib.Core.Path.{_≡_, sym, ap, _∙_}
+use mathlib.Core.Path.{_≡_, ap, _∙_}
 use mathlib.Core.Bool.{true}
 use Prim.Native.Nat.{_+_, _-_, _<_}
 use native.Mathlib.Omega.{arith}
 use borrow.Author.Needs.{needs}
-use borrow.Author.Tests.{le-leb, lt-leb}
+use borrow.Author.Tests.{lt-leb}
 use borrow.Author.Count.{below-none, below-more}
 use Rattle.base.proofs.Test.{told-no, told-yes}
 use Rattle.base.proofs.Chain.{by-number}
