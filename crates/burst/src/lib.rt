@@ -4,7 +4,7 @@ ghost use mathlib.Core.Path.{_≡_};
 ghost use Prim.Native.Nat.{_+_, _*_, _<_};
 ghost use lib.ListN.{length};
 ghost use Rattle.burst.specs.Burst.{burstAt, isOf, isCovering, isWithin, isInside, isShared};
-ghost use Rattle.burst.specs.Model.{edgesOf, edgesOverlap};
+ghost use Rattle.burst.specs.Model.{edgesOverlap};
 
 // A rectangle: the first subchannel and how many, the first slot and how many.
 pub struct Burst {
@@ -24,7 +24,7 @@ pub struct Edges {
 }
 
 // The number after the last of a run of so many. 64 bits hold the sum of any two numbers of 32.
-fn end_of(first: u32, many: u32) -> usize
+pub fn end_of(first: u32, many: u32) -> usize
     ensures { λ r. ⌜ r ≡ first + many ⌝ }
 {
     first as usize + many as usize
@@ -69,19 +69,6 @@ pub fn burst_at(bursts: &[u32], i: usize) -> Burst
         subchannels: bursts[4 * i + 1],
         slot: bursts[4 * i + 2],
         slots: bursts[4 * i + 3],
-    }
-}
-
-// The edges of a burst that lies in its zone.
-pub fn edges_of(burst: Burst) -> Edges
-    requires { ⌜ (burst .subchannel + burst .subchannels < 65536) × (burst .slot + burst .slots < 65536) ⌝ }
-    ensures { λ r. ⌜ r ≡ edgesOf burst ⌝ }
-{
-    Edges {
-        start: burst.subchannel as u16,
-        end: end_of(burst.subchannel, burst.subchannels) as u16,
-        slot_start: burst.slot as u16,
-        slot_end: end_of(burst.slot, burst.slots) as u16,
     }
 }
 

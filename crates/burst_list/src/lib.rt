@@ -67,7 +67,12 @@ pub fn list_refusal(subchannel_end: usize, slot_end: usize, bursts: &[u32]) -> u
         if !burst::is_inside(subchannel_end, slot_end, burst) {
             return 18;
         }
-        let edges = burst::edges_of(burst);
+        let edges = Edges {
+            start: burst.subchannel as u16,
+            end: burst::end_of(burst.subchannel, burst.subchannels) as u16,
+            slot_start: burst.slot as u16,
+            slot_end: burst::end_of(burst.slot, burst.slots) as u16,
+        };
         keep(&mut columns, i, edges);
         if !is_apart(&columns, i, edges) {
             return 19;

@@ -1,17 +1,17 @@
 -- `burst_list::list_refusal` meets its contract: the bursts before the i-th have passed, and their edges stand in the columns.
-use mathlib.Core.Path.{_≡_, sym, ap, _∙_}
+use mathlib.Core.Path.{_≡_, ap, _∙_}
 use mathlib.Core.Bool.{true}
 use Prim.Native.Nat.{_+_, _-_, _<_}
 use native.Mathlib.Omega.{arith}
 use borrow.Author.Needs.{needs}
-use borrow.Author.Tests.{le-leb, lt-leb}
+use borrow.Author.Tests.{lt-leb}
 use borrow.Author.Count.{below-none, below-more}
 use Rattle.base.proofs.Test.{told-no, told-yes}
 use Rattle.base.proofs.Chain.{by-number}
-use Rattle.burst.specs.declared.Burst.{Burst}
+use Rattle.burst.specs.declared.Edges.{Edges}
 use Rattle.burst.specs.Burst.{burstAt, isInside}
 use Rattle.burst.specs.Model.{edgesOf}
-use Rattle.burst.proofs.Cover.{inside-ends}
+use Rattle.burst.proofs.Cover.{inside}
 use Rattle.burst_list.specs.List.{isList, isApart}
 use Rattle.burst_list.specs.Model.{listRefusal}
 use Rattle.burst_list.proofs.Each.{Passes, list-is, list-of, is-outside, is-overlapping, all-pass}
@@ -33,19 +33,20 @@ asked c = c .is-inside .ensures ∙ ap (isInside _ _) (c .before .burst-at .ensu
 -- one that lies in its zone has small edges
 small : (c : tie.Else3 Inv-loop μ-loop) → let b = c .before .before .burst-at .result in (b .subchannel + b .subchannels < 65536) × (b .slot + b .slots < 65536)
 small c =
-    let ends = inside-ends _ _ _ (told-yes _ (c .before .is-inside .ensures) (c .if3 .left)) in
+    let ends = inside _ _ _ (told-yes _ (c .before .is-inside .ensures) (c .if3 .left)) in
     let limits = c .before .before .before .before .before .before .before .before .pre in
     (omega arith, omega arith)
 
-edges : (c : tie.After-edges-of Inv-loop μ-loop) → c .edges-of .result ≡ edgesOf (burstAt (c .before .before .before .before .before .before .before .before .before .args .bursts .now) (c .before .before .before .before .before .loop .i))
-edges c = c .edges-of .ensures ∙ ap edgesOf (c .before .before .before .burst-at .ensures)
+edges : (c : tie.After-end-of2 Inv-loop μ-loop) → let b = c .before .before .before .before .before .before .burst-at .result in
+    _≡_ {A = Edges} (record { start = b .subchannel; end = c .before .before .end-of .result; «slot_start» = b .slot; «slot_end» = c .end-of2 .result }) (edgesOf (burstAt (c .before .before .before .before .before .before .before .before .before .before .before .before .args .bursts .now) (c .before .before .before .before .before .before .before .before .loop .i)))
+edges c = rw (c .before .before .end-of .ensures, c .end-of2 .ensures) (ap edgesOf (c .before .before .before .before .before .before .burst-at .ensures))
 
 -- so that 19 goes by the list's own
-apart : (c : tie.After-is-apart Inv-loop μ-loop) → c .is-apart .result ≡ isApart (c .before .before .before .before .before .before .before .before .before .before .before .before .before .args .bursts .now) (c .before .before .before .before .before .before .before .before .before .loop .i)
+apart : (c : tie.After-is-apart Inv-loop μ-loop) → c .is-apart .result ≡ isApart (c .before .before .before .before .before .before .before .before .before .before .before .before .before .before .before .before .args .bursts .now) (c .before .before .before .before .before .before .before .before .before .before .before .before .loop .i)
 apart c =
     let kept = c .before .before in
     let e = edges (kept .before .before) in
-    c .is-apart .ensures ∙ held-apart _ e (held-next _ e (kept .before .before .before .before .before .before .before .loop .inv .2) (kept .keep .ensures))
+    c .is-apart .ensures ∙ held-apart _ e (held-next _ e (kept .before .before .before .before .before .before .before .before .before .before .loop .inv .2) (kept .keep .ensures))
 
 few : (c : tie.In-loop Inv-loop μ-loop) → c .before .loop .i < 64
 few c = omega (arith, list-of _ (c .before .loop .inv .0), c .loop-test .taken)
@@ -69,16 +70,16 @@ returns-3 c =
 
 returns-4 : tie.Need-returns-4 Inv-loop μ-loop
 returns-4 c =
-    let inside = c .before .before .before .before .before .before in
-    let loop = inside .before .before .before in
-    is-overlapping _ _ _ (loop .before .loop .inv .0) (loop .loop-test .taken) (loop .before .loop .inv .1) (told-yes _ (asked (inside .before)) (inside .if3 .left)) (told-no _ (apart (c .before)) (c .if4 .taken))
+    let passed = c .before .before .before .before .before .before .before .before .before in
+    let loop = passed .before .before .before in
+    is-overlapping _ _ _ (loop .before .loop .inv .0) (loop .loop-test .taken) (loop .before .loop .inv .1) (told-yes _ (asked (passed .before)) (passed .if3 .left)) (told-no _ (apart (c .before)) (c .if4 .taken))
 
 loop-again : tie.Need-loop-again Inv-loop μ-loop
 loop-again c =
-    let inside = c .before .before .before .before .before .before in
-    let inv = inside .before .before .before .before .loop .inv in (
+    let passed = c .before .before .before .before .before .before .before .before .before in
+    let inv = passed .before .before .before .before .loop .inv in (
       inv .0,
-      below-more _ _ (inv .1) (record { inside = told-yes _ (asked (inside .before)) (inside .if3 .left); apart = told-yes _ (apart (c .before)) (c .if4 .left) }),
+      below-more _ _ (inv .1) (record { inside = told-yes _ (asked (passed .before)) (passed .if3 .left); apart = told-yes _ (apart (c .before)) (c .if4 .left) }),
       held-next _ (edges (c .before .before .before .before .before)) (inv .2) (c .before .before .before .keep .ensures),
     )
 
@@ -90,6 +91,8 @@ list-refusal-spec =
     tie.close
     (tie.spec
     Inv-loop μ-loop returns returns-2 loop-holds
-    (λ c κs. (few c, omega (arith, c .loop-test .taken))) (λ c κs. search needs) returns-3 (λ c κs. small c)
-    (λ c κs. (few (c .before .before .before .before .before), c .before .before .before .before .before .before .loop .inv .2 .long))
-    (λ c κs. few (c .before .before .before .before .before .before .before)) returns-4 (λ c. search needs) (λ c. search needs) loop-again returns-5)
+    (λ c κs. (few c, omega (arith, c .loop-test .taken))) (λ c κs. search needs) returns-3
+    (λ c. let ends = small (c .before) in omega arith) (λ c κs. search needs) (λ c. let ends = small (c .before .before) in omega (arith, c .end-of .ensures))
+    (λ c. let ends = small (c .before .before .before) in omega arith) (λ c κs. search needs) (λ c. let ends = small (c .before .before .before .before) in omega (arith, c .end-of2 .ensures))
+    (λ c κs. (few (c .before .before .before .before .before .before .before .before), c .before .before .before .before .before .before .before .before .before .loop .inv .2 .long))
+    (λ c κs. few (c .before .before .before .before .before .before .before .before .before .before)) returns-4 (λ c. search needs) (λ c. search needs) loop-again returns-5)
