@@ -30,21 +30,24 @@ version=$(sed -n 's/^#define BP_VERSION \([0-9][0-9]*\)$/\1/p' include/bellpulsa
 [ -n "$version" ] || { say "include/bellpulsar.h has no BP_VERSION"; exit 2; }
 shared=libbellpulsar.so.$version
 
-# The crates that the library is made from, each after those that it needs: those of the C calls, whose names begin with
-# capi_, and all below them.
-crates=$(awk -F: '
-    function visit(name, parts, n, i) {
+# The crates that the library is made from, each after those that it needs, which follow its name: those of the C calls, whose
+# names begin with capi_, and all below them.
+order=$(awk -F: '
+    function visit(name, parts, n, i, line) {
         if (name in seen || !(name in needs)) return
         seen[name] = 1
         n = split(needs[name], parts, " ")
         for (i = 1; i <= n; i++) visit(parts[i])
-        print name
+        line = name
+        for (i = 1; i <= n; i++) if (parts[i] in listed) line = line " " parts[i]
+        listed[name] = 1
+        print line
     }
     { sub(/#.*/, ""); needs[$1] = $2 }
     /^capi_/ { calls[++count] = $1 }
     END { for (k = 1; k <= count; k++) visit(calls[k]) }' crates.txt)
+crates=$(echo "$order" | sed 's/ .*//')
 calls=$(echo "$crates" | grep ^capi_)
-below=$(echo "$crates" | grep -v ^capi_)
 sources=$(for crate in $crates; do
     for part in src specs proofs; do
         [ ! -d "crates/$crate/$part" ] || echo "crates/$crate/$part"
@@ -83,50 +86,91 @@ rm -rf "$new"
 mkdir "$new"
 now=$(content)
 total=$(echo "$crates" | wc -l)
-say "proving and building the engine, $total crates (about two minutes the first time)"
+say "proving and building the engine, $total crates (about three minutes the first time)"
 
-# First all crates below the calls, then each crate of calls as a static library, both so many at a time as the prover takes
-# by itself. Two provers of static libraries write the same notes on what is below them, so each has a folder of its own,
-# with the tree's sources and what is proved of them. The prover's processes are a group of their own, in which a watcher
-# reads from a pipe that only this script can write to. So where this script ends, whatever ends it, the watcher reads the
-# pipe's end and kills the group.
+# A crate is proved as soon as those that it needs are, one of C calls as a static library; so many at a time as the prover
+# takes by itself. Two provers in one folder write the same notes on what is below them, so each has a folder of its own, with
+# the tree's sources and what is proved of them. What a prover says is in its `log`, or in `failed`. The provers' processes are
+# a group of their own, in which a watcher reads from a pipe that only this script can write to. So where this script ends,
+# whatever ends it, the watcher reads the pipe's end and kills the group.
+one='
+    cp -RP "$1/folder" "$1/$2" && cd "$1/$2" || exit
+    case $2 in capi_*) what=staticlib ;; *) what=check ;; esac
+    if rt "$what" "$2" >log 2>&1; then
+        echo "$2"
+        echo "$2" >&5
+    else
+        mv log failed
+        echo >&5
+        exit 1
+    fi'
+group='
+    { read -r nothing <&8; kill -s KILL -- "-$$"; } >/dev/null 2>&1 9>&- &
+    exec 8<&- 5<>"$1/ended"
+    new=$1 jobs=$2 one=$3 waiting=$4
+
+    # Prints the crates, each once those that it needs are proved, until one is not.
+    begin() {
+        proved=" " free=$jobs
+        while [ -n "$waiting" ]; do
+            later=
+            while read -r crate needs; do
+                is_ready=$free
+                for need in $needs; do
+                    case $proved in *" $need "*) ;; *) is_ready=0 ;; esac
+                done
+                if [ "$is_ready" -gt 0 ]; then
+                    echo "$crate"
+                    free=$((free - 1))
+                else
+                    later="$later$crate $needs
+"
+                fi
+            done <<END
+${waiting%?}
+END
+            waiting=$later
+            if ! read -r crate <&5 || [ -z "$crate" ]; then break; fi
+            proved="$proved$crate " free=$((free + 1))
+        done
+    }
+    begin | xargs -P "$jobs" -I CRATE sh -c "$one" sh "$new" CRATE'
 jobs=$(nproc)
 [ "$jobs" -le 4 ] || jobs=4
 jobs=${RT_JOBS:-$jobs}
-for crate in $calls; do
-    mkdir -p "$new/$crate/target"
-    ln -s "$PWD/crates.txt" "$PWD/crates" "$new/$crate"
-    ln -s "$PWD/target/rlib" "$PWD/target/stamp" "$new/$crate/target"
-done
-mkfifo "$new/alive" "$new/said"
+mkdir -p target/rlib target/stamp "$new/folder/target"
+ln -s "$PWD/crates.txt" "$PWD/crates" "$new/folder"
+ln -s "$PWD/target/rlib" "$PWD/target/stamp" "$new/folder/target"
+mkfifo "$new/alive" "$new/said" "$new/ended"
 exec 7<>"$new/alive" 8<"$new/alive"
 exec 6>build/log
-setsid --wait sh -c '
-    { read -r nothing <&8; kill -s KILL -- "-$$"; } >/dev/null 2>&1 9>&- &
-    exec 8<&-
-    new=$1 calls=$2 jobs=$3
-    shift 3
-    rt check "$@" && printf "%s\n" $calls | xargs -P "$jobs" -I CRATE sh -c '\''
-        cd "$1/$2" && rt staticlib "$2" >log 2>&1 && echo "rt: $2 proved (static library)"'\'' sh "$new" CRATE
-    ' sh "$new" "$calls" "$jobs" $below >"$new/said" 2>&1 6>&- 7>&- &
+setsid --wait sh -c "$group" sh "$new" "$jobs" "$one" "$order
+" >"$new/said" 2>&6 6>&- 7>&- &
 prover=$!
 proved=0
-while IFS= read -r line; do
-    printf '%s\n' "$line" >&6
-    case $line in
-    "rt: "*" proved ("*)
-        proved=$((proved + 1)) crate=${line#rt: }
-        say "${crate%% *} proved ($proved of $total)"
-        ;;
-    esac
+while IFS= read -r crate; do
+    proved=$((proved + 1))
+    say "$crate proved ($proved of $total)"
 done <"$new/said"
 ended=0
 wait "$prover" || ended=$?
-for crate in $calls; do
-    [ ! -e "$new/$crate/log" ] || cat "$new/$crate/log" >&6
-done
+
+# told NAME: what the provers said in the files of that name, but for what one says of the crates below its own, and for the
+# folder that it was run in.
+told() {
+    name=$1
+    set --
+    for crate in $crates; do
+        [ ! -e "$new/$crate/$name" ] || set -- "$@" "$new/$crate/$name"
+    done
+    [ $# -eq 0 ] || sed -e '/ (unchanged since it was last proved)$/d' -e '/^rt: ok, [0-9]* crates proved$/d' \
+        -e 's,/build/new/[^/]*/crates/,/crates/,g' "$@"
+}
+told log >&6
+told failed >&6
 if [ "$ended" -ne 0 ]; then
-    cat build/log >&2 || :
+    told failed >&2 || :
+    say "the engine is not proved; build/log has all that was said"
     exit 2
 fi
 

@@ -358,11 +358,8 @@ def place_amc(mode, cell, slot, subchannel, index):
     return symbol, used_of_bin_place(symbol, wide * subchannel + b, x)
 
 
-def place(mode, size, cell, slot, subchannel, index):
-    """(refusal, symbol, carrier)."""
-    number = place_refusal(mode, size, cell, slot, subchannel, index)
-    if number:
-        return number, 0, 0
+def placed(mode, size, cell, slot, subchannel, index):
+    """(symbol, carrier) of a point whose questions were put."""
     if mode == PUSC_DL:
         symbol, used = place_pusc_dl(cell, slot, subchannel, index)
     elif mode == PUSC_UL:
@@ -371,7 +368,13 @@ def place(mode, size, cell, slot, subchannel, index):
         symbol, used = place_ofusc(size, cell, slot, subchannel, index)
     else:
         symbol, used = place_amc(mode, cell, slot, subchannel, index)
-    return 0, symbol, carrier_of_used(mode, size, used)
+    return symbol, carrier_of_used(mode, size, used)
+
+
+def place(mode, size, cell, slot, subchannel, index):
+    """(refusal, symbol, carrier)."""
+    number = place_refusal(mode, size, cell, slot, subchannel, index)
+    return (number, 0, 0) if number else (0, *placed(mode, size, cell, slot, subchannel, index))
 
 
 # --- its reverse ------------------------------------------------------------------------------
@@ -402,7 +405,7 @@ def slot_map(mode, size, cell, slot):
         found[pilot] = (PILOT,)
     for subchannel in range(subchannels(mode, size)):
         for index in range(POINTS):
-            _, symbol, carrier = place(mode, size, cell, slot, subchannel, index)
+            symbol, carrier = placed(mode, size, cell, slot, subchannel, index)
             assert (symbol, carrier) not in found
             found[symbol, carrier] = (DATA, slot, subchannel, index)
     return found
@@ -468,7 +471,7 @@ def places(mode, size, cell, slot, subchannel):
     number = places_refusal(mode, size, cell, slot, subchannel)
     if number:
         return number, []
-    at = [place(mode, size, cell, slot, subchannel, index)[1:] for index in range(POINTS)]
+    at = [placed(mode, size, cell, slot, subchannel, index) for index in range(POINTS)]
     return 0, [grid_at(mode, size, symbol, carrier) // 2 for symbol, carrier in at]
 
 
@@ -497,7 +500,7 @@ def lay(mode, size, cell, mask, slot, subchannel, points, grid):
         return number, list(grid)
     after = list(grid)
     for index in range(POINTS):
-        _, symbol, carrier = place(mode, size, cell, slot, subchannel, index)
+        symbol, carrier = placed(mode, size, cell, slot, subchannel, index)
         at = grid_at(mode, size, symbol, carrier)
         after[at : at + 2] = points[2 * index : 2 * index + 2]
     return 0, after
@@ -528,7 +531,7 @@ def empty(mode, size, cell, mask, slot, grid, points):
     after = []
     for subchannel in lit_subchannels(mode, size, mask):
         for index in range(POINTS):
-            _, symbol, carrier = place(mode, size, cell, slot, subchannel, index)
+            symbol, carrier = placed(mode, size, cell, slot, subchannel, index)
             at = grid_at(mode, size, symbol, carrier)
             after += grid[at : at + 2]
     return 0, after
@@ -543,7 +546,7 @@ def empty_first(mode, size, cell, mask, slot, carriers, grid, points):
     after = list(points)
     for subchannel in lit_subchannels(mode, size, mask):
         for index in range(POINTS):
-            _, symbol, carrier = place(mode, size, cell, slot, subchannel, index)
+            symbol, carrier = placed(mode, size, cell, slot, subchannel, index)
             at = grid_at(mode, size, symbol, carrier)
             if at < 2 * carriers:
                 to = points_at(mode, size, mask, subchannel, index)
@@ -584,7 +587,7 @@ def ofusc_collisions(size, cell_a, subchannel_a, cell_b, subchannel_b, slot=0):
 
     def carrier_in_group(cell, subchannel, group):
         index = [m for m in range(48) if (m + 23 * subchannel) % 48 == group][0]
-        return place(OFUSC, size, cell, slot, subchannel, index)[2]
+        return placed(OFUSC, size, cell, slot, subchannel, index)[1]
 
     hits = [
         int(carrier_in_group(cell_a, subchannel_a, k) == carrier_in_group(cell_b, subchannel_b, k))

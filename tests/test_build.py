@@ -22,37 +22,47 @@ PLACED = "Place(symbol=0, carrier=-425)\n"
 VERSION = "#define BP_VERSION 4\n"
 SHARED = "libbellpulsar.so.4"
 
-# Each stub notes its process. The first proves at once: it says the crates that it was given one by one, then, at each static
-# library, where it notes its process, all of them again, as the prover does. It fails where another one of its kind is at
-# work in the same folder, or where what it needs of the tree is not there.
+# Each stub notes its process where that matters, in a file of the tree: it is run in a folder of its own. The first proves at
+# once, crate by crate, and makes static libraries, where it notes its process, and says the crates below again, as the prover
+# does. It fails where another one is at work in the same folder, where what it needs of the tree is not there, and where a
+# crate that it needs is not proved.
 CHECKS = """\
 #!/bin/sh
-tree=$(dirname "$0")/..
+tree=${0%/*}/..
+[ $# = 2 ] && mkdir target/log && [ -e "crates/$2/src/lib.rt" ] || exit 9
+while IFS=: read -r name needs; do
+    [ "$name" = "$2" ] || continue
+    for need in $needs; do
+        [ -e "target/rlib/$need" ] || exit 9
+        echo "rt: $need proved (unchanged since it was last proved)"
+    done
+done <crates.txt
 if [ "$1" = check ]; then
-    shift
-    mkdir -p target/rlib target/stamp
-    for crate in "$@"; do echo "rt: $crate proved (3 s)"; echo "$crate" >>checked; : >"target/rlib/$crate"; done
-    echo "rt: ok, $# crates proved"
+    : >"target/rlib/$2"
+    echo "rt: $2 proved (3 s)"
+    echo "rt: ok, 4 crates proved"
     exit
 fi
 """
 PROVES = CHECKS + """\
 echo $$ >>"$tree/calls"
-[ "$1" = staticlib ] && mkdir target/log && grep -q "^$2:" crates.txt && [ -e "crates/$2/src/lib.rt" ] || exit 9
+[ "$1" = staticlib ] || exit 9
 sleep ${PROOF:-0}
-while read -r crate; do
-    [ -e "target/rlib/$crate" ] || exit 9
-    echo "rt: $crate proved (unchanged since it was last proved)" >&2
-done <"$tree/checked"
 echo "logic=proved functions=14 of $2"
 mkdir target/staticlib && cd target/staticlib && ar x '%s' "$2.o" && ar rcsD "lib$2.a" "$2.o" || exit 9
 echo done >>"$tree/calls"
 """ % LIBRARY
 # The next two never end by themselves, the one at the first crates and the other at the static libraries, nor does the child,
 # whose process they note too.
-ENDLESS = '#!/bin/sh\ntree=$(dirname "$0")/..\nsleep 600 & echo $! >>"$tree/calls"\necho $$ >>"$tree/calls"\nwait\n'
+ENDLESS = '#!/bin/sh\ntree=${0%/*}/..\nsleep 600 & echo $! >>"$tree/calls"\necho $$ >>"$tree/calls"\nwait\n'
 ENDLESS_CALLS = CHECKS + ENDLESS
-FAILS = "#!/bin/sh\necho called >>calls\necho 'rt: map NOT PROVED' >&2\nexit 1\n"
+FAILS = """\
+#!/bin/sh
+echo called >>"${0%/*}/../calls"
+echo "$PWD/crates/$2/src/lib.rt:1:1: error"
+echo "rt: $2 NOT PROVED" >&2
+exit 1
+"""
 FAILS_CALLS = CHECKS + 'echo "rt: $2 NOT PROVED"\nexit 1\n'
 COMPILER = '#!/bin/sh\necho "$0" "$@" >>words\nexec cc "$@"\n'
 # Notes its words, and makes a program that does nothing; the preprocessor is the compiler's own.
@@ -107,14 +117,11 @@ def until(what, seconds=10):
     return True
 
 
-def small_tree(root):
-    """A tree whose crates have one small file in each folder."""
-    for name in ("build.sh", "bellpulsar", "crates.txt"):
-        shutil.copy(os.path.join(ROOT, name), root)
-    ignored = shutil.ignore_patterns("__pycache__")
-    for name in ("python", "include", "examples/c"):
-        shutil.copytree(os.path.join(ROOT, name), os.path.join(root, name), ignore=ignored)
-    for crate in os.listdir(os.path.join(ROOT, "crates")):
+def small_crates(root, listed):
+    """Crates with one small file in each folder."""
+    with open(os.path.join(root, "crates.txt"), "w") as file:
+        file.write(listed)
+    for crate in re.findall(r"^(\w+):", listed, re.MULTILINE):
         for part in ("src/lib.rt", "specs/Lib.antt", "proofs/Lib.antt"):
             path = os.path.join(root, "crates", crate, part)
             os.makedirs(os.path.dirname(path))
@@ -122,15 +129,23 @@ def small_tree(root):
                 file.write(crate)
 
 
-def crates():
-    """The crates that have the C calls, and all that these need, themselves among them, by crates.txt."""
-    with open(os.path.join(ROOT, "crates.txt")) as file:
-        needs = dict(line.strip().split(":") for line in file if line[0] != "#")
+def small_tree(root):
+    for name in ("build.sh", "bellpulsar"):
+        shutil.copy(os.path.join(ROOT, name), root)
+    ignored = shutil.ignore_patterns("__pycache__")
+    for name in ("python", "include", "examples/c"):
+        shutil.copytree(os.path.join(ROOT, name), os.path.join(root, name), ignore=ignored)
+    small_crates(root, FEW)
+
+
+def crates(listed):
+    """The crates that have the C calls; and these and all below them, each with those that it needs."""
+    needs = dict(re.findall(r"^(\w+):(.*)$", listed, re.MULTILINE))
     calls = [name for name in needs if name.startswith("capi_")]
     names = list(calls)
     for name in names:
         names += [need for need in needs[name].split() if need in needs and need not in names]
-    return calls, names
+    return calls, {name: [need for need in needs[name].split() if need in names] for name in names}
 
 
 def declared():
@@ -139,7 +154,12 @@ def declared():
         return re.findall(r"^(?:uint32_t|size_t) (bp_\w+)\(", file.read(), re.MULTILINE)
 
 
-CALLS, CRATES = crates()
+with open(os.path.join(ROOT, "crates.txt")) as file:
+    LISTED = file.read()
+CALLS = crates(LISTED)[0]
+# The crates of the C calls, over few others, in three levels; and one that no call needs.
+FEW = "# (No call needs the program.)\nbase:\ntext:\namc: base\nmap: base amc\nplan: base map text\nzones: plan io libc\n"
+FEW += "".join("%s: %s\n" % (name, "plan" if name == "capi_plan" else "base map") for name in CALLS)
 NOTES = 2 * len(CALLS)  # what the stub notes in one build
 MODEL = tempfile.mkdtemp()  # the tree that every test copies
 
@@ -338,27 +358,38 @@ class Callers(Case):
         self.edit("crates", "map", "src", "lib.rt")
         done = self.run_in_tree("./bellpulsar", *ASKED)
         self.assertEqual((done.stdout, done.returncode), ("", 2))
-        self.assertIn("rt: map NOT PROVED\nbellpulsar: the engine could not be built\n", done.stderr)
+        self.assertIn("rt: base NOT PROVED\n", done.stderr)
+        self.assertEqual(done.stderr.splitlines()[-1], "bellpulsar: the engine could not be built")
 
 
 class Building(Case):
-    def test_what_is_proved_shows(self):
+    def shows_what_is_proved(self, listed):
+        """Each crate after those that it needs."""
+        calls, needs = crates(listed)
         self.stub("rt", PROVES)
         shutil.rmtree(self.path("build"))
         done = self.build()
         self.assertEqual((done.stdout, done.returncode), ("", 0))
         shown = done.stderr.splitlines()
-        total = len(CRATES)
+        total = len(needs)
         self.assertRegex(shown[0], "^bellpulsar: proving and building the engine, %d crates" % total)
         names = [line.split()[1] for line in shown[1:]]
-        self.assertEqual((sorted(names), sorted(names[-len(CALLS) :])), (sorted(CRATES), sorted(CALLS)))
-        self.assertEqual(
-            shown[1:], ["bellpulsar: %s proved (%d of %d)" % (name, n, total) for n, name in enumerate(names, 1)]
-        )
+        self.assertEqual(sorted(names), sorted(needs))
+        for n, name in enumerate(names):
+            self.assertLessEqual(set(needs[name]), set(names[:n]), name)
+            self.assertEqual(shown[1 + n], "bellpulsar: %s proved (%d of %d)" % (name, n + 1, total))
         with open(self.path("build", "log")) as file:
             lines = file.readlines()
-        for name in CALLS:
-            self.assertIn("logic=proved functions=14 of %s\n" % name, lines)
+        said = ["logic=proved functions=14 of %s\n" if name in calls else "rt: %s proved (3 s)\n" for name in needs]
+        self.assertEqual(sorted(lines), sorted(line % name for line, name in zip(said, needs)))
+
+    def test_what_is_proved_shows(self):
+        self.shows_what_is_proved(FEW)
+
+    def test_the_crates_of_the_engine(self):
+        shutil.rmtree(self.path("crates"))
+        small_crates(self.tree, LISTED)
+        self.shows_what_is_proved(LISTED)
 
     def test_the_library_has_each_call_once(self):
         self.stub("rt", PROVES)
@@ -370,13 +401,16 @@ class Building(Case):
             self.assertEqual(sorted(names), sorted(declared()), command)
 
     def test_a_proof_that_fails(self):
+        """No other is begun after it; its error names the tree's file."""
         self.edit("crates", "map", "src", "lib.rt")
         for _ in range(2):
-            done = self.build()
+            done = self.build(RT_JOBS="1")
             self.assertEqual((done.stdout, done.returncode), ("", 2))
-            self.assertIn("rt: map NOT PROVED\n", done.stderr)
+            self.assertIn("\n%s:1:1: error\nrt: base NOT PROVED\n" % self.path("crates", "base", "src", "lib.rt"), done.stderr)
             self.assertEqual(self.build("--check").returncode, 1)
         self.assertEqual(self.calls(), ["called"] * 2)
+        self.assertEqual(self.build(RT_JOBS="2").returncode, 2)
+        self.assertEqual(self.calls(), ["called"] * 4)
         self.assertEqual(self.run_in_tree("sh", "examples/c/run.sh", "point", *ASKED[1:]).returncode, 2)
 
     def test_a_static_library_that_fails(self):
@@ -453,10 +487,10 @@ class Building(Case):
 class Killed(Case):
     """Whoever is killed, no prover runs on, and the next build is not held up."""
 
-    def prover_ends(self, command, number, prover=ENDLESS, processes=2):
+    def prover_ends(self, command, number, prover=ENDLESS, processes=4):
         self.stub("rt", prover)
         self.edit("crates", "map", "src", "lib.rt")
-        options = {"env": self.env, "stderr": subprocess.DEVNULL, "start_new_session": True}
+        options = {"env": dict(self.env, RT_JOBS="2"), "stderr": subprocess.DEVNULL, "start_new_session": True}
         caller = subprocess.Popen(command, cwd=self.tree, preexec_fn=heed_signals, **options)
         self.assertTrue(until(lambda: len(self.calls()) == processes))
         processes = list(map(int, self.calls()))
@@ -470,7 +504,7 @@ class Killed(Case):
     def test_the_builder(self):
         for number in (signal.SIGINT, signal.SIGTERM, signal.SIGHUP, signal.SIGKILL):
             self.prover_ends([self.path("build.sh")], number)
-            self.prover_ends(["env", "RT_JOBS=2", self.path("build.sh")], number, ENDLESS_CALLS, 4)
+            self.prover_ends([self.path("build.sh")], number, ENDLESS_CALLS)
 
     def test_the_command_line(self):
         for number in (signal.SIGINT, signal.SIGTERM, signal.SIGKILL):

@@ -1,4 +1,5 @@
 // The places of a subchannel's points in a slot's grid, as a row that a caller keeps and copies through.
+use base::reduce;
 use map::Setup;
 ghost use mathlib.Core.Path.{_≡_};
 ghost use Prim.Native.Nat.{_<_};
@@ -7,10 +8,10 @@ ghost use Rattle.map.specs.Setup.{alone};
 ghost use Rattle.points.specs.Model.{turned};
 ghost use Rattle.places.specs.Places.{placesOf};
 
-// The first refusal, or 0; for each index the place in the grid.
+// For each index the place in the grid; the first refusal, or 0. (The row comes first, so that it is copied once.)
 pub struct PlaceRow {
-    pub refusal: u8,
     pub places: [u32; 48],
+    pub refusal: u8,
 }
 
 fn wide(x: u16) -> u32
@@ -27,7 +28,7 @@ fn in_order(row: &[u16; 48], by: usize) -> [u32; 48]
     let mut places = [0u32; 48];
     let mut m = 0;
     while m < 48 {
-        places[m] = wide(row[(m + by) % 48]);
+        places[m] = wide(row[reduce(48, m + by)]);
         m += 1;
     }
     places

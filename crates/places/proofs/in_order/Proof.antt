@@ -17,8 +17,8 @@ loop-holds c = (c .pre, written-none 48 _)
 
 loop-again : tie.Need-loop-again Inv-loop μ-loop
 loop-again c =
-    let inv = c .before .before .before .loop .inv in
-    (inv .0, written-next (inv .1) (c .before .before .loop-test .taken) _ (c .wide .ensures))
+    let inv = c .before .before .before .before .loop .inv in
+    (inv .0, written-next (inv .1) (c .before .before .before .loop-test .taken) _ (rw (c .before .before .reduce .ensures .0) at (c .wide .ensures)))
 
 returns : tie.Need-returns Inv-loop μ-loop
 returns c = written-all (c .before .loop .inv .1) (c .loop-test .left)
@@ -27,5 +27,5 @@ pub in-order-spec : {M : Type 1} → statement M
 in-order-spec =
     tie.close
     (tie.spec
-    Inv-loop μ-loop loop-holds (λ c. search needs) (λ c. search needs) (λ c. search needs) (λ c κs. search needs) (λ c. search needs) (λ c. search needs)
+    Inv-loop μ-loop loop-holds (λ c. search needs) (λ c κs. search needs) (λ c. search needs) (λ c. search needs) (λ c κs. search needs) (λ c. search needs) (λ c. search needs)
     (λ c. search needs) (λ c. search needs) loop-again returns)
