@@ -8,11 +8,10 @@ use lib.ListN.{length}
 use lib.Ieee.{Float}
 use Rattle.base.specs.Choice.{pick}
 use Rattle.map.specs.Setup.{Setup}
-use Rattle.map.specs.Mode.{symbols, band, isPilot}
+use Rattle.map.specs.Mode.{symbols, isPilot}
 use Rattle.runs.specs.declared.Runs.{Runs}
 use Rattle.points.specs.declared.Point.{Point}
 use Rattle.points.specs.Points.{pointAt}
-use Rattle.lengths.specs.Length.{gridPoints}
 use Rattle.grid.specs.Row.{usedPosition}
 use Rattle.grid.specs.Grid.{contentAt}
 use Rattle.ground.specs.Ground.{bare}

@@ -10,10 +10,8 @@ use lib.Dec.{ltb}
 use lib.ListN.{length}
 use lib.Ieee.{Float}
 use borrow.Author.Tests.{ltb-true, ltb-false}
-use Rattle.base.specs.Steps.{entry, skip}
-use Rattle.base.specs.Tabulate.{tabulate}
+use Rattle.base.specs.Steps.{skip}
 use Rattle.base.proofs.Test.{cases, true-false}
-use Rattle.base.proofs.Tabulate.{entry-of}
 use Rattle.base.proofs.LeaveOut.{skip-below, skip-above, skip-le, unskip-skip, before-skip}
 use Rattle.carriers.specs.declared.Spot.{Spot}
 use Rattle.carriers.specs.declared.Address.{Address}
@@ -28,18 +26,17 @@ use Rattle.mask.specs.Mask.{isLit, isUsedLit, litSubchannels, litRank, ofLitRan
 use Rattle.mask.proofs.Law.{mask-law, point-lit}
 use Rattle.points.specs.declared.Point.{Point}
 use Rattle.points.specs.Points.{pointAt}
-use Rattle.points.specs.Model.{puts, RunWithin}
-use Rattle.points.proofs.Points.{length-puts, puts-miss, puts-hit, puts-as}
+use Rattle.points.specs.Model.{puts}
+use Rattle.points.proofs.Points.{length-puts, puts-miss, puts-hit}
 use Rattle.runs.specs.declared.Runs.{Runs}
 use Rattle.runs.specs.Model.{runStep, runCount, runsOf, runPlace, pointsBelow, runPoints, pointsWithin}
-use Rattle.point_numbers.specs.Model.{numberAt, runNumber, runStride, pointStride, RowNumbers}
-use Rattle.runs.proofs.Law.{RunLaw, run-law, no-pilot, back, place-below, below-place, within-place, place-within, within-few}
-use Rattle.point_numbers.proofs.Filled.{in-table}
+use Rattle.point_numbers.specs.Model.{numberAt, runNumber}
+use Rattle.runs.proofs.Law.{RunLaw, run-law, no-pilot, back, place-below, below-place, within-place, place-within}
 use Rattle.lengths.specs.Length.{gridPoints}
 use Rattle.grid.specs.Row.{columnPosition, usedPosition}
 use Rattle.grid.specs.Grid.{standsAt}
 use Rattle.grid.proofs.Slot.{stands-lt}
-use Rattle.row_walk.specs.Model.{pointStands, TakenTo, Took, runStart}
+use Rattle.row_walk.specs.Model.{pointStands, Took, runStart}
 
 -- ---- from one place of the grid to another
 

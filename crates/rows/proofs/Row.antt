@@ -4,13 +4,12 @@ use mathlib.Core.List.{List}
 use Prim.Native.Nat.{ℕ, _+_, _*_, _%_, _<_, _≤_}
 use lib.Arith.{digits-lt}
 use lib.Dec.{lit<, eqb, ltb}
-use borrow.Author.Tests.{eqb-false}
 use Rattle.base.proofs.Test.{cases}
 use native.Mathlib.Omega.{arith}
 use Rattle.base.specs.Steps.{entry}
 use Rattle.base.specs.Tabulate.{tabulate}
 use Rattle.base.specs.Model.{Starts, Below, Turned}
-use Rattle.base.proofs.Tabulate.{starts-as, entry-of, turned-row, turned-by, turned-below}
+use Rattle.base.proofs.Tabulate.{entry-of, turned-row, turned-by, turned-below}
 use Rattle.carriers.specs.declared.Spot.{Spot}
 use Rattle.ofusc.specs.Width.{Width, n4, n8, n16, n32}
 use Rattle.ofusc.proofs.Sequence.{size, sum-lt, cell-term-lt}

@@ -1,5 +1,5 @@
 -- The runs of a symbol, mode by mode: their pilots, and their points from one lemma over the two pilots.
-use mathlib.Core.Path.{_≡_, refl, sym, ap, ap₂, _∙_, subst}
+use mathlib.Core.Path.{_≡_, refl, sym, ap, _∙_}
 use mathlib.Core.Bool.{Bool, true, false}
 use mathlib.Core.List.{List}
 use mathlib.Core.Logic.{_⊎_, inl, inr}
@@ -19,7 +19,6 @@ use Rattle.clusters.specs.Cluster.{isClusterPilot, firstPilot, secondPilot}
 use Rattle.pusc_dl.specs.Map.{usedGroup, logicalOf}
 use Rattle.pusc_dl_lit.specs.Model.{clusterLit}
 use Rattle.pusc_ul.specs.Tile.{isTilePilot}
-use Rattle.ofusc.proofs.Sequence.{pos}
 use Rattle.map.specs.Setup.{Setup, setupLent, setupWith}
 use Rattle.map.specs.Mode.{width, band, isPilot}
 use Rattle.map.specs.Model.{IsListed, OverBins, Valid, pusc-dl, pusc-ul, ofusc, amc}
@@ -276,14 +275,6 @@ run-is (pusc-dl h) i l e = l
 run-is (pusc-ul h) i l e = absurd (omega arith)
 run-is (ofusc w h) i l e = absurd (omega arith)
 run-is (amc q w h) i l e = absurd (omega arith)
-
--- there are some
-pub some-run : {c : Setup} → Valid c → 0 < runCount c
-unfolding runCount width
-some-run (pusc-dl h) = omega arith
-some-run (pusc-ul h) = omega arith
-some-run (ofusc w h) = omega (arith, pos w)
-some-run (amc q w h) = simp amc-column (omega (arith, pos w))
 
 -- and the table of lit runs tells whether it is lit
 pub run-light : {c : Setup} → Valid c → (mask : ℕ) (lit : List ℕ) → LitRuns c mask lit → (i : ℕ) → i < runCount c → runLit c lit i ≡ pick (isUsedLit c mask (i * runStep c)) 1 0

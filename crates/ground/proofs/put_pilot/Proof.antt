@@ -7,7 +7,6 @@ use Rattle.map.specs.Setup.{alone}
 use Rattle.map.specs.Mode.{band}
 use Rattle.map.proofs.ByMode.{row-few, few}
 use Rattle.points.specs.Model.{putPoint}
-use Rattle.runs.specs.Model.{runStep}
 use Rattle.lengths.specs.Length.{gridPoints}
 use Rattle.lengths.proofs.Refusal.{grid-few}
 use Rattle.grid.specs.Row.{usedPosition}
