@@ -4,10 +4,10 @@ use mathlib.Core.Bool.{Bool, true, false}
 use mathlib.Core.List.{List}
 use Prim.Native.Nat.{ℕ, _+_, _<_, _≤_}
 use native.Mathlib.Omega.{arith}
-use lib.Dec.{eqb, ltb, leb}
+use lib.Dec.{eqb, ltb}
 use lib.ListN.{length, set, replicate, length-set, length-replicate, getD-replicate}
 use lib.Seq.{getD-set-same, getD-set-other}
-use borrow.Author.Tests.{lt-ltb, le-ltb, ltb-true, ltb-false, eqb-true, eqb-false, leb-true}
+use borrow.Author.Tests.{lt-ltb, le-ltb, ltb-true, ltb-false, eqb-true, eqb-false}
 use borrow.Author.Count.{below-none}
 use Rattle.base.specs.Choice.{pick}
 use Rattle.base.specs.Steps.{entry}
@@ -17,7 +17,7 @@ use Rattle.base.proofs.Test.{cases, true-false}
 use Rattle.base.proofs.Tabulate.{getD-tabulate, tabulated, length-tabulate}
 use Rattle.base.proofs.First.{None, none-more, first-most, first-before, first-passes, first-is, first-none, none-of}
 use Rattle.burst.specs.Burst.{burstAt, isOf, isCovering, isOverlap}
-use Rattle.burst.proofs.Cover.{of-is, covering-is, elsewhere, beside, overlap-is}
+use Rattle.burst.proofs.Cover.{of-is, is-of, covering-is, elsewhere, beside, overlap-is}
 use Rattle.burst_list.specs.List.{burstCount, isApart}
 use Rattle.burst_list.proofs.Each.{Passed}
 use Rattle.burst_owner.specs.declared.Owned.{Owned}
@@ -38,14 +38,7 @@ module _ (numbers : List ℕ) (slot s : ℕ) {p : ℕ} (e : p ≡ position numbe
 
 -- one number more
 of-none : (first k : ℕ) → isOf first 0 k ≡ false
-unfolding isOf
-of-none first k =
-    cases (leb first k)
-    (λ e. rw (e, le-ltb k (first + 0) (omega (arith, leb-true first k e))))
-    (λ e. rw e)
-
-of-last : (first m : ℕ) → isOf first (m + 1) (first + m) ≡ true
-of-last first m = of-is first (m + 1) (first + m) (omega arith) (omega arith)
+of-none first k = cases (isOf first 0 k) (λ t. absurd (let h = is-of first 0 k t in omega arith)) (λ f. f)
 
 of-other : (first m k : ℕ) → (first + m ≡ k → ⊥) → isOf first (m + 1) k ≡ isOf first m k
 unfolding isOf
@@ -70,7 +63,7 @@ module _ {first value : ℕ} {row₀ : List ℕ} where
         entries = λ k l.
             cases (eqb (first + m) k)
             (λ e. let same = eqb-true (first + m) k e in
-            rw (← same, of-last first m) (getD-set-same row (first + m) value 0 (omega (arith, w .long))))
+            rw (← same, of-is first (m + 1) (first + m) (omega arith) (omega arith)) (getD-set-same row (first + m) value 0 (omega (arith, w .long))))
             (λ e. let other = eqb-false (first + m) k e in
             rw (of-other first m k other) (getD-set-other row (first + m) k value 0 (λ q. other (sym q)) ∙ w .entries k l));
       }
