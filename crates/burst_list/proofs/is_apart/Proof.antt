@@ -20,11 +20,9 @@ loop-again c =
     let loop = c .before .before in
     asking-next (loop .before .loop .inv) (loop .loop-test .taken) _ (c .is-overlap .ensures ∙ ap (λ (x : Edges). edgesOverlap x (loop .before .before .args .edges)) (c .before .kept .ensures))
 
-returns : tie.Need-returns Inv-loop μ-loop
-returns c = asked (c .before .loop .inv) (c .loop-test .left)
-
 pub is-apart-spec : {M : Type 1} → statement M
 is-apart-spec =
     tie.close
     (tie.spec
-    Inv-loop μ-loop (λ c. asking) (λ c κs. search needs) (λ c κs. search needs) (λ c. search needs) (λ c. search needs) loop-again returns)
+    Inv-loop μ-loop (λ c. asking) (λ c κs. search needs) (λ c κs. search needs) (λ c. search needs) (λ c. search needs) loop-again
+    (λ c. asked (c .before .loop .inv) (c .loop-test .left)))

@@ -55,14 +55,6 @@ loop-holds : tie.Need-loop-holds Inv-loop μ-loop
 loop-holds c = (list-is _ (c .before .if1 .left) (c .if2 .left), below-none _, held-none _)
 
 -- each outcome by the questions
-returns : tie.Need-returns Inv-loop μ-loop
-unfolding listRefusal isList
-returns c = search (by-number, needs)
-
-returns-2 : tie.Need-returns-2 Inv-loop μ-loop
-unfolding listRefusal isList
-returns-2 c = search (by-number, lt-leb, needs)
-
 returns-3 : tie.Need-returns-3 Inv-loop μ-loop
 returns-3 c =
     let loop = c .before .before .before in
@@ -83,16 +75,15 @@ loop-again c =
       held-next _ (edges (c .before .before .before .before .before)) (inv .2) (c .before .before .before .keep .ensures),
     )
 
-returns-5 : tie.Need-returns-5 Inv-loop μ-loop
-returns-5 c = let inv = c .before .loop .inv in all-pass _ _ _ (inv .0) (λ k h. inv .1 k (omega (arith, c .loop-test .left)))
-
 pub list-refusal-spec : {M : Type 1} → statement M
+unfolding listRefusal isList
 list-refusal-spec =
     tie.close
     (tie.spec
-    Inv-loop μ-loop returns returns-2 loop-holds
+    Inv-loop μ-loop (λ c. search (by-number, needs)) (λ c. search (by-number, lt-leb, needs)) loop-holds
     (λ c κs. (few c, omega (arith, c .loop-test .taken))) (λ c κs. search needs) returns-3
     (λ c. let ends = small (c .before) in omega arith) (λ c κs. search needs) (λ c. let ends = small (c .before .before) in omega (arith, c .end-of .ensures))
     (λ c. let ends = small (c .before .before .before) in omega arith) (λ c κs. search needs) (λ c. let ends = small (c .before .before .before .before) in omega (arith, c .end-of2 .ensures))
     (λ c κs. (few (c .before .before .before .before .before .before .before .before), c .before .before .before .before .before .before .before .before .before .loop .inv .2 .long))
-    (λ c κs. few (c .before .before .before .before .before .before .before .before .before .before)) returns-4 (λ c. search needs) (λ c. search needs) loop-again returns-5)
+    (λ c κs. few (c .before .before .before .before .before .before .before .before .before .before)) returns-4 (λ c. search needs) (λ c. search needs) loop-again
+    (λ c. let inv = c .before .loop .inv in all-pass _ _ _ (inv .0) (λ k h. inv .1 k (omega (arith, c .loop-test .left)))))

@@ -8,16 +8,12 @@ use Rattle.bursts.proofs.Answer.{list-asks, zone-no, zone-then}
 use Rattle.bursts.proofs.check.Statement.{statement}
 use Rattle.bursts.proofs.check.Tie as tie
 
-returns-2 : tie.Need-returns-2
-unfolding checkOf listRefusal
-returns-2 c =
-    let zone = c .before .before in
-    rw (c .before .subchannels .ensures) at (c .list-refusal .ensures) ∙ ap refusalOf (zone-then _ _ _ (zone .before .fields-refusal .ensures) _ (zone .if1 .left) _ refl)
-
 pub check-spec : {M : Type 1} → statement M
-unfolding checkOf
+unfolding checkOf listRefusal
 check-spec =
     tie.close
     (tie.spec
     (λ c κs. search needs) (λ c. ap refusalOf (zone-no _ _ _ (c .before .fields-refusal .ensures) _ (c .if1 .taken))) (λ c κs. search needs)
-    (λ c κs. list-asks _ _ (c .before .before .fields-refusal .ensures) (c .before .if1 .left) (c .subchannels .ensures)) returns-2)
+    (λ c κs. list-asks _ _ (c .before .before .fields-refusal .ensures) (c .before .if1 .left) (c .subchannels .ensures))
+    (λ c. let zone = c .before .before in
+    rw (c .before .subchannels .ensures) at (c .list-refusal .ensures) ∙ ap refusalOf (zone-then _ _ _ (zone .before .fields-refusal .ensures) _ (zone .if1 .left) _ refl)))
