@@ -6,8 +6,6 @@ use native.Mathlib.Nat.{mod-lt, div-add-mod', mul-le-mul}
 use native.Mathlib.Omega.{arith}
 use Rattle.ofusc.specs.Width.{Width}
 use Rattle.ofusc.proofs.Sequence.{size}
-use Rattle.carriers.specs.declared.Band.{Band}
-use Rattle.carriers.specs.Band.{binBand, puscBand, noBand}
 use Rattle.base.proofs.LeaveOut.{unskip-le}
 use Rattle.carriers.specs.declared.Spot.{Spot}
 use Rattle.carriers.specs.declared.DataNumber.{DataNumber}

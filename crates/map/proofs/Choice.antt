@@ -57,21 +57,8 @@ amc-below mode n₀ n₁ n₂ h = omega arith
 pub past-listed : (mode : ℕ) → 7 ≤ mode → IsListed mode → ⊥
 past-listed mode h l = omega arith
 
--- the tests at AMC's modes
-pub record AmcTests (mode : ℕ) : Type 0 where
-  pub not-0 : eqb mode 0 ≡ false
-  pub not-1 : eqb mode 1 ≡ false
-  pub not-2 : eqb mode 2 ≡ false
-  pub amc : isAmc mode ≡ true
-
-pub amc-tests : {mode : ℕ} → IsAmc mode → AmcTests mode
-amc-tests {mode} h =
-    record {
-      not-0 = ne-eqb mode 0 (λ e. omega arith);
-      not-1 = ne-eqb mode 1 (λ e. omega arith);
-      not-2 = ne-eqb mode 2 (λ e. omega arith);
-      amc = rw (le-leb 3 mode (h .0), lt-ltb mode 7 (h .1));
-    }
+pub amc-not-0 : {mode : ℕ} → IsAmc mode → eqb mode 0 ≡ false
+amc-not-0 {mode} q = ne-eqb mode 0 (λ e. omega arith)
 
 -- ---- WHAT A MODE HAS of a column of the table, by what is known of the mode
 
@@ -90,7 +77,8 @@ pub by-mode : {A : Type 0} {mode : ℕ} {dl ul spread adjacent other r : A} → 
 by-mode (at-0 e) = rw e
 by-mode (at-1 e) = rw e
 by-mode (at-2 e) = rw e
-by-mode (at-amc q) = let t = amc-tests q in rw (t .not-0, t .not-1, t .not-2, t .amc)
+by-mode {mode = mode} (at-amc q) =
+    rw (amc-not-0 q, ne-eqb mode 1 (λ e. omega arith), ne-eqb mode 2 (λ e. omega arith), le-leb 3 mode (q .0), lt-ltb mode 7 (q .1))
 by-mode {mode = mode} (at-none n) =
     let l : 7 ≤ mode = omega arith in
     rw (ne-eqb mode 0 (λ e. omega arith), ne-eqb mode 1 (λ e. omega arith), ne-eqb mode 2 (λ e. omega arith), le-leb 3 mode (omega arith), le-ltb mode 7 l)

@@ -26,7 +26,7 @@ use Rattle.map.specs.Mode.{subchannels, band, spotOf}
 use Rattle.map.specs.Place.{Place, usedCarrier, placeAt, contentOf}
 use Rattle.map.specs.Law.{PlacedAt}
 use Rattle.map.specs.Model.{Valid, pusc-dl, pusc-ul, ofusc, amc}
-use Rattle.map.proofs.Choice.{amc-tests}
+use Rattle.map.proofs.Choice.{amc-not-0}
 use Rattle.map.proofs.ByMode.{few}
 use Rattle.map.proofs.Slot.{slot-law, band-law, centred}
 use Rattle.map.proofs.Law.{placing}
@@ -40,7 +40,7 @@ unfolding isUsedLit isLit spotOf subchannels
 point-lit (pusc-dl {cell = cell} h) mask slot s m hs hm = ap (hasGroup mask) (point-group cell s m hs hm)
 point-lit (pusc-ul h) mask slot s m hs hm = refl
 point-lit (ofusc w h) mask slot s m hs hm = refl
-point-lit (amc q w h) mask slot s m hs hm = rw (amc-tests q .not-0)
+point-lit (amc q w h) mask slot s m hs hm = rw (amc-not-0 q)
 
 -- a used number's carrier is that number's
 pub used-on-row : {setup : Setup} → Valid setup → (used : ℕ) → used < band setup .used → usedOf (band setup) (onRow (setup .size) (usedCarrier setup used)) ≡ used

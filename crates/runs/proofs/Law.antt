@@ -22,7 +22,7 @@ use Rattle.pusc_ul.specs.Tile.{isTilePilot}
 use Rattle.map.specs.Setup.{Setup, setupLent, setupWith}
 use Rattle.map.specs.Mode.{width, band, isPilot}
 use Rattle.map.specs.Model.{IsListed, OverBins, Valid, pusc-dl, pusc-ul, ofusc, amc}
-use Rattle.map.proofs.Choice.{amc-tests, amc-column, bins-column, none-column}
+use Rattle.map.proofs.Choice.{amc-not-0, amc-column, bins-column, none-column}
 use Rattle.map.proofs.Accept.{width-is}
 use Rattle.mask.specs.Mask.{isUsedLit}
 use Rattle.runs.specs.declared.Runs.{Runs}
@@ -263,10 +263,9 @@ run-law (ofusc {n = n} {cell = cell} {pilots = lent} w h) y =
     (ap (λ (t : ℕ). 54 * t) (width-is n)) (ap (λ (t : ℕ). 27 * t) (width-is n)) (λ u. refl) (λ mask u. refl)
 run-law (amc {mode = mode} {n = n} {cell = cell} {pilots = lent} q w h) y =
     let c = setupLent mode (64 * n) cell lent in
-    let t = amc-tests q in
     bin-law n y c (sym (runs-bins c y (omega arith)) ∙ ap (λ (t : ℕ). bin-runs t y) (width-is n))
     (simp amc-column (ap (λ (t : ℕ). 54 * t) (width-is n))) (simp amc-column (ap (λ (t : ℕ). 27 * t) (width-is n)))
-    (λ u. simp amc-column) (λ mask u. rw (t .not-0))
+    (λ u. simp amc-column) (λ mask u. rw (amc-not-0 q))
 
 -- a run is one of PUSC downlink's 120 clusters, where it has these
 pub run-is : {c : Setup} → Valid c → (i : ℕ) → i < runCount c → IsRun c i
@@ -282,7 +281,7 @@ unfolding runLit runCount runStep isUsedLit clusterLit
 run-light (pusc-dl {cell = cell} h) mask lit t i l = entry-of lit 120 (clusterLit cell mask) (t refl) i l
 run-light (pusc-ul h) mask lit t i l = refl
 run-light (ofusc w h) mask lit t i l = refl
-run-light (amc q w h) mask lit t i l = rw (amc-tests q .not-0)
+run-light (amc q w h) mask lit t i l = rw (amc-not-0 q)
 
 module _ {c : Setup} (v : Valid c) (mask : ℕ) (lit : List ℕ) (t : LitRuns c mask lit) (i : ℕ) (h : i < runCount c) (x : ℕ) (e : x ≡ runLit c lit i) where
   pub run-dark : x ≡ 0 → isUsedLit c mask (i * runStep c) ≡ false
