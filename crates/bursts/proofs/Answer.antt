@@ -1,68 +1,82 @@
--- The answers of the three calls, by the numbers of their questions.
+-- The answers of the three calls, by what their questions come to.
 use mathlib.Core.Path.{_≡_, sym, ap, _∙_}
-use mathlib.Core.List.{List}
-use Prim.Native.Nat.{ℕ, _+_, _<_, _≤_}
+use mathlib.Core.List.{List, [], _∷_}
+use Prim.Native.Nat.{ℕ, _<_, _≤_}
 use native.Mathlib.Omega.{arith}
-use borrow.Author.Tests.{lt-ltb, le-ltb}
-use Rattle.base.specs.Answer.{Answer, accepted, ask, refusalOf}
-use Rattle.base.proofs.Chain.{chain-no, chain-yes}
+use lib.Dec.{ltb}
+use borrow.Author.Tests.{ltb-false}
+use Rattle.base.specs.Answer.{Answer, accepted, refused}
+use Rattle.base.specs.Tabulate.{tabulate}
+use Rattle.base.proofs.Test.{cases}
+use Rattle.base.proofs.Tabulate.{getD-tabulate, tabulated, length-tabulate}
+use Rattle.base.proofs.Chain.{Questions, is-refused, has-passed}
 use Rattle.map.specs.Mode.{subchannels}
-use Rattle.map.specs.Question.{isSlot}
+use Rattle.map.specs.Question.{isSize, isCell, isSubchannel}
 use Rattle.map.proofs.ByMode.{few}
-use Rattle.map.proofs.Accept.{slot-yes}
+use Rattle.mask.specs.Mask.{isMask}
 use Rattle.zone.specs.declared.Zone.{Zone}
-use Rattle.zone.specs.Zone.{setupOf, askFields, fieldsRefusal}
-use Rattle.zone.proofs.Number.{fields-numbered}
+use Rattle.zone.specs.Zone.{isZoneMode, setupOf, isSlots, askFields, fieldsRefusal}
 use Rattle.zone.proofs.Judge.{fields-valid, fields-slots}
-use Rattle.bursts.specs.declared.Owned.{Owned}
-use Rattle.bursts.specs.Burst.{burstAt, burstCount, isCovering, checkOf}
-use Rattle.bursts.specs.Owner.{position, noOwner, ownerAt, lookedAt, askOwner, owned, ownerOf, rowAt, askOwners, ownerRow, ownersOf}
-use Rattle.bursts.specs.Model.{listRefusal}
-use Rattle.base.proofs.First.{first-most}
+use Rattle.burst.specs.Burst.{burstAt, isCovering}
+use Rattle.burst.proofs.Cover.{inside-covers}
+use Rattle.burst_list.specs.Model.{listRefusal}
+use Rattle.burst_list.proofs.Each.{list-no, list-then, list-yes}
+use Rattle.burst_owner.specs.declared.Owned.{Owned}
+use Rattle.burst_owner.specs.Owner.{noOwner, ownerAt}
+use Rattle.burst_owner.specs.Model.{Accepted}
+use Rattle.burst_owner.proofs.Row.{no-owner}
+use Rattle.bursts.specs.declared.OwnerRow.{OwnerRow}
+use Rattle.bursts.specs.Burst.{askBursts}
+use Rattle.bursts.specs.Owner.{owned, rowAt, ownerRow}
 
--- where a zone's own questions are all answered yes, it is small
-pub zone-limits : (size : ℕ) (zone : Zone) → fieldsRefusal size zone ≡ 0 → (subchannels (setupOf size zone) ≤ 192) × (zone .slots ≤ 512)
-zone-limits size zone e = (few (fields-valid size zone e) .subchannels-few, fields-slots size zone e)
+module _ (size : ℕ) (zone : Zone) where
+  -- where a zone's own questions are all answered yes, it is small
+  pub zone-limits : fieldsRefusal size zone ≡ 0 → (subchannels (setupOf size zone) ≤ 192) × (zone .slots ≤ 512)
+  zone-limits e = (few (fields-valid size zone e) .subchannels-few, fields-slots size zone e)
 
--- what the list's questions ask of it
-pub list-asks : (size : ℕ) (zone : Zone) {n s : ℕ} → n ≡ fieldsRefusal size zone → n ≡ 0 → s ≡ subchannels (setupOf size zone) → (s < 65536) × (zone .slots < 65536)
-list-asks size zone e z q = let limits = zone-limits size zone (sym e ∙ z) in (omega arith, omega arith)
+  -- what the list's questions ask of it
+  pub list-asks : {n s : ℕ} → n ≡ fieldsRefusal size zone → n ≡ 0 → s ≡ subchannels (setupOf size zone) → (s < 65536) × (zone .slots < 65536)
+  list-asks e z q = let limits = zone-limits (sym e ∙ z) in (omega arith, omega arith)
 
--- the first owner, of its position
-module _ (numbers : List ℕ) (slot s : ℕ) {p : ℕ} (e : p ≡ position numbers slot s) where
-  pub owner-some : p < burstCount numbers → _≡_ {A = Owned} (record { refusal = 0; owner = p; looked = p + 1 }) (record { refusal = 0; owner = ownerAt numbers slot s; looked = lookedAt numbers slot s })
-  unfolding ownerAt lookedAt
-  owner-some h = rw (← e, lt-ltb p (burstCount numbers) h)
+  -- those of the list, by the subchannels that a function counted
+  module _ (numbers : List ℕ) (s : ℕ) (q : s ≡ subchannels (setupOf size zone)) (k : ℕ) (e : k ≡ listRefusal s (zone .slots) numbers) (rest : Answer (Unit {0})) where
+    pub bursts-no : (k ≡ 0 → ⊥) → refused k ≡ askBursts size zone numbers rest
+    bursts-no ne = rw (← q) (list-no s (zone .slots) numbers rest k e ne)
 
-  pub owner-none : burstCount numbers ≤ p → _≡_ {A = Owned} (record { refusal = 0; owner = noOwner; looked = p }) (record { refusal = 0; owner = ownerAt numbers slot s; looked = lookedAt numbers slot s })
-  unfolding ownerAt lookedAt
-  owner-none h =
-      let all : p ≡ burstCount numbers = omega (arith, first-most (λ i. isCovering (burstAt numbers i) slot s) (burstCount numbers)) in
-      rw (← e, le-ltb p (burstCount numbers) h, all)
+    pub bursts-then : k ≡ 0 → rest ≡ askBursts size zone numbers rest
+    bursts-then z = rw (← q) (list-then s (zone .slots) numbers rest k e z)
 
--- past the zone's own questions, and past that to the slot
-module _ (size : ℕ) (zone : Zone) {n : ℕ} (e : n ≡ fieldsRefusal size zone) (z : n ≡ 0) where
-  pub past-zone : (rest : Answer (Unit {0})) → askFields size zone rest ≡ rest
-  past-zone rest = chain-yes _ _ (fields-numbered size zone rest) e z
+  -- a list that is accepted
+  module _ (numbers : List ℕ) where
+    pub zone-accepted : {n s k : ℕ} → n ≡ fieldsRefusal size zone → n ≡ 0 → s ≡ subchannels (setupOf size zone) → k ≡ listRefusal s (zone .slots) numbers → k ≡ 0 → Accepted numbers
+    zone-accepted {s = s} e z q l y = record { subchannelEnd = s; slotEnd = zone .slots; at-most-192 = omega (arith, zone-limits (sym e ∙ z)); no-refusal = sym l ∙ y }
 
-  pub past-slot : {slot : ℕ} → slot < 512 → (rest : Answer (Unit {0})) → askFields size zone (ask (isSlot slot) 4 rest) ≡ rest
-  past-slot {slot} h rest = past-zone _ ∙ slot-yes rest slot h
+    -- its row has none past the mode's last subchannel
+    module _ (l : listRefusal (subchannels (setupOf size zone)) (zone .slots) numbers ≡ 0) (slot : ℕ) where
+      row-is : (k : ℕ) → ownerAt numbers slot k ≡ rowAt size zone slot numbers k
+      unfolding rowAt isSubchannel
+      row-is k =
+          cases (ltb k (subchannels (setupOf size zone)))
+          (λ t. rw t)
+          (λ f. rw f (no-owner numbers slot k (λ i h.
+          cases (isCovering (burstAt numbers i) slot k)
+          (λ c. absurd (omega (arith, ltb-false k _ f, inside-covers (burstAt numbers i) _ _ (list-yes _ _ numbers l .1 i h .inside) slot k c)))
+          (λ n. n)) .0))
 
--- the outcomes of the calls, by what their questions come to
-module _ (size : ℕ) (zone : Zone) (numbers : List ℕ) where
-  pub check-no : {n : ℕ} → n ≡ fieldsRefusal size zone → (n ≡ 0 → ⊥) → n ≡ checkOf size zone numbers
-  unfolding checkOf
-  check-no e h = sym (ap refusalOf (chain-no _ _ (fields-numbered size zone _) e h))
+    pub row-yes : (s : ℕ) → s ≡ subchannels (setupOf size zone) → (k : ℕ) → k ≡ listRefusal s (zone .slots) numbers → k ≡ 0 → (slot : ℕ) (owners : List ℕ) → owners ≡ tabulate 192 (ownerAt numbers slot)
+        → (answer : Answer (Unit {0})) → accepted tt ≡ answer → record { refusal = 0; owners = owners } ≡ ownerRow (rowAt size zone slot numbers) answer
+    row-yes s q k l y slot owners e answer f =
+        let row = rowAt size zone slot numbers in
+        rw (e ∙ tabulated 0 _ 192 row (length-tabulate 192 (ownerAt numbers slot)) (λ j h. getD-tabulate 192 (ownerAt numbers slot) j 0 h ∙ row-is (rw q at (sym l ∙ y)) slot j)) (ap (ownerRow row) f)
 
-  pub check-list : {n : ℕ} → n ≡ fieldsRefusal size zone → n ≡ 0 → listRefusal (subchannels (setupOf size zone)) (zone .slots) numbers ≡ checkOf size zone numbers
-  unfolding checkOf listRefusal
-  check-list e h = sym (ap refusalOf (past-zone size zone e h _))
+-- the outcomes by their answer
+module _ (owner looked : ℕ) (r : Owned) (answer : Answer (Unit {0})) where
+  pub owned-no : (n : ℕ) → r ≡ record { refusal = n; owner = noOwner; looked = 0 } → refused n ≡ answer → r ≡ owned owner looked answer
+  owned-no n e f = e ∙ ap (owned owner looked) f
 
-  module _ (slot : ℕ) {answer : Answer (Unit {0})} where
-    pub owner-by : (s : ℕ) → askOwner size zone slot s numbers (accepted tt) ≡ answer → owned (ownerAt numbers slot s) (lookedAt numbers slot s) answer ≡ ownerOf size zone slot s numbers
-    unfolding ownerOf
-    owner-by s e = sym (ap (owned (ownerAt numbers slot s) (lookedAt numbers slot s)) e)
+  pub owned-yes : r ≡ record { refusal = 0; owner = owner; looked = looked } → accepted tt ≡ answer → r ≡ owned owner looked answer
+  owned-yes e f = e ∙ ap (owned owner looked) f
 
-    pub row-by : askOwners size zone slot numbers (accepted tt) ≡ answer → ownerRow (rowAt size zone slot numbers) answer ≡ ownersOf size zone slot numbers
-    unfolding ownersOf
-    row-by e = sym (ap (ownerRow (rowAt size zone slot numbers)) e)
+module _ (row : ℕ → ℕ) (r : OwnerRow) (answer : Answer (Unit {0})) where
+  pub row-no : (n : ℕ) → r ≡ record { refusal = n; owners = tabulate 192 (λ s. noOwner) } → refused n ≡ answer → r ≡ ownerRow row answer
+  row-no n e f = e ∙ ap (ownerRow row) f

@@ -9,8 +9,11 @@ use Rattle.map.specs.Mode.{subchannels}
 use Rattle.mask.specs.Mask.{isMask}
 use Rattle.zone.specs.declared.Zone.{Zone}
 use Rattle.zone.specs.Zone.{setupOf, fieldsRefusal}
-use Rattle.bursts.specs.Burst.{burstAt, burstCount, isCovering, checkOf}
-use Rattle.bursts.specs.Owner.{noOwner, ownerOf, ownersOf}
+use Rattle.burst.specs.Burst.{burstAt, isCovering}
+use Rattle.burst_list.specs.List.{burstCount}
+use Rattle.burst_owner.specs.Owner.{noOwner}
+use Rattle.bursts.specs.Burst.{checkOf}
+use Rattle.bursts.specs.Owner.{ownerOf, ownersOf}
 
 -- The burst at a position of the list covers a subchannel in a slot.
 abbrev pub Covers : (numbers : List ℕ) (i slot subchannel : ℕ) → Type 0

@@ -1,4 +1,3 @@
 pub mod Burst
 pub mod Owner
 pub mod Law
-pub mod Model

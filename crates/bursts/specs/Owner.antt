@@ -1,37 +1,16 @@
 -- Document 02, wish 7: "for a slot and subchannel the first and only owner, or none", and the row of the owners of one slot.
 use mathlib.Core.List.{List}
-use Prim.Native.Nat.{ℕ, _+_}
-use lib.Dec.{ltb}
+use Prim.Native.Nat.{ℕ}
 use Rattle.base.specs.Choice.{pick}
 use Rattle.base.specs.Answer.{Answer, accepted, refused, ask}
 use Rattle.base.specs.Tabulate.{tabulate}
 use Rattle.map.specs.Question.{isSlot, isSubchannel}
 use Rattle.zone.specs.declared.Zone.{Zone}
 use Rattle.zone.specs.Zone.{setupOf, askFields}
-use Rattle.bursts.specs.declared.Owned.{Owned}
+use Rattle.burst_owner.specs.declared.Owned.{Owned}
+use Rattle.burst_owner.specs.Owner.{noOwner, ownerAt, lookedAt}
 use Rattle.bursts.specs.declared.OwnerRow.{OwnerRow}
-use Rattle.base.specs.First.{firstOf}
-use Rattle.bursts.specs.Burst.{burstAt, burstCount, isCovering, askBursts}
-
--- The position of the first burst that covers a subchannel in a slot; past the last where none does.
-abbrev pub position : (numbers : List ℕ) (slot subchannel : ℕ) → ℕ
-position numbers slot subchannel = firstOf (λ i. isCovering (burstAt numbers i) slot subchannel) (burstCount numbers)
-
--- No owner is told as "64 for none".
-abbrev pub noOwner : ℕ
-noOwner = 64
-
--- One value where a subchannel in a slot has an owner, and another where it has none.
-abbrev pub byOwner : (numbers : List ℕ) (slot subchannel some none : ℕ) → ℕ
-byOwner numbers slot subchannel some none = pick (ltb (position numbers slot subchannel) (burstCount numbers)) some none
-
--- The owner is told by its position in the list.
-unfoldable pub ownerAt : (numbers : List ℕ) (slot subchannel : ℕ) → ℕ
-ownerAt numbers slot subchannel = byOwner numbers slot subchannel (position numbers slot subchannel) noOwner
-
--- "How many rectangles were looked at: the owner's position plus 1, or the length of the list if there is none."
-unfoldable pub lookedAt : (numbers : List ℕ) (slot subchannel : ℕ) → ℕ
-lookedAt numbers slot subchannel = byOwner numbers slot subchannel (position numbers slot subchannel + 1) (burstCount numbers)
+use Rattle.bursts.specs.Burst.{askBursts}
 
 -- "Then 4 and 5 where a slot or subchannel is given": they come between the zone's questions and the list's.
 abbrev pub askOwner : {A : Type 0} → (size : ℕ) (zone : Zone) (slot subchannel : ℕ) (numbers : List ℕ) (rest : Answer A) → Answer A

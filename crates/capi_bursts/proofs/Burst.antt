@@ -4,7 +4,7 @@ use mathlib.Core.List.{List}
 use Prim.Native.Nat.{ℕ, _≤_}
 use borrow.Author.Tests.{eq-eqb, ne-eqb}
 use Rattle.zone.specs.declared.Zone.{Zone}
-use Rattle.bursts.specs.declared.Owned.{Owned}
+use Rattle.burst_owner.specs.declared.Owned.{Owned}
 use Rattle.bursts.specs.Owner.{ownerOf}
 use Rattle.bursts.proofs.Law.{owner-most}
 use Rattle.capi_bursts.specs.Burst.{ownerOut}

@@ -3,7 +3,7 @@ use mathlib.Core.List.{List}
 use Prim.Native.Nat.{ℕ}
 use lib.Dec.{eqb}
 use Rattle.base.specs.Choice.{pick}
-use Rattle.bursts.specs.declared.Owned.{Owned}
+use Rattle.burst_owner.specs.declared.Owned.{Owned}
 use Rattle.bursts.specs.declared.OwnerRow.{OwnerRow}
 use Rattle.c_boundary.specs.Row.{RowOut, rowOut}
 

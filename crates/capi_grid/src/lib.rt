@@ -2,7 +2,7 @@
 // returns 0, or document 01's refusal number; on a refusal nothing is written.
 use points::Point;
 ghost use mathlib.Core.Path.{_≡_};
-ghost use Rattle.map.specs.declared.Setup.{Setup};
+ghost use Rattle.map.specs.Setup.{setupWith};
 ghost use Rattle.ground.specs.Ground.{groundOf};
 ghost use Rattle.lay.specs.Lay.{layOf};
 ghost use Rattle.empty.specs.Empty.{emptyOf, emptyFirstOf};
@@ -21,7 +21,7 @@ pub extern "C" fn bp_ground(
     pilot: &[f32; 2],
     grid: &mut [f32],
 ) -> u32
-    ensures { λ r. ⌜ record { refusal = r; buffer = now (grid .exit) } ≡ groundOf (record { mode = mode; size = size; cell = cell }) mask slot (pairPoint (now (pilot .entry))) (now (grid .entry)) ⌝ }
+    ensures { λ r. ⌜ record { refusal = r; buffer = now (grid .exit) } ≡ groundOf (setupWith mode size cell) mask slot (pairPoint (now (pilot .entry))) (now (grid .entry)) ⌝ }
 {
     let p = Point {
         i: pilot[0],
@@ -44,7 +44,7 @@ pub extern "C" fn bp_lay(
     points: &[f32],
     grid: &mut [f32],
 ) -> u32
-    ensures { λ r. ⌜ record { refusal = r; buffer = now (grid .exit) } ≡ layOf (record { mode = mode; size = size; cell = cell }) mask slot subchannel (now (points .entry)) (now (grid .entry)) ⌝ }
+    ensures { λ r. ⌜ record { refusal = r; buffer = now (grid .exit) } ≡ layOf (setupWith mode size cell) mask slot subchannel (now (points .entry)) (now (grid .entry)) ⌝ }
 {
     let of = c_boundary::setup(mode, size, cell);
     let mask = mask as usize;
@@ -62,7 +62,7 @@ pub extern "C" fn bp_empty(
     grid: &[f32],
     points: &mut [f32],
 ) -> u32
-    ensures { λ r. ⌜ record { refusal = r; buffer = now (points .exit) } ≡ emptyOf (record { mode = mode; size = size; cell = cell }) mask slot (now (grid .entry)) (now (points .entry)) ⌝ }
+    ensures { λ r. ⌜ record { refusal = r; buffer = now (points .exit) } ≡ emptyOf (setupWith mode size cell) mask slot (now (grid .entry)) (now (points .entry)) ⌝ }
 {
     let of = c_boundary::setup(mode, size, cell);
     let mask = mask as usize;
@@ -81,7 +81,7 @@ pub extern "C" fn bp_empty_first(
     grid: &[f32],
     points: &mut [f32],
 ) -> u32
-    ensures { λ r. ⌜ record { refusal = r; buffer = now (points .exit) } ≡ emptyFirstOf (record { mode = mode; size = size; cell = cell }) mask slot carriers (now (grid .entry)) (now (points .entry)) ⌝ }
+    ensures { λ r. ⌜ record { refusal = r; buffer = now (points .exit) } ≡ emptyFirstOf (setupWith mode size cell) mask slot carriers (now (grid .entry)) (now (points .entry)) ⌝ }
 {
     let of = c_boundary::setup(mode, size, cell);
     let mask = mask as usize;
@@ -98,7 +98,7 @@ pub extern "C" fn bp_places(
     subchannel: u32,
     places: &mut [u32; 48],
 ) -> u32
-    ensures { λ r. ⌜ record { refusal = r; row = now (places .exit) } ≡ placesOut (placesOf (record { mode = mode; size = size; cell = cell }) slot subchannel) (now (places .entry)) ⌝ }
+    ensures { λ r. ⌜ record { refusal = r; row = now (places .exit) } ≡ placesOut (placesOf (setupWith mode size cell) slot subchannel) (now (places .entry)) ⌝ }
 {
     let of = c_boundary::setup(mode, size, cell);
     let found = places::row(of, slot as usize, subchannel as usize);

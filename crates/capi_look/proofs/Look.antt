@@ -5,7 +5,7 @@ use Prim.Native.Nat.{ℕ, _<_}
 use lib.IntN.{ℤ}
 use lib.Ieee.{Float}
 use Rattle.base.specs.Answer.{Answer}
-use Rattle.map.specs.declared.Setup.{Setup}
+use Rattle.map.specs.Setup.{Setup}
 use Rattle.map.proofs.Law.{point-small}
 use Rattle.points.specs.declared.Point.{Point}
 use Rattle.look.specs.declared.Seen.{Seen}

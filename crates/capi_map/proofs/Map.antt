@@ -6,7 +6,7 @@ use native.Mathlib.Omega.{arith}
 use mir.Syntax.{w32}
 use mir.Val.{SFits}
 use Rattle.base.specs.Answer.{Answer}
-use Rattle.map.specs.declared.Setup.{Setup}
+use Rattle.map.specs.Setup.{Setup}
 use Rattle.map.specs.declared.Placed.{Placed}
 use Rattle.map.specs.declared.Placed.the-variants.{At}
 use Rattle.map.specs.declared.Located.{Located}

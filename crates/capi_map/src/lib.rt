@@ -2,7 +2,7 @@
 use map::Located;
 use map::Placed;
 ghost use mathlib.Core.Path.{_≡_};
-ghost use Rattle.map.specs.declared.Setup.{Setup};
+ghost use Rattle.map.specs.Setup.{setupWith};
 ghost use Rattle.map.specs.Place.{placeOf, locateOf};
 ghost use Rattle.capi_map.specs.Map.{PlaceOut, placeOut, LocateOut, locateOut};
 
@@ -17,7 +17,7 @@ pub extern "C" fn bp_place(
     symbol: &mut u32,
     carrier: &mut i32,
 ) -> u32
-    ensures { λ r. ⌜ record { refusal = r; symbol = now (symbol .exit); carrier = now (carrier .exit) } ≡ placeOut (placeOf (record { mode = mode; size = size; cell = cell }) slot subchannel index) (now (symbol .entry)) (now (carrier .entry)) ⌝ }
+    ensures { λ r. ⌜ record { refusal = r; symbol = now (symbol .exit); carrier = now (carrier .exit) } ≡ placeOut (placeOf (setupWith mode size cell) slot subchannel index) (now (symbol .entry)) (now (carrier .entry)) ⌝ }
 {
     let answer = map::place(
         c_boundary::setup(mode, size, cell),
@@ -50,7 +50,7 @@ pub extern "C" fn bp_locate(
     subchannel: &mut u32,
     index: &mut u32,
 ) -> u32
-    ensures { λ r. ⌜ record { refusal = r; kind = now (kind .exit); slot = now (slot .exit); subchannel = now (subchannel .exit); index = now (index .exit) } ≡ locateOut (locateOf (record { mode = mode; size = size; cell = cell }) symbol carrier) (now (kind .entry)) (now (slot .entry)) (now (subchannel .entry)) (now (index .entry)) ⌝ }
+    ensures { λ r. ⌜ record { refusal = r; kind = now (kind .exit); slot = now (slot .exit); subchannel = now (subchannel .exit); index = now (index .exit) } ≡ locateOut (locateOf (setupWith mode size cell) symbol carrier) (now (kind .entry)) (now (slot .entry)) (now (subchannel .entry)) (now (index .entry)) ⌝ }
 {
     let answer = map::locate(
         c_boundary::setup(mode, size, cell),

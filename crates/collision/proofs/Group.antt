@@ -20,7 +20,8 @@ use Rattle.ofusc.specs.Map.{groupOf, cellTerm, dataNumber}
 use Rattle.ofusc.specs.Model.{cellNumber, groupNumber}
 use Rattle.ofusc.proofs.Sequence.{pos, sum-lt, cell-term-lt}
 use Rattle.ofusc.proofs.Row.{with-subchannel}
-use Rattle.map.specs.Mode.{width, symbols, band, spotOf, setupWith}
+use Rattle.map.specs.Setup.{setupWith}
+use Rattle.map.specs.Mode.{width, symbols, band, spotOf}
 use Rattle.map.proofs.Accept.{width-is}
 use Rattle.collision.specs.Collision.{indexIn, columnIn, ofuscHit}
 

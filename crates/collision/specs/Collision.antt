@@ -9,8 +9,8 @@ use Rattle.base.specs.Steps.{unrotate}
 use Rattle.base.specs.Tabulate.{tabulate}
 use Rattle.carriers.specs.Band.{carrierOf}
 use Rattle.amc.specs.Map.{traffic}
-use Rattle.map.specs.declared.Setup.{Setup}
-use Rattle.map.specs.Mode.{band, spotOf, setupWith}
+use Rattle.map.specs.Setup.{Setup, setupWith}
+use Rattle.map.specs.Mode.{band, spotOf}
 use Rattle.map.specs.Question.{isFourSizes, isCell, isSubchannel}
 use Rattle.collision.specs.declared.Collisions.{Collisions}
 

@@ -15,7 +15,7 @@ use Rattle.base.specs.Tabulate.{tabulate}
 use Rattle.base.proofs.Tabulate.{entry-of}
 use Rattle.carriers.specs.Band.{carrierOf}
 use Rattle.carriers.proofs.Guards.{carrier-lt}
-use Rattle.map.specs.declared.Setup.{Setup}
+use Rattle.map.specs.Setup.{Setup}
 use Rattle.map.specs.Mode.{symbols, band}
 use Rattle.map.specs.Model.{Valid}
 use Rattle.map.proofs.ByMode.{few, row-few}

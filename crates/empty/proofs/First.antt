@@ -10,7 +10,7 @@ use borrow.Author.Tests.{eqb-true, eqb-false, ltb-false, le-ltb}
 use Rattle.base.specs.Choice.{pick}
 use Rattle.base.specs.Answer.{accepted}
 use Rattle.base.proofs.Test.{cases}
-use Rattle.map.specs.declared.Setup.{Setup}
+use Rattle.map.specs.Setup.{Setup}
 use Rattle.mask.specs.Mask.{litSubchannels}
 use Rattle.points.specs.declared.Point.{Point}
 use Rattle.points.specs.Points.{pointAt, floatsOf}

@@ -18,7 +18,7 @@ use Rattle.carriers.specs.declared.Address.{Address}
 use Rattle.carriers.specs.Band.{carrierOf}
 use Rattle.carriers.specs.Law.{DataSpot, PointOf}
 use Rattle.carriers.proofs.Guards.{carrier-lt}
-use Rattle.map.specs.declared.Setup.{Setup}
+use Rattle.map.specs.Setup.{Setup}
 use Rattle.map.specs.Mode.{subchannels, symbols, band, isPilot, spotOf, addressOf}
 use Rattle.map.specs.Model.{Valid}
 use Rattle.map.proofs.Slot.{slot-law, band-law}

@@ -5,7 +5,7 @@ use Prim.Native.Nat.{ℕ, _+_, _-_, _*_, _/_, _%_}
 use lib.Dec.{ltb}
 use lib.Ieee.{Float}
 use Rattle.base.specs.Choice.{pick}
-use Rattle.map.specs.declared.Setup.{Setup}
+use Rattle.map.specs.Setup.{Setup}
 use Rattle.carriers.specs.declared.Spot.{Spot}
 use Rattle.map.specs.Mode.{symbols, spotOf}
 use Rattle.mask.specs.Mask.{isUsedLit, litSubchannels, ofLitRank}

@@ -6,6 +6,7 @@ ghost use mathlib.Core.Path.{_≡_};
 ghost use Prim.Native.Nat.{_+_, _*_, _<_, _≤_};
 ghost use lib.ListN.{length};
 ghost use Rattle.base.specs.Tabulate.{tabulate};
+ghost use Rattle.map.specs.Setup.{alone};
 ghost use Rattle.map.specs.Mode.{symbols};
 ghost use Rattle.map.specs.Model.{Valid};
 ghost use Rattle.mask.specs.Mask.{litSubchannels};
@@ -33,11 +34,11 @@ fn drop_run(
     grid: &[f32],
     points: &mut [f32],
 )
-    requires { ⌜ Valid setup ⌝ }
-    requires { ⌜ (row < symbols setup) × (i < runCount setup) × (start ≡ runStart setup row i) × (start ≤ carriers) × (length (now points) ≡ 96 * litSubchannels setup mask) × (length (now grid) ≡ 2 * gridPoints setup) ⌝ }
-    requires { ⌜ (shape ≡ runsOf setup (slot * symbols setup + row)) × (all ≡ runPoints shape) × (now «its_places» ≡ tabulate 12 (runPlace shape)) × LitRuns setup mask (now lit) ⌝ }
-    requires { ⌜ (strides .run ≡ runStride setup) × (strides .point ≡ pointStride setup) × RowNumbers setup mask (slot * symbols setup + row) (now numbers) ⌝ }
-    ensures { λ _. ⌜ now (points .exit) ≡ dropped setup mask slot carriers row i (now (grid .entry)) (now (points .entry)) ⌝ }
+    requires { ⌜ Valid (alone setup) ⌝ }
+    requires { ⌜ (row < symbols (alone setup)) × (i < runCount (alone setup)) × (start ≡ runStart (alone setup) row i) × (start ≤ carriers) × (length (now points) ≡ 96 * litSubchannels (alone setup) mask) × (length (now grid) ≡ 2 * gridPoints (alone setup)) ⌝ }
+    requires { ⌜ (shape ≡ runsOf (alone setup) (slot * symbols (alone setup) + row)) × (all ≡ runPoints shape) × (now «its_places» ≡ tabulate 12 (runPlace shape)) × LitRuns (alone setup) mask (now lit) ⌝ }
+    requires { ⌜ (strides .run ≡ runStride (alone setup)) × (strides .point ≡ pointStride (alone setup)) × RowNumbers (alone setup) mask (slot * symbols (alone setup) + row) (now numbers) ⌝ }
+    ensures { λ _. ⌜ now (points .exit) ≡ dropped (alone setup) mask slot carriers row i (now (grid .entry)) (now (points .entry)) ⌝ }
 {
     if rows::run_lit(setup, lit, i) == 0 {
         return;
@@ -68,10 +69,10 @@ fn empty_row(
     grid: &[f32],
     points: &mut [f32],
 )
-    requires { ⌜ Valid setup ⌝ }
-    requires { ⌜ (slot < 512) × (row < symbols setup) × (length (now points) ≡ 96 * litSubchannels setup mask) × (length (now grid) ≡ 2 * gridPoints setup) ⌝ }
-    requires { ⌜ LitRuns setup mask (now lit) × RunTable setup mask (now runs) × PlaceTable setup (now places) ⌝ }
-    ensures { λ _. ⌜ RowWalked setup mask slot carriers row (now (grid .entry)) (now (points .entry)) (now (points .exit)) ⌝ }
+    requires { ⌜ Valid (alone setup) ⌝ }
+    requires { ⌜ (slot < 512) × (row < symbols (alone setup)) × (length (now points) ≡ 96 * litSubchannels (alone setup) mask) × (length (now grid) ≡ 2 * gridPoints (alone setup)) ⌝ }
+    requires { ⌜ LitRuns (alone setup) mask (now lit) × RunTable (alone setup) mask (now runs) × PlaceTable (alone setup) (now places) ⌝ }
+    ensures { λ _. ⌜ RowWalked (alone setup) mask slot carriers row (now (grid .entry)) (now (points .entry)) (now (points .exit)) ⌝ }
 {
     let first = row * setup.size;
     if carriers <= first {
@@ -119,9 +120,9 @@ fn empty_rows(
     grid: &[f32],
     points: &mut [f32],
 )
-    requires { ⌜ Valid setup ⌝ }
-    requires { ⌜ (mask < 64) × (slot < 512) × (length (now points) ≡ 96 * litSubchannels setup mask) × (length (now grid) ≡ 2 * gridPoints setup) ⌝ }
-    ensures { λ _. ⌜ now (points .exit) ≡ emptiedFirst setup mask slot carriers (now (grid .entry)) (now (points .entry)) ⌝ }
+    requires { ⌜ Valid (alone setup) ⌝ }
+    requires { ⌜ (mask < 64) × (slot < 512) × (length (now points) ≡ 96 * litSubchannels (alone setup) mask) × (length (now grid) ≡ 2 * gridPoints (alone setup)) ⌝ }
+    ensures { λ _. ⌜ now (points .exit) ≡ emptiedFirst (alone setup) mask slot carriers (now (grid .entry)) (now (points .entry)) ⌝ }
 {
     let lit = rows::lit_runs(setup, mask);
     let runs = rows::run_table(setup, mask);
@@ -147,7 +148,7 @@ fn empty_rows(
 
 // Takes a slot's points off its grid, those of the lit subchannels; or the first refusal of 1, 2, 3, 17, 4, 8, 9.
 pub fn empty(setup: Setup, mask: usize, slot: usize, grid: &[f32], points: &mut [f32]) -> u8
-    ensures { λ r. ⌜ record { refusal = r; buffer = now (points .exit) } ≡ emptyOf setup mask slot (now (grid .entry)) (now (points .entry)) ⌝ }
+    ensures { λ r. ⌜ record { refusal = r; buffer = now (points .exit) } ≡ emptyOf (alone setup) mask slot (now (grid .entry)) (now (points .entry)) ⌝ }
 {
     let refusal = lengths::empty_refusal(setup, mask, slot, points.len(), grid.len());
     if refusal != 0 {
@@ -167,7 +168,7 @@ pub fn empty_first(
     grid: &[f32],
     points: &mut [f32],
 ) -> u8
-    ensures { λ r. ⌜ record { refusal = r; buffer = now (points .exit) } ≡ emptyFirstOf setup mask slot carriers (now (grid .entry)) (now (points .entry)) ⌝ }
+    ensures { λ r. ⌜ record { refusal = r; buffer = now (points .exit) } ≡ emptyFirstOf (alone setup) mask slot carriers (now (grid .entry)) (now (points .entry)) ⌝ }
 {
     let refusal = lengths::empty_refusal(setup, mask, slot, points.len(), grid.len());
     if refusal != 0 {

@@ -13,7 +13,8 @@ use Rattle.amc.specs.Model.{IsShape}
 use Rattle.amc.specs.Map.{traffic, trafficNumber, dataNumber}
 use Rattle.amc.proofs.Law.{traffic-lt, traffic-back, offset-lt, number-below}
 use Rattle.map.specs.Place.{Place, usedCarrier, placeAt, placeOf}
-use Rattle.map.specs.Mode.{shapeOf, width, subchannels, symbols, band, spotOf, setupWith}
+use Rattle.map.specs.Setup.{setupWith}
+use Rattle.map.specs.Mode.{shapeOf, width, subchannels, symbols, band, spotOf}
 use Rattle.map.specs.Model.{IsAmc, amc}
 use Rattle.map.proofs.Accept.{width-is}
 use Rattle.map.proofs.Choice.{amc-shape, amc-tests}

@@ -17,7 +17,8 @@ use Rattle.ofusc.specs.Field.{modulus, coefficient, product, remainder, times, 
 use Rattle.ofusc.specs.Map.{groupOf, term, cellTerm, dataNumber}
 use Rattle.amc.specs.Element.{add, sequence, times as product′}
 use Rattle.amc.specs.Map.{off, zeroRule, elementOf, traffic}
-use Rattle.map.specs.Mode.{width, cells, subchannels, symbols, band, spotOf, setupWith}
+use Rattle.map.specs.Setup.{setupWith}
+use Rattle.map.specs.Mode.{width, cells, subchannels, symbols, band, spotOf}
 use Rattle.map.specs.Question.{isFourSizes, isCell, isSubchannel}
 use Rattle.map.specs.Place.{Place, placeOf}
 use Rattle.map.proofs.Accept.{width-is}

@@ -14,7 +14,7 @@ use Rattle.ofusc.specs.Width.{Width}
 use Rattle.ofusc.specs.Map.{cellTerm, dataNumber}
 use Rattle.ofusc.proofs.Sequence.{sum-lt, cell-term-lt}
 use Rattle.map.specs.Place.{Place, placeOf}
-use Rattle.map.specs.Mode.{setupWith}
+use Rattle.map.specs.Setup.{setupWith}
 use Rattle.map.proofs.Law.{placing}
 use Rattle.collision.specs.Collision.{countOf, indexIn, ofuscHit}
 use Rattle.figures.specs.Word.{Allowed, Pair, InGroup, Marked, inRow, SameInGroup, sum}

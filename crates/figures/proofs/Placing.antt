@@ -10,7 +10,8 @@ use Rattle.ofusc.specs.Width.{Width}
 use Rattle.ofusc.specs.Map.{groupOf, dataNumber}
 use Rattle.ofusc.proofs.Sequence.{pos}
 use Rattle.ofusc.proofs.Law.{group-digit, law}
-use Rattle.map.specs.Mode.{width, symbols, subchannels, band, spotOf, setupWith}
+use Rattle.map.specs.Setup.{setupWith}
+use Rattle.map.specs.Mode.{width, symbols, subchannels, band, spotOf}
 use Rattle.map.specs.Place.{Place, usedCarrier, placeAt, placeOf}
 use Rattle.map.specs.Model.{ofusc}
 use Rattle.map.proofs.Accept.{width-is}

@@ -20,7 +20,7 @@ use Rattle.carriers.specs.Law.{DataSpot}
 use Rattle.carriers.proofs.Guards.{carrier-lt, used-carrier}
 use Rattle.centre.specs.Centre.{fromDc}
 use Rattle.centre.proofs.Law.{one-column}
-use Rattle.map.specs.declared.Setup.{Setup}
+use Rattle.map.specs.Setup.{Setup}
 use Rattle.map.specs.Mode.{subchannels, symbols, band, isPilot, spotOf}
 use Rattle.map.specs.Place.{Content, guard, point, Place, usedCarrier, placeAt, contentOf}
 use Rattle.map.specs.Model.{Valid}

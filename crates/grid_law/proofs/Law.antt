@@ -17,7 +17,7 @@ use Rattle.base.proofs.Test.{cases}
 use Rattle.carriers.specs.Band.{carrierOf, usedOf}
 use Rattle.carriers.proofs.Guards.{carrier-lt, used-carrier}
 use Rattle.centre.specs.Centre.{fromDc}
-use Rattle.map.specs.declared.Setup.{Setup}
+use Rattle.map.specs.Setup.{Setup}
 use Rattle.map.specs.Mode.{subchannels, symbols, band, isPilot, spotOf}
 use Rattle.map.specs.Law.{Passes}
 use Rattle.map.specs.Place.{Place, Content, guard, dc, pilot, point, usedCarrier, placeAt, placeOf, contentOf}
@@ -415,7 +415,7 @@ grid-law =
       laid-in-part = laid-grid;
       ground-mod-3 = ground-mod-3;
       ground-always = ground-always;
-      ground-every-cell = λ mode size cell other slot p old a b. every-cell mode size cell other slot p old (setup-asked _ _ a .0) (setup-asked _ _ b .0);
+      ground-every-cell = λ mode size cell other slot pilots p old a b. every-cell mode size cell other slot pilots p old (setup-asked _ _ a .0) (setup-asked _ _ b .0);
       unlit-meets-5 = λ setup mask slot s points grid e k h l dark.
           sym (refused-leaves _ _ _ (lay-numbered setup mask slot s (length points) (length grid) _) grid 5
           (lay-unlit setup mask slot s (length points) (length grid) (passed e k) h l dark) (λ z. omega arith));

@@ -10,8 +10,8 @@ use lib.Ieee.{Float}
 use Rattle.base.specs.Choice.{pick}
 use Rattle.base.specs.Answer.{accepted}
 use Rattle.carriers.specs.Band.{carrierOf, isGuard}
-use Rattle.map.specs.declared.Setup.{Setup}
-use Rattle.map.specs.Mode.{setupWith, subchannels, symbols, band, isPilot}
+use Rattle.map.specs.Setup.{Setup, setupLent}
+use Rattle.map.specs.Mode.{subchannels, symbols, band, isPilot}
 use Rattle.map.specs.Place.{Place, usedCarrier, placeOf}
 use Rattle.map.specs.Law.{Passes}
 use Rattle.mask.specs.Mask.{isMask, isLit, isUsedLit, litRank, allLit}
@@ -110,8 +110,8 @@ pub record GridLaw : Type 0 where
   pub ground-always : (setup : Setup) (mask slot other : ℕ) (p : Point) (old : List Float) → slot < 512 → other < 512 → (setup .mode ≡ 0) ⊎ (symbols setup % 3 ≡ 0)
       → groundOf setup mask slot p old ≡ groundOf setup mask other p old
   -- Where all is lit one ground serves every cell too.
-  pub ground-every-cell : (mode size cell other slot : ℕ) (p : Point) (old : List Float) → Passes (setupWith mode size cell) → Passes (setupWith mode size other)
-      → groundOf (setupWith mode size cell) (allLit mode) slot p old ≡ groundOf (setupWith mode size other) (allLit mode) slot p old
+  pub ground-every-cell : (mode size cell other slot : ℕ) (pilots : List ℕ) (p : Point) (old : List Float) → Passes (setupLent mode size cell pilots) → Passes (setupLent mode size other pilots)
+      → groundOf (setupLent mode size cell pilots) (allLit mode) slot p old ≡ groundOf (setupLent mode size other pilots) (allLit mode) slot p old
   -- Document 02, wish 5: laying an unlit subchannel meets 5.
   pub unlit-meets-5 : (setup : Setup) (mask slot s : ℕ) (points grid : List Float) → Passes setup → isMask (setup .mode) mask ≡ true → slot < 512
       → s < subchannels setup → isLit setup mask s ≡ false → layOf setup mask slot s points grid ≡ record { refusal = 5; buffer = grid }

@@ -9,8 +9,8 @@ use borrow.Author.Tests.{lt-ltb}
 use Rattle.base.specs.Answer.{Answer, accepted, ask}
 use Rattle.base.proofs.Test.{cases}
 use Rattle.carriers.specs.Band.{usedOf, isGuard, isDc}
-use Rattle.map.specs.declared.Setup.{Setup}
-use Rattle.map.specs.Mode.{setupWith, symbols, band, isPilot}
+use Rattle.map.specs.Setup.{Setup, setupLent}
+use Rattle.map.specs.Mode.{symbols, band, isPilot}
 use Rattle.map.specs.Question.{isSlot}
 use Rattle.map.specs.Place.{dataAt, contentOf}
 use Rattle.map.specs.Model.{Valid}
@@ -72,18 +72,18 @@ ground-always setup mask slot other p old hs ho h =
 
 -- ---- where all is lit
 
-module _ (mode size cell other slot : ℕ) (p : Point) (old : List Float) where
+module _ (mode size cell other slot : ℕ) (pilots : List ℕ) (p : Point) (old : List Float) where
   abbrev a : Setup
-  a = setupWith mode size cell
+  a = setupLent mode size cell pilots
 
   abbrev b : Setup
-  b = setupWith mode size other
+  b = setupLent mode size other pilots
 
   same-bare : (y column : ℕ) → bare p (litContent a (allLit mode) y column) ≡ bare p (litContent b (allLit mode) y column)
   unfolding contentOf dataAt bare
   same-bare y column =
       let used = usedOf (band b) column in
-      rw (mask-law .all-content a y column, mask-law .all-content b y column, same-band mode size cell other, same-pilots mode size cell other y used)
+      rw (mask-law .all-content a y column, mask-law .all-content b y column, same-band mode size cell other pilots, same-pilots mode size cell other pilots y used)
       (cases (isGuard (band b) size column)
       (λ g. rw g)
       (λ g. cases (isDc (band b) column)
@@ -93,7 +93,7 @@ module _ (mode size cell other slot : ℕ) (p : Point) (old : List Float) where
   pub every-cell : Valid a → Valid b → groundOf a (allLit mode) slot p old ≡ groundOf b (allLit mode) slot p old
   unfolding groundOf grounded isGrid gridPoints rowOf columnOf
   every-cell va vb =
-      rw (passes va, passes vb, same-symbols mode size cell other) (λ i. ground (λ n. same-bare (slot * symbols b + rowOf b n) (columnOf b n) i))
+      rw (passes va, passes vb, same-symbols mode size cell other pilots) (λ i. ground (λ n. same-bare (slot * symbols b + rowOf b n) (columnOf b n) i))
     where
       ground : (ℕ → Point) → Outcome
       ground f =

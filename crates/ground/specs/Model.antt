@@ -4,7 +4,7 @@ use Prim.Native.Nat.{ℕ, _+_, _*_, _/_}
 use lib.Dec.{eqb}
 use lib.Ieee.{Float}
 use Rattle.base.specs.Choice.{pick}
-use Rattle.map.specs.declared.Setup.{Setup}
+use Rattle.map.specs.Setup.{Setup}
 use Rattle.rows.specs.declared.Comb.{Comb}
 use Rattle.map.specs.Mode.{symbols}
 use Rattle.rows.specs.Model.{combOf, pilotNumber, runLit}

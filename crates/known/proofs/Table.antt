@@ -14,7 +14,9 @@ use Rattle.zone.specs.Zone.{isZoneMode}
 use Rattle.plan.specs.Plan.{each}
 use Rattle.plan_read.proofs.Points.{any-first-cell, first-refusals, amc-after-amc, others-after-amc, faults-in-order, mask-outside, masks-refused}
 use Rattle.base.specs.First.{firstOf}
-use Rattle.bursts.specs.Owner.{ownerAt, lookedAt, ownerOf}
+use Rattle.burst_owner.specs.Owner.{ownerAt, lookedAt}
+use Rattle.bursts.specs.Burst.{checkOf}
+use Rattle.bursts.specs.Owner.{ownerOf}
 use Rattle.known.specs.Table.{Known, AnyCell, setFrom, groups, indices, bursts, corner, check, owner, owns, refusal}
 use Rattle.carriers.specs.Band as band
 use Rattle.carriers.specs.Bin as bin
@@ -29,7 +31,8 @@ use Rattle.amc.specs.Map as amc
 use Rattle.amc.specs.Element as element
 use Rattle.map.specs.Mode as mode
 use Rattle.map.specs.Question as question
-use Rattle.bursts.specs.Burst as burst
+use Rattle.burst.specs.Burst as burst
+use Rattle.burst_list.specs.List as list
 
 any-cell : (cell : ℕ) → cell < 32 → AnyCell cell
 unfolding skip unskip inRange onRow locateOf contentOf dataAt mode.cells mode.symbols mode.band mode.isPilot question.isMode question.isSize question.isCell question.isSymbol question.isCarrier band.usedOf band.isGuard band.isDc cluster.isClusterPilot cluster.firstPilot cluster.secondPilot
@@ -50,11 +53,11 @@ unfolding setFrom tabulate amcOf answerOf amcHit question.isCell mode.cells amc.
 adjacent = refl
 
 zone-check : (check bursts ≡ 0) × (check (corner 1 2 3 2) ≡ 19) × (check (corner 3 2 3 1) ≡ 18) × (check (corner 3 1 3 0) ≡ 18) × (check (corner 4294967295 2 3 1) ≡ 18) × (check (corner 1 4 3 1) ≡ 18)
-unfolding isUpTo mode.width mode.cells mode.subchannels question.isFourSizes question.isSize question.isCell isMask isZoneMode firstOf burst.isList burst.isWithin burst.isInside burst.isShared burst.isOverlap burst.isApart burst.askEach burst.checkOf
+unfolding isUpTo mode.width mode.cells mode.subchannels question.isFourSizes question.isSize question.isCell isMask isZoneMode firstOf list.isList burst.isWithin burst.isInside burst.isShared burst.isOverlap list.isApart list.askEach checkOf
 zone-check = (refl, refl, refl, refl, refl, refl)
 
 zone-owner : (owner 3 1 ≡ owns 0 1) × (owner 4 1 ≡ owns 2 3) × (owner 5 3 ≡ owns 1 2) × (owner 6 1 ≡ owns 64 3) × (owner 512 1 ≡ refusal 4) × (owner 5 4 ≡ refusal 5)
-unfolding isUpTo mode.width mode.cells mode.subchannels question.isFourSizes question.isSize question.isCell question.isSlot question.isSubchannel isMask isZoneMode firstOf burst.isOf burst.isCovering burst.isList burst.isWithin burst.isInside burst.isShared burst.isOverlap burst.isApart burst.askEach ownerAt lookedAt ownerOf
+unfolding isUpTo mode.width mode.cells mode.subchannels question.isFourSizes question.isSize question.isCell question.isSlot question.isSubchannel isMask isZoneMode firstOf burst.isOf burst.isCovering list.isList burst.isWithin burst.isInside burst.isShared burst.isOverlap list.isApart list.askEach ownerAt lookedAt ownerOf
 zone-owner = (refl, refl, refl, refl, refl, refl)
 
 pub known : Known

@@ -8,14 +8,14 @@ use lib.ListN.{length}
 use Rattle.base.specs.Answer.{Answer, accepted, refused}
 use Rattle.base.specs.Tabulate.{tabulate}
 use Rattle.pusc_ul.specs.Tile.{tileOf}
-use Rattle.map.specs.Mode.{setupWith}
+use Rattle.map.specs.Setup.{setupWith}
 use Rattle.map.specs.Place.{Place, Content, guard, dc, pilot, point, placeOf, locateOf}
 use Rattle.collision.specs.Collision.{ofuscOf, amcOf}
 use Rattle.zone.specs.declared.Zone.{Zone}
 use Rattle.plan.specs.declared.Plan.{Plan}
 use Rattle.plan.specs.Plan.{each}
 use Rattle.plan_read.specs.Read.{planWith, planOf}
-use Rattle.bursts.specs.declared.Owned.{Owned}
+use Rattle.burst_owner.specs.declared.Owned.{Owned}
 use Rattle.bursts.specs.Burst.{checkOf}
 use Rattle.bursts.specs.Owner.{ownerOf}
 

@@ -10,7 +10,7 @@ use lib.Ieee.{Float}
 use borrow.Author.Tests.{eqb-true, eqb-false}
 use Rattle.base.specs.Choice.{pick}
 use Rattle.base.proofs.Test.{cases}
-use Rattle.map.specs.declared.Setup.{Setup}
+use Rattle.map.specs.Setup.{Setup}
 use Rattle.map.specs.Mode.{subchannels}
 use Rattle.map.specs.Place.{Content, guard, dc, pilot, point}
 use Rattle.map.specs.Model.{Valid}

@@ -5,7 +5,7 @@ use Prim.Native.Nat.{ℕ, _*_, _<_}
 use lib.ListN.{length}
 use lib.Ieee.{Float}
 use Rattle.base.specs.Answer.{accepted}
-use Rattle.map.specs.declared.Setup.{Setup}
+use Rattle.map.specs.Setup.{Setup}
 use Rattle.points.specs.Points.{pointAt}
 use Rattle.points.proofs.Points.{point-floats}
 use Rattle.lengths.specs.Length.{gridPoints}

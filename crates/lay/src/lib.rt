@@ -1,6 +1,7 @@
 // A subchannel's points laid on a slot's grid.
 use map::Setup;
 ghost use mathlib.Core.Path.{_≡_};
+ghost use Rattle.map.specs.Setup.{alone};
 ghost use Rattle.lay.specs.Lay.{layOf};
 
 // Lays a lit subchannel's 48 points on a slot's grid and leaves the rest of it; or the first refusal of 1, 2, 3, 17, 4, 5, 8,
@@ -13,7 +14,7 @@ pub fn lay(
     points: &[f32],
     grid: &mut [f32],
 ) -> u8
-    ensures { λ r. ⌜ record { refusal = r; buffer = now (grid .exit) } ≡ layOf setup mask slot subchannel (now (points .entry)) (now (grid .entry)) ⌝ }
+    ensures { λ r. ⌜ record { refusal = r; buffer = now (grid .exit) } ≡ layOf (alone setup) mask slot subchannel (now (points .entry)) (now (grid .entry)) ⌝ }
 {
     let refusal = lengths::lay_refusal(setup, mask, slot, subchannel, points.len(), grid.len());
     if refusal != 0 {

@@ -3,8 +3,8 @@ use mathlib.Core.Path.{_≡_, refl, ap, _∙_}
 use Prim.Native.Nat.{ℕ, _*_}
 use borrow.Author.Tests.{lt-ltb}
 use Rattle.base.proofs.Test.{cases}
-use Rattle.map.specs.declared.Setup.{Setup}
-use Rattle.map.specs.Mode.{width, cells, subchannels, symbols, setupWith}
+use Rattle.map.specs.Setup.{Setup, setupWith}
+use Rattle.map.specs.Mode.{width, cells, subchannels, symbols}
 use Rattle.map.specs.Question.{isListed, isMode, isSizeOf, isSize, isCell}
 use Rattle.map.specs.Model.{setupRefusal, Valid}
 use Rattle.map.proofs.Accept.{some-cell, setup-yes}

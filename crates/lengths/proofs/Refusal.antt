@@ -11,7 +11,7 @@ use Rattle.base.specs.Answer.{Answer, refusalOf}
 use Rattle.base.proofs.Test.{both-true}
 use Rattle.base.proofs.Chain.{numbered, Questions, AllYes, all-numbered, all-yes, yes-parts, is-refused, has-passed}
 use Rattle.centre.specs.Centre.{inRange}
-use Rattle.map.specs.declared.Setup.{Setup}
+use Rattle.map.specs.Setup.{Setup}
 use Rattle.map.specs.Mode.{subchannels, symbols}
 use Rattle.map.specs.Question.{isSlot, isSymbol, isSubchannel, isCarrier}
 use Rattle.map.specs.Model.{Valid}

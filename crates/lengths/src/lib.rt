@@ -2,14 +2,15 @@
 use map::Setup;
 ghost use mathlib.Core.Path.{_≡_};
 ghost use Prim.Native.Nat.{_<_};
+ghost use Rattle.map.specs.Setup.{alone};
 ghost use Rattle.map.specs.Model.{Valid};
 ghost use Rattle.lengths.specs.Length.{gridPoints, pointsLength, litPointsLength, gridLength};
 ghost use Rattle.lengths.specs.Model.{maskRefusal, slotRefusal, gridRefusal, groundRefusal, layRefusal, emptyRefusal, lookRefusal};
 
 // The points of a slot's grid.
 pub fn grid_points(setup: Setup) -> usize
-    requires { ⌜ Valid setup ⌝ }
-    ensures { λ r. ⌜ (r ≡ gridPoints setup) × (r < 65536) ⌝ }
+    requires { ⌜ Valid (alone setup) ⌝ }
+    ensures { λ r. ⌜ (r ≡ gridPoints (alone setup)) × (r < 65536) ⌝ }
 {
     map::symbols(setup) * setup.size
 }
@@ -61,7 +62,7 @@ pub fn grid_length(mode: usize, size: usize) -> usize
 
 // The number of the first of questions 1, 2, 3 and 17 that is answered no, or 0.
 fn mask_refusal(setup: Setup, mask: usize) -> u8
-    ensures { λ r. ⌜ r ≡ maskRefusal setup mask ⌝ }
+    ensures { λ r. ⌜ r ≡ maskRefusal (alone setup) mask ⌝ }
 {
     let k = map::refusal(setup);
     if k != 0 {
@@ -75,7 +76,7 @@ fn mask_refusal(setup: Setup, mask: usize) -> u8
 
 // The number of the first of questions 1, 2, 3, 17 and 4 that is answered no, or 0.
 fn slot_refusal(setup: Setup, mask: usize, slot: usize) -> u8
-    ensures { λ r. ⌜ r ≡ slotRefusal setup mask slot ⌝ }
+    ensures { λ r. ⌜ r ≡ slotRefusal (alone setup) mask slot ⌝ }
 {
     let k = mask_refusal(setup, mask);
     if k != 0 {
@@ -89,8 +90,8 @@ fn slot_refusal(setup: Setup, mask: usize, slot: usize) -> u8
 
 // The number of question 9, which comes last in each call, where it is answered no, or 0.
 fn grid_refusal(setup: Setup, grid: usize) -> u8
-    requires { ⌜ Valid setup ⌝ }
-    ensures { λ r. ⌜ r ≡ gridRefusal setup grid ⌝ }
+    requires { ⌜ Valid (alone setup) ⌝ }
+    ensures { λ r. ⌜ r ≡ gridRefusal (alone setup) grid ⌝ }
 {
     if grid != 2 * grid_points(setup) {
         return 9;
@@ -100,7 +101,7 @@ fn grid_refusal(setup: Setup, grid: usize) -> u8
 
 // The number of the first of ground's questions, 1, 2, 3, 17, 4, 9, that is answered no, or 0.
 pub fn ground_refusal(setup: Setup, mask: usize, slot: usize, grid: usize) -> u8
-    ensures { λ r. ⌜ r ≡ groundRefusal setup mask slot grid ⌝ }
+    ensures { λ r. ⌜ r ≡ groundRefusal (alone setup) mask slot grid ⌝ }
 {
     let k = slot_refusal(setup, mask, slot);
     if k != 0 {
@@ -118,7 +119,7 @@ pub fn lay_refusal(
     points: usize,
     grid: usize,
 ) -> u8
-    ensures { λ r. ⌜ r ≡ layRefusal setup mask slot subchannel points grid ⌝ }
+    ensures { λ r. ⌜ r ≡ layRefusal (alone setup) mask slot subchannel points grid ⌝ }
 {
     let k = slot_refusal(setup, mask, slot);
     if k != 0 {
@@ -138,7 +139,7 @@ pub fn lay_refusal(
 
 // The number of the first of empty's questions, 1, 2, 3, 17, 4, 8, 9, that is answered no, or 0.
 pub fn empty_refusal(setup: Setup, mask: usize, slot: usize, points: usize, grid: usize) -> u8
-    ensures { λ r. ⌜ r ≡ emptyRefusal setup mask slot points grid ⌝ }
+    ensures { λ r. ⌜ r ≡ emptyRefusal (alone setup) mask slot points grid ⌝ }
 {
     let k = slot_refusal(setup, mask, slot);
     if k != 0 {
@@ -152,7 +153,7 @@ pub fn empty_refusal(setup: Setup, mask: usize, slot: usize, points: usize, grid
 
 // The number of the first of look's questions, 1, 2, 3, 17, 4, 7, 9, that is answered no, or 0.
 pub fn look_refusal(setup: Setup, mask: usize, symbol: usize, carrier: i32, grid: usize) -> u8
-    ensures { λ r. ⌜ r ≡ lookRefusal setup mask symbol carrier grid ⌝ }
+    ensures { λ r. ⌜ r ≡ lookRefusal (alone setup) mask symbol carrier grid ⌝ }
 {
     let k = mask_refusal(setup, mask);
     if k != 0 {

@@ -12,7 +12,7 @@ use Rattle.base.specs.Answer.{Answer, accepted, refused}
 use Rattle.base.proofs.Chain.{same-accepted, yes-all, no-first, number-none}
 use Rattle.carriers.specs.Band.{usedOf}
 use Rattle.centre.specs.Centre.{onRow}
-use Rattle.map.specs.declared.Setup.{Setup}
+use Rattle.map.specs.Setup.{Setup}
 use Rattle.map.specs.Mode.{symbols, band}
 use Rattle.map.specs.Question.{isCarrier}
 use Rattle.map.specs.Place.{Content, guard, dc, pilot, point, contentOf, locateOf}

@@ -5,6 +5,7 @@ use points::Point;
 ghost use mathlib.Core.Path.{_≡_};
 ghost use Prim.Native.Nat.{_*_, _%_, _<_};
 ghost use Rattle.base.specs.Answer.{accepted};
+ghost use Rattle.map.specs.Setup.{alone};
 ghost use Rattle.map.specs.Mode.{symbols};
 ghost use Rattle.map.specs.Place.{Content, located};
 ghost use Rattle.map.specs.Model.{Valid};
@@ -49,16 +50,16 @@ fn sight(content: Located, p: Point) -> Seen
 
 // Where a column of a zone's symbol stands in its slot's grid.
 fn column_position(setup: Setup, symbol: usize, column: usize) -> usize
-    requires { ⌜ Valid setup ⌝ }
+    requires { ⌜ Valid (alone setup) ⌝ }
     requires { ⌜ column < setup .size ⌝ }
-    ensures { λ r. ⌜ (r ≡ columnPosition setup (symbol % symbols setup) column) × (r < gridPoints setup) ⌝ }
+    ensures { λ r. ⌜ (r ≡ columnPosition (alone setup) (symbol % symbols (alone setup)) column) × (r < gridPoints (alone setup)) ⌝ }
 {
     map::offset_of(setup, symbol) * setup.size + column
 }
 
 // The point on a lit carrier of a zone's symbol, and whose it is; or the first refusal of 1, 2, 3, 17, 4, 7, 9.
 pub fn look(setup: Setup, mask: usize, symbol: usize, grid: &[f32], carrier: i32) -> Seen
-    ensures { λ r. ⌜ seen r ≡ lookOf setup mask symbol (now (grid .entry)) carrier ⌝ }
+    ensures { λ r. ⌜ seen r ≡ lookOf (alone setup) mask symbol (now (grid .entry)) carrier ⌝ }
 {
     let refusal = lengths::look_refusal(setup, mask, symbol, carrier, grid.len());
     if refusal != 0 {

@@ -1,7 +1,7 @@
 -- Questions 1, 2 and 3 let pass just the valid setups; and what 4 and 5 come to.
 use mathlib.Core.Path.{_≡_, refl, ap, subst⁻¹, _∙_}
 use mathlib.Core.Bool.{true, false}
-use mathlib.Core.List.{[], _∷_}
+use mathlib.Core.List.{List, [], _∷_}
 use Prim.Native.Nat.{ℕ, zero, suc, _*_, _/_, _<_, _≤_}
 use native.Mathlib.Nat.{mul-pos}
 use native.Mathlib.Omega.{arith}
@@ -12,8 +12,8 @@ use Rattle.base.proofs.Test.{cases}
 use Rattle.base.proofs.Chain.{numbered, Questions, AllYes, all-numbered, all-yes}
 use Rattle.ofusc.specs.Width.{Width, n4, n8, n16, n32}
 use Rattle.ofusc.proofs.Sequence.{size, pos}
-use Rattle.map.specs.declared.Setup.{Setup}
-use Rattle.map.specs.Mode.{width, cells, subchannels, setupWith}
+use Rattle.map.specs.Setup.{Setup, setupLent, setupWith}
+use Rattle.map.specs.Mode.{width, cells, subchannels}
 use Rattle.map.specs.Question.{isListed, isMode, isFourSizes, isSizeOf, isSize, isCell, isSlot, isSubchannel, askSetup}
 use Rattle.map.specs.Model.{setupRefusal, IsAmc, Valid, pusc-dl, pusc-ul, ofusc, amc}
 use Rattle.map.proofs.Choice.{amc-tests, mode-amc}
@@ -48,24 +48,24 @@ four-sizes z h =
     (λ e″. subst⁻¹ Sized (eqb-true z 1024 e″) (sized n16))
     (λ e″. subst⁻¹ Sized (eqb-true z 2048 (rw (e, e′, e″) at h)) (sized n32))))
 
-valid-at : {m : ℕ} (z k : ℕ) → Listed m → isSize (setupWith m z k) ≡ true → isCell (setupWith m z k) ≡ true → Valid (setupWith m z k)
+valid-at : {m : ℕ} (z k : ℕ) (l : List ℕ) → Listed m → isSize (setupLent m z k l) ≡ true → isCell (setupLent m z k l) ≡ true → Valid (setupLent m z k l)
 unfolding isSize isCell cells width
-valid-at z k m0 s e = subst⁻¹ (λ (t : ℕ). Valid (setupWith 0 t k)) (eqb-true z 2048 s) (pusc-dl (ltb-true k 32 e))
-valid-at z k m1 s e = subst⁻¹ (λ (t : ℕ). Valid (setupWith 1 t k)) (eqb-true z 2048 s) (pusc-ul (ltb-true k 70 e))
-valid-at z k m2 s e = spread (four-sizes z s) (ltb-true k (z / 64 * (z / 64)) e)
+valid-at z k l m0 s e = subst⁻¹ (λ (t : ℕ). Valid (setupLent 0 t k l)) (eqb-true z 2048 s) (pusc-dl (ltb-true k 32 e))
+valid-at z k l m1 s e = subst⁻¹ (λ (t : ℕ). Valid (setupLent 1 t k l)) (eqb-true z 2048 s) (pusc-ul (ltb-true k 70 e))
+valid-at z k l m2 s e = spread (four-sizes z s) (ltb-true k (z / 64 * (z / 64)) e)
   where
-    spread : {z : ℕ} → Sized z → k < z / 64 * (z / 64) → Valid (setupWith 2 z k)
+    spread : {z : ℕ} → Sized z → k < z / 64 * (z / 64) → Valid (setupLent 2 z k l)
     spread (sized {n = n} w) h = ofusc w (rw (width-is n) at h)
-valid-at {m = m} z k (m-amc q) s e =
+valid-at {m = m} z k l (m-amc q) s e =
     adjacent (four-sizes z (rw (le-ltb m 2 (omega arith), lt-ltb m 7 (omega arith)) at s))
     (ltb-true k 2352 (ap (ltb k) (mode-amc m 32 70 (z / 64 * (z / 64)) 2352 0 q) ∙ e))
   where
-    adjacent : {z : ℕ} → Sized z → k < 2352 → Valid (setupWith m z k)
+    adjacent : {z : ℕ} → Sized z → k < 2352 → Valid (setupLent m z k l)
     adjacent (sized w) h = amc q w h
 
 pub valid : (c : Setup) → isMode c ≡ true → isSize c ≡ true → isCell c ≡ true → Valid c
 unfolding isMode
-valid c e₁ e₂ e₃ = valid-at (c .size) (c .cell) (listed (c .mode) (ltb-true (c .mode) 7 e₁)) e₂ e₃
+valid c e₁ e₂ e₃ = valid-at (c .size) (c .cell) (c .pilots) (listed (c .mode) (ltb-true (c .mode) 7 e₁)) e₂ e₃
 
 -- cell 0 is a cell of every listed mode and size
 pub some-cell : (m z : ℕ) → isListed m ≡ true → isSizeOf m z ≡ true → 0 < cells (setupWith m z 0)

@@ -1,5 +1,6 @@
 -- Which slots and cells have their pilots at the same places.
 use mathlib.Core.Path.{_≡_, refl, sym, ap, _∙_}
+use mathlib.Core.List.{List}
 use Prim.Native.Nat.{ℕ, _+_, _*_, _/_, _%_}
 use native.Mathlib.Nat.{add-assoc, add-mul, mul-assoc, mul-right-comm, div-add-mod', mul-add-mod-self-right}
 use native.Mathlib.Omega.{arith}
@@ -8,8 +9,8 @@ use borrow.Author.Tests.{eq-eqb, eqb-true}
 use Rattle.base.proofs.Test.{cases}
 use Rattle.carriers.specs.Bin.{binPilotPlace, isBinPilot}
 use Rattle.pusc_dl.proofs.Tables.{pilot-parity}
-use Rattle.map.specs.declared.Setup.{Setup}
-use Rattle.map.specs.Mode.{setupWith, width, symbols, band, isPilot}
+use Rattle.map.specs.Setup.{Setup, setupLent}
+use Rattle.map.specs.Mode.{width, symbols, band, isPilot}
 
 -- the number of a symbol mod 3, by its slot mod 3, and where a slot has three or six
 mod-3 : (a k o : ℕ) → (a * k + o) % 3 ≡ (a % 3 * k + o) % 3
@@ -49,15 +50,15 @@ pilots-alike setup slot other e o used =
 
 -- ---- what of a symbol does not take the cell
 
-module _ (mode size cell other : ℕ) where
-  pub same-symbols : symbols (setupWith mode size cell) ≡ symbols (setupWith mode size other)
+module _ (mode size cell other : ℕ) (pilots : List ℕ) where
+  pub same-symbols : symbols (setupLent mode size cell pilots) ≡ symbols (setupLent mode size other pilots)
   unfolding symbols
   same-symbols = refl
 
-  pub same-band : band (setupWith mode size cell) ≡ band (setupWith mode size other)
+  pub same-band : band (setupLent mode size cell pilots) ≡ band (setupLent mode size other pilots)
   unfolding band width
   same-band = refl
 
-  pub same-pilots : (symbol used : ℕ) → isPilot (setupWith mode size cell) symbol used ≡ isPilot (setupWith mode size other) symbol used
+  pub same-pilots : (symbol used : ℕ) → isPilot (setupLent mode size cell pilots) symbol used ≡ isPilot (setupLent mode size other pilots) symbol used
   unfolding isPilot
   same-pilots symbol used = refl

@@ -21,7 +21,7 @@ use Rattle.pusc_ul.specs.Tile.{isTilePilot}
 use Rattle.amc.specs.declared.Shape.{Shape}
 use Rattle.amc.specs.Model.{IsShape}
 use Rattle.amc.proofs.Parts.{symbols-pos, symbols-few, symbols-are}
-use Rattle.map.specs.declared.Setup.{Setup}
+use Rattle.map.specs.Setup.{Setup}
 use Rattle.map.specs.Mode.{shapeOf, width, cells, subchannels, symbols, band, isPilot, spotOf, addressOf}
 use Rattle.map.specs.Model.{IsAmc, Valid, pusc-dl, pusc-ul, ofusc, amc}
 use Rattle.map.proofs.Choice.{amc-shape, amc-tests, mode-0, mode-1, mode-2, mode-amc, last-mode}
@@ -162,7 +162,7 @@ unfolding symbols subchannels band width
 few (pusc-dl h) = omega arith
 few (pusc-ul h) = omega arith
 few (ofusc w h) = let b = size w .most in omega arith
-few {c} (amc {mode = m} q w h) =
+few {c} (amc {mode = m} {pilots = lent} q w h) =
     let t = amc-tests q in
     let shape = amc-shape m q in
     let n = size w .most in
@@ -170,7 +170,7 @@ few {c} (amc {mode = m} q w h) =
       symbols-pos = rw (t .not-0, t .not-1, t .not-2, t .listed) (symbols-pos (shapeOf m) shape);
       symbols-few = rw (t .not-0, t .not-1, t .not-2, t .listed) (symbols-few (shapeOf m) shape);
       size-few = omega arith;
-      subchannels-few = few-subchannels (amc q w h) q;
+      subchannels-few = few-subchannels (amc {pilots = lent} q w h) q;
       left-few = rw (t .not-0, t .not-1, t .not-2, t .listed) (omega arith);
       half-few = rw (t .not-0, t .not-1, t .not-2, t .listed) (omega arith);
       used-few = rw (t .not-0, t .not-1, t .not-2, t .listed) (omega arith);

@@ -10,7 +10,7 @@ use Rattle.base.proofs.Test.{cases}
 use Rattle.amc.specs.declared.Shape.{Shape}
 use Rattle.amc.specs.Model.{IsShape}
 use Rattle.amc.proofs.Parts.{symbols-few}
-use Rattle.map.specs.declared.Setup.{Setup}
+use Rattle.map.specs.Setup.{Setup}
 use Rattle.map.specs.Mode.{shape, shapeOf, byMode, width, subchannels, symbols}
 use Rattle.map.specs.Model.{IsAmc}
 

@@ -8,7 +8,7 @@ use lib.IntN.{ℤ, pos}
 use Rattle.base.specs.Answer.{accepted}
 use Rattle.carriers.specs.Band.{carrierOf, usedOf}
 use Rattle.carriers.proofs.Guards.{carrier-lt, carrier-no-guard, carrier-no-dc, used-carrier, band-law as columns}
-use Rattle.map.specs.declared.Setup.{Setup}
+use Rattle.map.specs.Setup.{Setup}
 use Rattle.map.specs.Mode.{symbols, band, isPilot, spotOf, addressOf}
 use Rattle.map.specs.Place.{Place, dc, usedCarrier, placeAt, placeOf, contentOf, locateOf}
 use Rattle.map.specs.Model.{Valid}

@@ -18,7 +18,7 @@ use Rattle.carriers.specs.Law.{PointOf}
 use Rattle.carriers.proofs.Guards.{carrier-lt, carrier-no-guard, carrier-no-dc, used-carrier, used-lt, carrier-used}
 use Rattle.centre.specs.Centre.{fromDc, inRange, onRow}
 use Rattle.centre.proofs.Law.{in-range-mag}
-use Rattle.map.specs.declared.Setup.{Setup}
+use Rattle.map.specs.Setup.{Setup}
 use Rattle.map.specs.Mode.{subchannels, symbols, band, isPilot, spotOf, addressOf}
 use Rattle.map.specs.Question.{askSetup, isMode, isSize, isCell, isSlot, isSymbol, isSubchannel, isIndex, isCarrier}
 use Rattle.map.specs.Place.{Place, Content, dc, pilot, point, usedCarrier, placeAt, placeOf, dataAt, contentOf, locateOf}

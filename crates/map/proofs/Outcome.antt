@@ -17,7 +17,7 @@ use Rattle.carriers.specs.Band.{carrierOf, usedOf, isGuard, isDc}
 use Rattle.carriers.specs.declared.Spot.{Spot}
 use Rattle.carriers.proofs.Guards.{carrier-lt, used-left, used-lt}
 use Rattle.centre.specs.Centre.{inRange, onRow}
-use Rattle.map.specs.declared.Setup.{Setup}
+use Rattle.map.specs.Setup.{Setup}
 use Rattle.map.specs.Mode.{subchannels, symbols, band, isPilot, spotOf, addressOf}
 use Rattle.map.specs.Question.{askSetup, isCarrier}
 use Rattle.map.specs.Model.{setupRefusal, Valid}
@@ -65,6 +65,9 @@ pub column-below : {c : Setup} → Valid c → (b : Band) → b ≡ band c → (
 column-below {c} v b e u h column f = rw (f, e) (carrier-lt (band c) (c .size) (band-law v) u h)
 
 -- the range is asked of what the machine reads, which is the carrier
+pub carrier-in : (size : ℕ) (k : ℤ) (t : Bool) → t ≡ inRange size (toZ w32 (ofZ w32 k)) → not t ≡ false → inRange size (toZ w32 (ofZ w32 k)) ≡ true
+carrier-in size k t g yes′ = sym g ∙ not-false _ yes′
+
 module _ (c : Setup) (k : ℤ) (fits : SFits w32 k) (t : Bool) (g : t ≡ inRange (c .size) (toZ w32 (ofZ w32 k))) where
   asked : t ≡ isCarrier c k
   unfolding isCarrier
@@ -77,12 +80,9 @@ module _ (c : Setup) (k : ℤ) (fits : SFits w32 k) (t : Bool) (g : t ≡ inRang
     pub carrier-yes : isCarrier c k ≡ true
     carrier-yes = told-yes t asked yes′
 
-    pub carrier-in : inRange (c .size) (toZ w32 (ofZ w32 k)) ≡ true
-    carrier-in = sym g ∙ not-false _ yes′
-
     module _ (column : ℕ) (f : column ≡ onRow (c .size) (toZ w32 (ofZ w32 k))) where
       pub column-in : Valid c → column < c .size
-      column-in v = rw f (centred v .0 .column-lt _ carrier-in)
+      column-in v = rw f (centred v .0 .column-lt _ (carrier-in _ k t g yes′))
 
       pub locate-done : (y : ℕ) → Valid c → (n : ℕ) → n ≡ symbols c → y < 512 * n → (a : Answer Content) → a ≡ accepted (contentOf c y column) → a ≡ locateOf c y k
       locate-done y v n e l a h =

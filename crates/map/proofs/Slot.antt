@@ -13,7 +13,7 @@ use Rattle.centre.proofs.Law.{centre-law}
 use Rattle.pusc_dl.proofs.Tables.{pilot-parity}
 use Rattle.pusc_ul.specs.Tile.{isTilePilot}
 use Rattle.ofusc.proofs.Sequence.{pos}
-use Rattle.map.specs.declared.Setup.{Setup}
+use Rattle.map.specs.Setup.{Setup}
 use Rattle.map.specs.Mode.{shapeOf, width, subchannels, symbols, band, isPilot, spotOf, addressOf}
 use Rattle.map.specs.Model.{Valid, pusc-dl, pusc-ul, ofusc, amc}
 use Rattle.map.proofs.Choice.{amc-shape, amc-tests}

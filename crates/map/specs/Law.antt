@@ -7,7 +7,7 @@ use lib.IntN.{ℤ, pos}
 use lib.Signed.{_<ℤ_}
 use Rattle.base.specs.Answer.{accepted}
 use Rattle.centre.specs.Centre.{fromDc}
-use Rattle.map.specs.declared.Setup.{Setup}
+use Rattle.map.specs.Setup.{Setup}
 use Rattle.map.specs.Mode.{subchannels, symbols, band, isPilot}
 use Rattle.map.specs.Question.{askSetup}
 use Rattle.map.specs.Place.{Place, Content, dc, pilot, point, usedCarrier, placeOf, locateOf}

@@ -11,14 +11,11 @@ use Rattle.carriers.specs.Bin.{isBinPilot, dataOfUsed, binSpot, inOnlySymbol}
 use Rattle.pusc_dl.specs.Cluster.{isClusterPilot}
 use Rattle.pusc_ul.specs.Tile.{isTilePilot}
 use Rattle.amc.specs.declared.Shape.{Shape}
-use Rattle.map.specs.declared.Setup.{Setup}
+use Rattle.map.specs.Setup.{Setup}
 use Rattle.pusc_dl.specs.Map as pusc-dl
 use Rattle.pusc_ul.specs.Map as pusc-ul
 use Rattle.ofusc.specs.Map as ofusc
 use Rattle.amc.specs.Map as amc
-
-abbrev pub setupWith : (mode size cell : ℕ) → Setup
-setupWith mode size cell = record { mode = mode; size = size; cell = cell }
 
 abbrev pub shape : (bins symbols : ℕ) → Shape
 shape bins symbols = record { bins = bins; symbols = symbols }

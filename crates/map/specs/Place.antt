@@ -7,7 +7,7 @@ use Rattle.carriers.specs.declared.Spot.{Spot}
 use Rattle.carriers.specs.declared.Address.{Address}
 use Rattle.carriers.specs.Band.{carrierOf, usedOf, isGuard, isDc}
 use Rattle.centre.specs.Centre.{fromDc, onRow}
-use Rattle.map.specs.declared.Setup.{Setup}
+use Rattle.map.specs.Setup.{Setup}
 use Rattle.map.specs.declared.Placed.{Placed}
 use Rattle.map.specs.declared.Placed.the-variants.{At, Refused}
 use Rattle.map.specs.declared.Located.{Located}

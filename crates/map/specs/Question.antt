@@ -6,7 +6,7 @@ use lib.IntN.{ℤ}
 use Rattle.base.specs.Choice.{pick}
 use Rattle.base.specs.Answer.{Answer, ask}
 use Rattle.centre.specs.Centre.{inRange}
-use Rattle.map.specs.declared.Setup.{Setup}
+use Rattle.map.specs.Setup.{Setup}
 use Rattle.map.specs.Mode.{cells, subchannels, symbols}
 
 -- 1 Is the mode listed? Document 01 lists 0 to 3, document 02, wish 2, adds 4 to 6.

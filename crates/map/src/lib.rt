@@ -10,6 +10,7 @@ ghost use Prim.Native.Nat.{_*_, _/_, _%_, _<_, _≤_};
 ghost use Rattle.base.specs.Answer.{accepted};
 ghost use Rattle.carriers.specs.Bin.{binSpot, inOnlySymbol};
 ghost use Rattle.ofusc.specs.Map.{dataNumber as ofuscNumber};
+ghost use Rattle.map.specs.Setup.{alone};
 ghost use Rattle.map.specs.Mode.{shapeOf, width as WidthOf, cells as Cells, subchannels as Subchannels, symbols as Symbols, band as BandOf, isPilot, spotOf, addressOf};
 ghost use Rattle.map.specs.Question.{isFourSizes, isSize};
 ghost use Rattle.map.specs.Model.{setupRefusal, Valid};
@@ -77,14 +78,14 @@ pub fn shape(mode: usize) -> Shape
 
 // N of the modes over bins.
 pub fn width(setup: Setup) -> usize
-    ensures { λ r. ⌜ r ≡ WidthOf setup ⌝ }
+    ensures { λ r. ⌜ r ≡ WidthOf (alone setup) ⌝ }
 {
     setup.size / 64
 }
 
 fn cells(setup: Setup) -> usize
     requires { ⌜ (setup .mode < 7) × (setup .size ≤ 2048) ⌝ }
-    ensures { λ r. ⌜ r ≡ Cells setup ⌝ }
+    ensures { λ r. ⌜ r ≡ Cells (alone setup) ⌝ }
 {
     if setup.mode == 0 {
         return 32;
@@ -99,7 +100,7 @@ fn cells(setup: Setup) -> usize
 }
 
 pub fn subchannels(setup: Setup) -> usize
-    ensures { λ r. ⌜ r ≡ Subchannels setup ⌝ }
+    ensures { λ r. ⌜ r ≡ Subchannels (alone setup) ⌝ }
 {
     if setup.mode == 0 {
         return 60;
@@ -115,7 +116,7 @@ pub fn subchannels(setup: Setup) -> usize
 
 // Symbols a slot.
 pub fn symbols(setup: Setup) -> usize
-    ensures { λ r. ⌜ r ≡ Symbols setup ⌝ }
+    ensures { λ r. ⌜ r ≡ Symbols (alone setup) ⌝ }
 {
     if setup.mode == 0 {
         return 2;
@@ -131,8 +132,8 @@ pub fn symbols(setup: Setup) -> usize
 
 // The slot of a zone's symbol, by a constant for each number of symbols.
 fn slot_of(setup: Setup, symbol: usize) -> usize
-    requires { ⌜ Valid setup ⌝ }
-    ensures { λ r. ⌜ r ≡ symbol / Symbols setup ⌝ }
+    requires { ⌜ Valid (alone setup) ⌝ }
+    ensures { λ r. ⌜ r ≡ symbol / Symbols (alone setup) ⌝ }
 {
     let n = symbols(setup);
     if n == 1 {
@@ -149,15 +150,15 @@ fn slot_of(setup: Setup, symbol: usize) -> usize
 
 // The offset of a zone's symbol in its slot.
 pub fn offset_of(setup: Setup, symbol: usize) -> usize
-    requires { ⌜ Valid setup ⌝ }
-    ensures { λ r. ⌜ r ≡ symbol % Symbols setup ⌝ }
+    requires { ⌜ Valid (alone setup) ⌝ }
+    ensures { λ r. ⌜ r ≡ symbol % Symbols (alone setup) ⌝ }
 {
     symbol - slot_of(setup, symbol) * symbols(setup)
 }
 
 pub fn band(setup: Setup) -> Band
-    requires { ⌜ Valid setup ⌝ }
-    ensures { λ r. ⌜ r ≡ BandOf setup ⌝ }
+    requires { ⌜ Valid (alone setup) ⌝ }
+    ensures { λ r. ⌜ r ≡ BandOf (alone setup) ⌝ }
 {
     if setup.mode == 0 {
         return carriers::pusc_band();
@@ -185,7 +186,7 @@ pub fn is_four_sizes(size: usize) -> bool
 }
 
 fn is_size(setup: Setup) -> bool
-    ensures { λ r. ⌜ r ≡ isSize setup ⌝ }
+    ensures { λ r. ⌜ r ≡ isSize (alone setup) ⌝ }
 {
     if setup.mode < 2 {
         return setup.size == 2048;
@@ -198,7 +199,7 @@ fn is_size(setup: Setup) -> bool
 
 // The number of the first of questions 1, 2 and 3 that is answered no, or 0.
 pub fn refusal(setup: Setup) -> u8
-    ensures { λ r. ⌜ r ≡ setupRefusal setup ⌝ }
+    ensures { λ r. ⌜ r ≡ setupRefusal (alone setup) ⌝ }
 {
     if 7 <= setup.mode {
         return 1;
@@ -225,9 +226,9 @@ fn bin_spot(first: usize, x: DataNumber) -> Spot
 
 // The data number of a point of optional FUSC, in its slot of one symbol.
 fn ofusc_number(setup: Setup, subchannel: usize, index: usize) -> DataNumber
-    requires { ⌜ Valid setup ⌝ }
-    requires { ⌜ (setup .mode ≡ 2) × (subchannel < Subchannels setup) × (index < 48) ⌝ }
-    ensures { λ r. ⌜ r ≡ inOnlySymbol (ofuscNumber (WidthOf setup) (setup .cell) subchannel index) ⌝ }
+    requires { ⌜ Valid (alone setup) ⌝ }
+    requires { ⌜ (setup .mode ≡ 2) × (subchannel < Subchannels (alone setup)) × (index < 48) ⌝ }
+    ensures { λ r. ⌜ r ≡ inOnlySymbol (ofuscNumber (WidthOf (alone setup)) (setup .cell) subchannel index) ⌝ }
 {
     DataNumber {
         offset: 0,
@@ -237,9 +238,9 @@ fn ofusc_number(setup: Setup, subchannel: usize, index: usize) -> DataNumber
 
 // Where a point lies in its slot.
 fn spot(setup: Setup, slot: usize, subchannel: usize, index: usize) -> Spot
-    requires { ⌜ Valid setup ⌝ }
-    requires { ⌜ (slot < 512) × (subchannel < Subchannels setup) × (index < 48) ⌝ }
-    ensures { λ r. ⌜ r ≡ spotOf setup slot subchannel index ⌝ }
+    requires { ⌜ Valid (alone setup) ⌝ }
+    requires { ⌜ (slot < 512) × (subchannel < Subchannels (alone setup)) × (index < 48) ⌝ }
+    ensures { λ r. ⌜ r ≡ spotOf (alone setup) slot subchannel index ⌝ }
 {
     if setup.mode == 0 {
         return pusc_dl::spot(setup.cell, subchannel, index);
@@ -258,8 +259,8 @@ fn spot(setup: Setup, slot: usize, subchannel: usize, index: usize) -> Spot
 }
 
 fn is_pilot(setup: Setup, symbol: usize, used: usize) -> bool
-    requires { ⌜ Valid setup ⌝ }
-    ensures { λ r. ⌜ r ≡ isPilot setup symbol used ⌝ }
+    requires { ⌜ Valid (alone setup) ⌝ }
+    ensures { λ r. ⌜ r ≡ isPilot (alone setup) symbol used ⌝ }
 {
     if setup.mode == 0 {
         return pusc_dl::is_pilot(symbol, used);
@@ -272,10 +273,10 @@ fn is_pilot(setup: Setup, symbol: usize, used: usize) -> bool
 
 // Whose point a used number holds that is no pilot.
 fn address(setup: Setup, symbol: usize, used: usize) -> Address
-    requires { ⌜ Valid setup ⌝ }
-    requires { ⌜ used < BandOf setup .used ⌝ }
-    requires { ⌜ isPilot setup symbol used ≡ false ⌝ }
-    ensures { λ r. ⌜ r ≡ addressOf setup symbol used ⌝ }
+    requires { ⌜ Valid (alone setup) ⌝ }
+    requires { ⌜ used < BandOf (alone setup) .used ⌝ }
+    requires { ⌜ isPilot (alone setup) symbol used ≡ false ⌝ }
+    ensures { λ r. ⌜ r ≡ addressOf (alone setup) symbol used ⌝ }
 {
     if setup.mode == 0 {
         return pusc_dl::address(setup.cell, symbol % 2, used);
@@ -292,9 +293,9 @@ fn address(setup: Setup, symbol: usize, used: usize) -> Address
 
 // The place of a spot of a slot.
 fn at(setup: Setup, slot: usize, x: Spot) -> Placed
-    requires { ⌜ Valid setup ⌝ }
-    requires { ⌜ (slot < 512) × (x .offset < Symbols setup) × (x .used < BandOf setup .used) ⌝ }
-    ensures { λ r. ⌜ placed r ≡ accepted (placeAt setup slot x) ⌝ }
+    requires { ⌜ Valid (alone setup) ⌝ }
+    requires { ⌜ (slot < 512) × (x .offset < Symbols (alone setup)) × (x .used < BandOf (alone setup) .used) ⌝ }
+    ensures { λ r. ⌜ placed r ≡ accepted (placeAt (alone setup) slot x) ⌝ }
 {
     let column = carriers::carrier(band(setup), x.used);
     Placed::At {
@@ -305,7 +306,7 @@ fn at(setup: Setup, slot: usize, x: Spot) -> Placed
 
 // The zone's symbol and the carrier of a point, or the first refusal of 1, 2, 3, 4, 5, 6.
 pub fn place(setup: Setup, slot: usize, subchannel: usize, index: usize) -> Placed
-    ensures { λ r. ⌜ placed r ≡ placeOf setup slot subchannel index ⌝ }
+    ensures { λ r. ⌜ placed r ≡ placeOf (alone setup) slot subchannel index ⌝ }
 {
     let k = refusal(setup);
     if k != 0 {
@@ -325,9 +326,9 @@ pub fn place(setup: Setup, slot: usize, subchannel: usize, index: usize) -> Plac
 
 // What stands in a column of an accepted symbol's row.
 pub fn content(setup: Setup, symbol: usize, column: usize) -> Located
-    requires { ⌜ Valid setup ⌝ }
+    requires { ⌜ Valid (alone setup) ⌝ }
     requires { ⌜ column < setup .size ⌝ }
-    ensures { λ r. ⌜ located r ≡ accepted (contentOf setup symbol column) ⌝ }
+    ensures { λ r. ⌜ located r ≡ accepted (contentOf (alone setup) symbol column) ⌝ }
 {
     let b = band(setup);
     if carriers::is_guard(b, setup.size, column) {
@@ -350,7 +351,7 @@ pub fn content(setup: Setup, symbol: usize, column: usize) -> Located
 
 // What a carrier holds in a symbol of the zone, or the first refusal of 1, 2, 3, 4, 7.
 pub fn locate(setup: Setup, symbol: usize, carrier: i32) -> Located
-    ensures { λ r. ⌜ located r ≡ locateOf setup symbol carrier ⌝ }
+    ensures { λ r. ⌜ located r ≡ locateOf (alone setup) symbol carrier ⌝ }
 {
     let k = refusal(setup);
     if k != 0 {

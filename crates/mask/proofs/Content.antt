@@ -14,7 +14,7 @@ use Rattle.carriers.specs.Band.{usedOf, isGuard, isDc}
 use Rattle.carriers.specs.Law.{Whole}
 use Rattle.carriers.proofs.Guards.{used-left, used-lt}
 use Rattle.centre.specs.Centre.{fromDc}
-use Rattle.map.specs.declared.Setup.{Setup}
+use Rattle.map.specs.Setup.{Setup}
 use Rattle.map.specs.declared.Located.{Located}
 use Rattle.map.specs.Mode.{symbols, band}
 use Rattle.map.specs.Place.{Content, guard, point, contentOf, located}

@@ -20,8 +20,8 @@ use Rattle.pusc_dl.specs.Group.{clusterStarts, subchannelStarts, groupIn, hasGr
 use Rattle.pusc_dl.specs.Map.{logicalOf, usedGroup}
 use Rattle.pusc_dl.proofs.Law.{point-group}
 use Rattle.pusc_dl.proofs.Lit.{all-groups}
-use Rattle.map.specs.declared.Setup.{Setup}
-use Rattle.map.specs.Mode.{setupWith, subchannels, band, spotOf}
+use Rattle.map.specs.Setup.{Setup, setupWith}
+use Rattle.map.specs.Mode.{subchannels, band, spotOf}
 use Rattle.map.specs.Place.{Place, usedCarrier, placeAt, contentOf}
 use Rattle.map.specs.Law.{PlacedAt}
 use Rattle.map.specs.Model.{Valid, pusc-dl, pusc-ul, ofusc, amc}

@@ -6,8 +6,8 @@ use Rattle.base.specs.Rank.{RankLaw}
 use Rattle.pusc_dl.specs.declared.Physical.{Physical}
 use Rattle.pusc_dl.specs.Cluster.{renumber}
 use Rattle.pusc_dl.specs.Group.{clusterStarts, groupIn, hasGroup}
-use Rattle.map.specs.declared.Setup.{Setup}
-use Rattle.map.specs.Mode.{setupWith, subchannels, band}
+use Rattle.map.specs.Setup.{Setup, setupWith}
+use Rattle.map.specs.Mode.{subchannels, band}
 use Rattle.map.specs.Place.{usedCarrier, contentOf}
 use Rattle.map.specs.Law.{PlacedAt}
 use Rattle.mask.specs.Mask.{isMask, isLit, isUsedLit, litContent, litSubchannels, litRank, ofLitRank, allLit}

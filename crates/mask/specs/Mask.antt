@@ -7,7 +7,7 @@ use Rattle.base.specs.Rank.{rank, unrank}
 use Rattle.carriers.specs.Band.{usedOf}
 use Rattle.pusc_dl.specs.Group.{subchannelStarts, groupIn, hasGroup}
 use Rattle.pusc_dl.specs.Map.{usedGroup}
-use Rattle.map.specs.declared.Setup.{Setup}
+use Rattle.map.specs.Setup.{Setup}
 use Rattle.map.specs.Mode.{subchannels, band}
 use Rattle.map.specs.Place.{Content, guard, contentOf}
 

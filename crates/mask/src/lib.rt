@@ -5,6 +5,7 @@ ghost use mathlib.Core.Path.{_≡_};
 ghost use Prim.Native.Nat.{_*_, _<_, _≤_};
 ghost use Rattle.base.specs.Answer.{accepted};
 ghost use Rattle.carriers.specs.Band.{usedOf};
+ghost use Rattle.map.specs.Setup.{alone};
 ghost use Rattle.map.specs.Mode.{symbols, band};
 ghost use Rattle.map.specs.Place.{located};
 ghost use Rattle.map.specs.Model.{Valid};
@@ -22,7 +23,7 @@ pub fn is_mask(mode: usize, mask: usize) -> bool
 
 // Is a subchannel lit?
 pub fn is_lit(setup: Setup, mask: usize, subchannel: usize) -> bool
-    ensures { λ r. ⌜ r ≡ isLit setup mask subchannel ⌝ }
+    ensures { λ r. ⌜ r ≡ isLit (alone setup) mask subchannel ⌝ }
 {
     if setup.mode != 0 {
         return true;
@@ -32,9 +33,9 @@ pub fn is_lit(setup: Setup, mask: usize, subchannel: usize) -> bool
 
 // Is a used number lit?
 pub fn is_used_lit(setup: Setup, mask: usize, used: usize) -> bool
-    requires { ⌜ Valid setup ⌝ }
-    requires { ⌜ used < band setup .used ⌝ }
-    ensures { λ r. ⌜ r ≡ isUsedLit setup mask used ⌝ }
+    requires { ⌜ Valid (alone setup) ⌝ }
+    requires { ⌜ used < band (alone setup) .used ⌝ }
+    ensures { λ r. ⌜ r ≡ isUsedLit (alone setup) mask used ⌝ }
 {
     if setup.mode != 0 {
         return true;
@@ -44,18 +45,18 @@ pub fn is_used_lit(setup: Setup, mask: usize, used: usize) -> bool
 
 // Is a column lit, by its used number? DC counts as the used number above it.
 fn is_column_lit(setup: Setup, mask: usize, column: usize) -> bool
-    requires { ⌜ Valid setup ⌝ }
-    requires { ⌜ (band setup .left ≤ column) × (usedOf (band setup) column < band setup .used) ⌝ }
-    ensures { λ r. ⌜ r ≡ isUsedLit setup mask (usedOf (band setup) column) ⌝ }
+    requires { ⌜ Valid (alone setup) ⌝ }
+    requires { ⌜ (band (alone setup) .left ≤ column) × (usedOf (band (alone setup)) column < band (alone setup) .used) ⌝ }
+    ensures { λ r. ⌜ r ≡ isUsedLit (alone setup) mask (usedOf (band (alone setup)) column) ⌝ }
 {
     is_used_lit(setup, mask, carriers::used(map::band(setup), column))
 }
 
 // What stands in a column of an accepted symbol's row, where what is not lit counts as a guard: data is lit by its subchannel.
 pub fn lit_content(setup: Setup, mask: usize, symbol: usize, column: usize) -> Located
-    requires { ⌜ Valid setup ⌝ }
-    requires { ⌜ (symbol < 512 * symbols setup) × (column < setup .size) ⌝ }
-    ensures { λ r. ⌜ located r ≡ accepted (litContent setup mask symbol column) ⌝ }
+    requires { ⌜ Valid (alone setup) ⌝ }
+    requires { ⌜ (symbol < 512 * symbols (alone setup)) × (column < setup .size) ⌝ }
+    ensures { λ r. ⌜ located r ≡ accepted (litContent (alone setup) mask symbol column) ⌝ }
 {
     match map::content(setup, symbol, column) {
         Located::Guard => Located::Guard,
@@ -95,7 +96,7 @@ pub fn lit_content(setup: Setup, mask: usize, symbol: usize, column: usize) -> L
 // How many subchannels are lit.
 pub fn lit_subchannels(setup: Setup, mask: usize) -> usize
     requires { ⌜ mask < 64 ⌝ }
-    ensures { λ r. ⌜ r ≡ litSubchannels setup mask ⌝ }
+    ensures { λ r. ⌜ r ≡ litSubchannels (alone setup) mask ⌝ }
 {
     if setup.mode != 0 {
         return map::subchannels(setup);

@@ -8,7 +8,7 @@ use Rattle.base.specs.Model.{Turned}
 use Rattle.base.specs.Tabulate.{tabulate}
 use Rattle.base.proofs.Tabulate.{tabulated, length-tabulate, getD-tabulate}
 use Rattle.carriers.specs.Model.{carrierNumber}
-use Rattle.map.specs.declared.Setup.{Setup}
+use Rattle.map.specs.Setup.{Setup}
 use Rattle.map.specs.Mode.{subchannels, band, spotOf}
 use Rattle.map.specs.Model.{Valid}
 use Rattle.map.proofs.Accept.{passes, slot-yes, subchannel-yes}

@@ -12,7 +12,7 @@ use Rattle.base.proofs.Chain.{Questions, all-numbered, all-yes, number-is}
 use Rattle.base.specs.Tabulate.{tabulate}
 use Rattle.base.proofs.Tabulate.{length-tabulate, getD-tabulate, tabulated, entry-of}
 use Rattle.carriers.specs.Bin.{binPilotPlace, usedOfData}
-use Rattle.map.specs.declared.Setup.{Setup}
+use Rattle.map.specs.Setup.{Setup}
 use Rattle.map.specs.Mode.{subchannels, symbols, spotOf}
 use Rattle.map.specs.Question.{isSlot, isSubchannel, isIndex}
 use Rattle.map.specs.Place.{placeAt, placeOf}

@@ -7,7 +7,7 @@ use lib.ListN.{length}
 use lib.Ieee.{Float}
 use Rattle.base.specs.Answer.{refusalOf}
 use Rattle.base.specs.Steps.{entry}
-use Rattle.map.specs.declared.Setup.{Setup}
+use Rattle.map.specs.Setup.{Setup}
 use Rattle.map.specs.Mode.{symbols}
 use Rattle.map.specs.Place.{placeOf}
 use Rattle.points.specs.Points.{pointAt}

@@ -2,7 +2,7 @@
 use Prim.Native.Nat.{ℕ}
 use Rattle.base.specs.Answer.{Answer, accepted, refused, ask}
 use Rattle.base.specs.Tabulate.{tabulate}
-use Rattle.map.specs.declared.Setup.{Setup}
+use Rattle.map.specs.Setup.{Setup}
 use Rattle.map.specs.Question.{askSetup, isSlot, isSubchannel}
 use Rattle.grid.specs.Grid.{standsAt}
 use Rattle.places.specs.declared.PlaceRow.{PlaceRow}

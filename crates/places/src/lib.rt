@@ -3,6 +3,7 @@ use map::Setup;
 ghost use mathlib.Core.Path.{_≡_};
 ghost use Prim.Native.Nat.{_<_};
 ghost use Rattle.base.specs.Tabulate.{tabulate};
+ghost use Rattle.map.specs.Setup.{alone};
 ghost use Rattle.points.specs.Model.{turned};
 ghost use Rattle.places.specs.Places.{placesOf};
 
@@ -43,7 +44,7 @@ fn refused(number: u8) -> PlaceRow
 
 // The places of a subchannel's points by index, or the first refusal of 1, 2, 3, 4, 5.
 pub fn row(setup: Setup, slot: usize, subchannel: usize) -> PlaceRow
-    ensures { λ r. ⌜ r ≡ placesOf setup slot subchannel ⌝ }
+    ensures { λ r. ⌜ r ≡ placesOf (alone setup) slot subchannel ⌝ }
 {
     let k = map::refusal(setup);
     if k != 0 {

@@ -8,7 +8,7 @@ use lib.ListN.{length, take, drop, getD}
 use Rattle.base.specs.Answer.{Answer, accepted, refused, refusalOf}
 use Rattle.base.proofs.Chain.{Questions, askAll, firstNo, AllYes, counted, all-yes, yes-parts, all-accepted, all-pass, is-refused}
 use Rattle.base.proofs.Test.{up-to}
-use Rattle.map.specs.Mode.{setupWith}
+use Rattle.map.specs.Setup.{setupWith}
 use Rattle.map.specs.Question.{isFourSizes, isSize}
 use Rattle.map.proofs.Accept.{size-most}
 use Rattle.zone.specs.declared.Zone.{Zone}

@@ -13,7 +13,7 @@ use Rattle.base.specs.Steps.{entry}
 use Rattle.base.specs.Model.{Starts}
 use Rattle.base.proofs.Test.{cases}
 use Rattle.ofusc.proofs.Sequence.{size}
-use Rattle.map.specs.declared.Setup.{Setup}
+use Rattle.map.specs.Setup.{Setup}
 use Rattle.map.specs.Mode.{width}
 use Rattle.map.specs.Model.{Valid, pusc-dl, pusc-ul, ofusc, amc}
 use Rattle.map.proofs.Choice.{mode-1, mode-bins}
@@ -77,8 +77,8 @@ by-run (pusc-dl h) y ne =
       next-point = refl;
     }
 by-run (pusc-ul h) y ne = absurd (ne refl)
-by-run {c} (ofusc w h) y ne = bins-by-run c y (omega arith) (λ e. omega arith) (λ e. omega arith) (size (bin-width (ofusc w h) (λ e. omega arith) (λ e. omega arith)) .most)
-by-run {c} (amc q w h) y ne = bins-by-run c y (q .1) (λ e. omega arith) (λ e. omega arith) (size (bin-width (amc q w h) (λ e. omega arith) (λ e. omega arith)) .most)
+by-run {c} (ofusc {pilots = lent} w h) y ne = bins-by-run c y (omega arith) (λ e. omega arith) (λ e. omega arith) (size (bin-width (ofusc {pilots = lent} w h) (λ e. omega arith) (λ e. omega arith)) .most)
+by-run {c} (amc {pilots = lent} q w h) y ne = bins-by-run c y (q .1) (λ e. omega arith) (λ e. omega arith) (size (bin-width (amc {pilots = lent} q w h) (λ e. omega arith) (λ e. omega arith)) .most)
 
 -- what holds before each turn of the loop over runs: the numbers of the first i are there
 pub record RunsTurn (c : Setup) (mask y : ℕ) (numbers : List ℕ) (i : ℕ) : Type 0 where

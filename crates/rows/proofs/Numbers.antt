@@ -21,8 +21,8 @@ use Rattle.ofusc.specs.Width.{Width}
 use Rattle.ofusc.proofs.Sequence.{size}
 use Rattle.amc.specs.declared.Shape.{Shape}
 use Rattle.amc.specs.Model.{IsShape}
-use Rattle.map.specs.declared.Setup.{Setup}
-use Rattle.map.specs.Mode.{setupWith, shapeOf, width, symbols, addressOf}
+use Rattle.map.specs.Setup.{Setup, setupLent}
+use Rattle.map.specs.Mode.{shapeOf, width, symbols, addressOf}
 use Rattle.map.specs.Model.{IsAmc, Valid, pusc-dl, pusc-ul, ofusc, amc}
 use Rattle.map.proofs.Choice.{amc-shape, mode-0, mode-1, mode-2, mode-amc, mode-bins}
 use Rattle.map.proofs.ByMode.{listed-mode, shape-symbols, in-pusc-ul, bin-width}
@@ -143,7 +143,7 @@ module _ (mask slot row : ℕ) (r : List ℕ) where
       → RowNumbers c mask (slot * symbols c + row) r
   unfolding symbols runFirst runSecond runStep runCount runStride pointStride addressOf
   numbers-1 (pusc-dl h) q hr s = absurd (omega arith)
-  numbers-1 (pusc-ul {cell = cell} h) q hr s =
+  numbers-1 (pusc-ul {cell = cell} {pilots = lent} h) q hr s =
       λ i j hi hj lit.
       let y = slot * 3 + row in
       let offset : y % 3 ≡ row = omega arith in
@@ -151,7 +151,7 @@ module _ (mask slot row : ℕ) (r : List ℕ) where
       let at : i * 1 + j * 420 ≡ j * 420 + i = omega arith in
       ap (entry r) at ∙ s i j hi l
       ∙ ap (λ (p : ℕ). addressNumber (ul-map.addressOf cell row (i * 4 + p))) (tile-place y row j offset l)
-      ∙ all-number (setupWith 1 2048 cell) mask y (i * 4 + runPlace (tileRuns y) j) (λ z. omega arith) _ (ap (λ (o : ℕ). ul-map.addressOf cell o (i * 4 + runPlace (tileRuns y) j)) offset)
+      ∙ all-number (setupLent 1 2048 cell lent) mask y (i * 4 + runPlace (tileRuns y) j) (λ z. omega arith) _ (ap (λ (o : ℕ). ul-map.addressOf cell o (i * 4 + runPlace (tileRuns y) j)) offset)
   numbers-1 (ofusc w h) q hr s = absurd (omega arith)
   numbers-1 (amc k w h) q hr s = absurd (omega arith)
 

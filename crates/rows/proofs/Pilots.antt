@@ -19,8 +19,8 @@ use Rattle.pusc_dl.specs.Map.{usedGroup}
 use Rattle.pusc_dl.specs.Model.{clusterLit}
 use Rattle.pusc_ul.specs.Tile.{isTilePilot}
 use Rattle.ofusc.proofs.Sequence.{size}
-use Rattle.map.specs.declared.Setup.{Setup}
-use Rattle.map.specs.Mode.{width, band, isPilot, setupWith}
+use Rattle.map.specs.Setup.{Setup, setupLent, setupWith}
+use Rattle.map.specs.Mode.{width, band, isPilot}
 use Rattle.map.specs.Model.{Valid, pusc-dl, pusc-ul, ofusc, amc}
 use Rattle.map.proofs.Choice.{amc-tests}
 use Rattle.mask.specs.Mask.{isUsedLit}
@@ -132,9 +132,9 @@ pilots-law (pusc-dl h) y =
     comb-law (record { first = firstPilot y; second = secondPilot y; step = 14; count = 120 })
     (cluster-lt y .0) (cluster-lt y .1) (isClusterPilot y) (λ u. refl)
 pilots-law (pusc-ul h) y = tiles-law (y % 3)
-pilots-law (ofusc {n = n} {cell = cell} w h) y = bins-law (width (setupWith 2 (64 * n) cell)) y
-pilots-law (amc {mode = mode} {n = n} {cell = cell} q w h) y =
-    let t = amc-tests q in rw (t .not-0, t .not-1, t .not-2, t .listed) (bins-law (width (setupWith mode (64 * n) cell)) y)
+pilots-law (ofusc {n = n} {cell = cell} {pilots = lent} w h) y = bins-law (width (setupLent 2 (64 * n) cell lent)) y
+pilots-law (amc {mode = mode} {n = n} {cell = cell} {pilots = lent} q w h) y =
+    let t = amc-tests q in rw (t .not-0, t .not-1, t .not-2, t .listed) (bins-law (width (setupLent mode (64 * n) cell lent)) y)
 
 -- a comb's numbers are small
 pub record Small (b : Comb) : Type 0 where

@@ -24,7 +24,7 @@ use Rattle.carriers.specs.Bin.{usedOfData}
 use Rattle.carriers.specs.Law.{DataSpot}
 use Rattle.carriers.specs.Model.{spotNumber, carrierNumber, carrierStep}
 use Rattle.carriers.proofs.Row.{step-carrier}
-use Rattle.map.specs.declared.Setup.{Setup}
+use Rattle.map.specs.Setup.{Setup}
 use Rattle.map.specs.Mode.{shapeOf, width, subchannels, symbols, band, isPilot, spotOf}
 use Rattle.map.specs.Model.{IsAmc, Valid, pusc-dl, pusc-ul, ofusc, amc}
 use Rattle.rows.specs.Model.{tableLength, tableEntry, TableOf, shiftOf}

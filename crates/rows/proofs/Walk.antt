@@ -19,8 +19,8 @@ use Rattle.pusc_dl.specs.Map.{usedGroup, logicalOf}
 use Rattle.pusc_dl.specs.Model.{clusterLit}
 use Rattle.pusc_ul.specs.Tile.{isTilePilot}
 use Rattle.ofusc.proofs.Sequence.{pos}
-use Rattle.map.specs.declared.Setup.{Setup}
-use Rattle.map.specs.Mode.{setupWith, width, band, isPilot}
+use Rattle.map.specs.Setup.{Setup, setupLent, setupWith}
+use Rattle.map.specs.Mode.{width, band, isPilot}
 use Rattle.map.specs.Model.{Valid, pusc-dl, pusc-ul, ofusc, amc}
 use Rattle.map.proofs.Choice.{amc-tests, mode-bins}
 use Rattle.map.proofs.Accept.{width-is}
@@ -270,12 +270,12 @@ run-law (pusc-ul h) y =
       back = tile-back y;
       lit = λ mask i p l. refl;
     }
-run-law (ofusc {n = n} {cell = cell} w h) y =
-    let c = setupWith 2 (64 * n) cell in
+run-law (ofusc {n = n} {cell = cell} {pilots = lent} w h) y =
+    let c = setupLent 2 (64 * n) cell lent in
     bin-law n y c (sym (runs-bins c y (omega arith) (λ e. omega arith) (λ e. omega arith)) ∙ ap (λ (t : ℕ). bin-runs t y) (width-is n))
     (ap (λ (t : ℕ). 54 * t) (width-is n)) (ap (λ (t : ℕ). 27 * t) (width-is n)) (λ u. refl) (λ mask u. refl)
-run-law (amc {mode = mode} {n = n} {cell = cell} q w h) y =
-    let c = setupWith mode (64 * n) cell in
+run-law (amc {mode = mode} {n = n} {cell = cell} {pilots = lent} q w h) y =
+    let c = setupLent mode (64 * n) cell lent in
     let t = amc-tests q in
     bin-law n y c (sym (runs-bins c y (q .1) (λ e. omega arith) (λ e. omega arith)) ∙ ap (λ (t : ℕ). bin-runs t y) (width-is n))
     (rw (t .not-0, t .not-1, t .not-2, t .listed) (ap (λ (t : ℕ). 54 * t) (width-is n))) (rw (t .not-0, t .not-1, t .not-2, t .listed) (ap (λ (t : ℕ). 27 * t) (width-is n)))

@@ -13,7 +13,7 @@ use Rattle.carriers.specs.Bin.{binPilotPlace}
 use Rattle.pusc_dl.specs.Cluster.{firstPilot, secondPilot}
 use Rattle.pusc_dl.specs.Model.{clusterLit}
 use Rattle.pusc_ul.specs.Tile.{tileSubchannel}
-use Rattle.map.specs.declared.Setup.{Setup}
+use Rattle.map.specs.Setup.{Setup}
 use Rattle.map.specs.Mode.{shapeOf, byMode, width, addressOf}
 use Rattle.mask.specs.Mask.{isUsedLit, litRank}
 use Rattle.rows.specs.declared.Comb.{Comb}

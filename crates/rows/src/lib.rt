@@ -8,6 +8,7 @@ ghost use lib.ListN.{length};
 ghost use Rattle.base.specs.Model.{Starts, Turned};
 ghost use Rattle.base.specs.Tabulate.{tabulate};
 ghost use Rattle.carriers.specs.Model.{spotNumber, carrierNumber};
+ghost use Rattle.map.specs.Setup.{alone};
 ghost use Rattle.map.specs.Mode.{subchannels, symbols, band, spotOf};
 ghost use Rattle.map.specs.Model.{Valid};
 ghost use Rattle.mask.specs.Mask.{isUsedLit};
@@ -24,8 +25,8 @@ pub struct Comb {
 // What setup and slot fix of the places of a slot, for all its subchannels; nothing in PUSC, where a row is worked out
 // by itself.
 pub fn table(setup: Setup, slot: usize) -> [u16; 48]
-    requires { ⌜ Valid setup ⌝ }
-    ensures { λ r. ⌜ TableOf setup slot r ⌝ }
+    requires { ⌜ Valid (alone setup) ⌝ }
+    ensures { λ r. ⌜ TableOf (alone setup) slot r ⌝ }
 {
     if setup.mode < 2 {
         return [0; 48];
@@ -39,7 +40,7 @@ pub fn table(setup: Setup, slot: usize) -> [u16; 48]
 // The place in a subchannel's row at which index 0 stands; the others follow, going on at the row's start.
 pub fn shift(setup: Setup, subchannel: usize) -> usize
     requires { ⌜ subchannel < 65536 ⌝ }
-    ensures { λ r. ⌜ (r ≡ shiftOf setup subchannel) × (r < 48) ⌝ }
+    ensures { λ r. ⌜ (r ≡ shiftOf (alone setup) subchannel) × (r < 48) ⌝ }
 {
     if setup.mode == 0 {
         return 0;
@@ -58,9 +59,9 @@ pub fn shift(setup: Setup, subchannel: usize) -> usize
 
 // Where the points of a subchannel of PUSC downlink or optional FUSC lie in its slot, as numbers, index 0 at place `shift`.
 fn spots(setup: Setup, slot: usize, subchannel: usize, table: &[u16; 48]) -> [u16; 48]
-    requires { ⌜ Valid setup ⌝ }
-    requires { ⌜ (setup .mode < 3) × (setup .mode ≡ 1 → ⊥) × (subchannel < subchannels setup) × TableOf setup slot (now table) ⌝ }
-    ensures { λ r. ⌜ Turned (shiftOf setup subchannel) (λ m. spotNumber (spotOf setup slot subchannel m)) r ⌝ }
+    requires { ⌜ Valid (alone setup) ⌝ }
+    requires { ⌜ (setup .mode < 3) × (setup .mode ≡ 1 → ⊥) × (subchannel < subchannels (alone setup)) × TableOf (alone setup) slot (now table) ⌝ }
+    ensures { λ r. ⌜ Turned (shiftOf (alone setup) subchannel) (λ m. spotNumber (spotOf (alone setup) slot subchannel m)) r ⌝ }
 {
     if setup.mode == 0 {
         return pusc_dl::spots(setup.cell, subchannel);
@@ -73,9 +74,9 @@ fn spots(setup: Setup, slot: usize, subchannel: usize, table: &[u16; 48]) -> [u1
 
 // The carriers of a subchannel's points as numbers, the size for each symbol of the slot, index 0 at place `shift`.
 pub fn carrier_row(setup: Setup, slot: usize, subchannel: usize, table: &[u16; 48]) -> [u16; 48]
-    requires { ⌜ Valid setup ⌝ }
-    requires { ⌜ (subchannel < subchannels setup) × TableOf setup slot (now table) ⌝ }
-    ensures { λ r. ⌜ Turned (shiftOf setup subchannel) (λ m. carrierNumber (setup .size) (band setup) (spotOf setup slot subchannel m)) r ⌝ }
+    requires { ⌜ Valid (alone setup) ⌝ }
+    requires { ⌜ (subchannel < subchannels (alone setup)) × TableOf (alone setup) slot (now table) ⌝ }
+    ensures { λ r. ⌜ Turned (shiftOf (alone setup) subchannel) (λ m. carrierNumber (setup .size) (band (alone setup)) (spotOf (alone setup) slot subchannel m)) r ⌝ }
 {
     if setup.mode == 1 {
         return pusc_ul::carrier_row(setup.cell, subchannel);
@@ -96,8 +97,8 @@ pub fn carrier_row(setup: Setup, slot: usize, subchannel: usize, table: &[u16; 4
 
 // The pilots of a symbol of the zone.
 pub fn pilot_comb(setup: Setup, symbol: usize) -> Comb
-    requires { ⌜ Valid setup ⌝ }
-    ensures { λ r. ⌜ r ≡ combOf setup symbol ⌝ }
+    requires { ⌜ Valid (alone setup) ⌝ }
+    ensures { λ r. ⌜ r ≡ combOf (alone setup) symbol ⌝ }
 {
     if setup.mode == 0 {
         let p = pusc_dl::pilots(symbol);
@@ -153,9 +154,9 @@ pub fn pilot_number(k: Comb, j: usize) -> usize
 
 // Which runs of the pilots' combs a mask lights: the clusters of PUSC downlink, 1 for each; no other mode reads it.
 pub fn lit_runs(setup: Setup, mask: usize) -> [u8; 120]
-    requires { ⌜ Valid setup ⌝ }
+    requires { ⌜ Valid (alone setup) ⌝ }
     requires { ⌜ mask < 64 ⌝ }
-    ensures { λ r. ⌜ LitRuns setup mask r ⌝ }
+    ensures { λ r. ⌜ LitRuns (alone setup) mask r ⌝ }
 {
     if setup.mode != 0 {
         return [0; 120];
@@ -165,8 +166,8 @@ pub fn lit_runs(setup: Setup, mask: usize) -> [u8; 120]
 
 // 1 where run i is lit, else 0.
 pub fn run_lit(setup: Setup, lit: &[u8; 120], i: usize) -> usize
-    requires { ⌜ IsRun setup i ⌝ }
-    ensures { λ r. ⌜ r ≡ runLit setup (now (lit .entry)) i ⌝ }
+    requires { ⌜ IsRun (alone setup) i ⌝ }
+    ensures { λ r. ⌜ r ≡ runLit (alone setup) (now (lit .entry)) i ⌝ }
 {
     if setup.mode != 0 {
         return 1;
@@ -185,8 +186,8 @@ pub struct Runs {
 
 // The runs of a symbol of the zone.
 pub fn symbol_runs(setup: Setup, symbol: usize) -> Runs
-    requires { ⌜ Valid setup ⌝ }
-    ensures { λ r. ⌜ r ≡ runsOf setup symbol ⌝ }
+    requires { ⌜ Valid (alone setup) ⌝ }
+    ensures { λ r. ⌜ r ≡ runsOf (alone setup) symbol ⌝ }
 {
     if setup.mode == 0 {
         let p = pusc_dl::pilots(symbol);
@@ -269,9 +270,9 @@ pub fn points_within(b: Runs, all: usize, room: usize) -> usize
 
 // What setup and mask fix of the clusters or of the first seventy tiles, in PUSC; no other mode reads it.
 pub fn run_table(setup: Setup, mask: usize) -> [u16; 120]
-    requires { ⌜ Valid setup ⌝ }
+    requires { ⌜ Valid (alone setup) ⌝ }
     requires { ⌜ mask < 64 ⌝ }
-    ensures { λ r. ⌜ RunTable setup mask r ⌝ }
+    ensures { λ r. ⌜ RunTable (alone setup) mask r ⌝ }
 {
     if setup.mode == 0 {
         return pusc_dl::clusters(setup.cell, mask);
@@ -284,8 +285,8 @@ pub fn run_table(setup: Setup, mask: usize) -> [u16; 120]
 
 // What the setup fixes of the places of all runs; nothing in PUSC uplink.
 pub fn place_table(setup: Setup) -> [u16; 48]
-    requires { ⌜ Valid setup ⌝ }
-    ensures { λ r. ⌜ PlaceTable setup r ⌝ }
+    requires { ⌜ Valid (alone setup) ⌝ }
+    ensures { λ r. ⌜ PlaceTable (alone setup) r ⌝ }
 {
     if setup.mode == 0 {
         return pusc_dl::inverses(setup.cell);
@@ -306,8 +307,8 @@ pub struct Strides {
 }
 
 pub fn row_strides(setup: Setup) -> Strides
-    requires { ⌜ Valid setup ⌝ }
-    ensures { λ r. ⌜ (r .run ≡ runStride setup) × (r .point ≡ pointStride setup) ⌝ }
+    requires { ⌜ Valid (alone setup) ⌝ }
+    ensures { λ r. ⌜ (r .run ≡ runStride (alone setup)) × (r .point ≡ pointStride (alone setup)) ⌝ }
 {
     if setup.mode == 0 {
         return Strides { run: 12, point: 1 };
@@ -328,10 +329,10 @@ fn run_numbers(
     runs: &[u16; 120],
     places: &[u16; 48],
 ) -> [u16; 12]
-    requires { ⌜ Valid setup ⌝ }
-    requires { ⌜ (setup .mode ≡ 1 → ⊥) × (row < symbols setup) × (i < runCount setup) ⌝ }
-    requires { ⌜ RunTable setup mask (now runs) × PlaceTable setup (now places) ⌝ }
-    ensures { λ r. ⌜ (isUsedLit setup mask (i * runStep setup) ≡ true → Starts (runPoints (runsOf setup (slot * symbols setup + row))) (runNumber setup mask (slot * symbols setup + row) i) r) ⌝ }
+    requires { ⌜ Valid (alone setup) ⌝ }
+    requires { ⌜ (setup .mode ≡ 1 → ⊥) × (row < symbols (alone setup)) × (i < runCount (alone setup)) ⌝ }
+    requires { ⌜ RunTable (alone setup) mask (now runs) × PlaceTable (alone setup) (now places) ⌝ }
+    ensures { λ r. ⌜ (isUsedLit (alone setup) mask (i * runStep (alone setup)) ≡ true → Starts (runPoints (runsOf (alone setup) (slot * symbols (alone setup) + row))) (runNumber (alone setup) mask (slot * symbols (alone setup) + row) i) r) ⌝ }
 {
     if setup.mode == 0 {
         return pusc_dl::cluster_points(setup.cell, mask, row, i, runs, places);
@@ -364,10 +365,10 @@ fn numbers_by_run(
     runs: &[u16; 120],
     places: &[u16; 48],
 ) -> [u16; 1680]
-    requires { ⌜ Valid setup ⌝ }
-    requires { ⌜ (setup .mode ≡ 1 → ⊥) × (row < symbols setup) × (count ≡ runCount setup) ⌝ }
-    requires { ⌜ RunTable setup mask (now runs) × PlaceTable setup (now places) ⌝ }
-    ensures { λ r. ⌜ RowNumbers setup mask (slot * symbols setup + row) r ⌝ }
+    requires { ⌜ Valid (alone setup) ⌝ }
+    requires { ⌜ (setup .mode ≡ 1 → ⊥) × (row < symbols (alone setup)) × (count ≡ runCount (alone setup)) ⌝ }
+    requires { ⌜ RunTable (alone setup) mask (now runs) × PlaceTable (alone setup) (now places) ⌝ }
+    ensures { λ r. ⌜ RowNumbers (alone setup) mask (slot * symbols (alone setup) + row) r ⌝ }
 {
     let stride = row_strides(setup).run;
     let mut numbers = [0; 1680];
@@ -390,10 +391,10 @@ pub fn row_numbers(
     runs: &[u16; 120],
     places: &[u16; 48],
 ) -> [u16; 1680]
-    requires { ⌜ Valid setup ⌝ }
-    requires { ⌜ (row < symbols setup) × (count ≡ runCount setup) ⌝ }
-    requires { ⌜ RunTable setup mask (now runs) × PlaceTable setup (now places) ⌝ }
-    ensures { λ r. ⌜ RowNumbers setup mask (slot * symbols setup + row) r ⌝ }
+    requires { ⌜ Valid (alone setup) ⌝ }
+    requires { ⌜ (row < symbols (alone setup)) × (count ≡ runCount (alone setup)) ⌝ }
+    requires { ⌜ RunTable (alone setup) mask (now runs) × PlaceTable (alone setup) (now places) ⌝ }
+    ensures { λ r. ⌜ RowNumbers (alone setup) mask (slot * symbols (alone setup) + row) r ⌝ }
 {
     if setup.mode == 1 {
         return pusc_ul::row_numbers(setup.cell, row, runs);

@@ -10,7 +10,7 @@ use borrow.Author.Tests.{eqb-true, lt-ltb}
 use Rattle.base.specs.Choice.{pick}
 use Rattle.base.proofs.Chain.{AllYes, all-yes, yes-parts}
 use Rattle.base.proofs.Test.{cases, both-true, up-to}
-use Rattle.map.specs.declared.Setup.{Setup}
+use Rattle.map.specs.Setup.{Setup}
 use Rattle.map.specs.Question.{isMode}
 use Rattle.map.specs.Model.{Valid, pusc-dl, pusc-ul, ofusc, amc}
 use Rattle.map.proofs.Accept.{valid}

@@ -6,7 +6,7 @@ use lib.Dec.{eqb, ltb, leb}
 use lib.ListN.{getD}
 use Rattle.base.specs.Choice.{pick, isUpTo}
 use Rattle.base.specs.Answer.{Answer, accepted, ask, refusalOf}
-use Rattle.map.specs.declared.Setup.{Setup}
+use Rattle.map.specs.Setup.{Setup, setupWith}
 use Rattle.map.specs.Question.{isSize, isCell}
 use Rattle.mask.specs.Mask.{isMask}
 use Rattle.zone.specs.declared.Zone.{Zone}
@@ -27,7 +27,7 @@ isZoneMode mode = pick (eqb mode 1) false (ltb mode 7)
 
 -- Questions 2 and 3 are the map's, of the zone's mode and cell and the plan's size.
 abbrev pub setupOf : (size : ℕ) (zone : Zone) → Setup
-setupOf size zone = record { mode = zone .mode; size = size; cell = zone .cell }
+setupOf size zone = setupWith (zone .mode) size (zone .cell)
 
 -- 13 Are slots 1..512?
 abbrev pub isSlots : (slots : ℕ) → Bool

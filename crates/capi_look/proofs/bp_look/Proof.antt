@@ -2,6 +2,7 @@
 use mathlib.Core.Path.{_≡_}
 use native.Mathlib.Omega.{arith}
 use denote.Ref.{now}
+use Rattle.map.specs.Setup.{setupWith}
 use Rattle.look.specs.Look.{lookOf, seen}
 use Rattle.capi_look.specs.Look.{lookOut}
 use Rattle.capi_look.proofs.Look.{seen-small, seen-out}
@@ -22,7 +23,7 @@ cast-index c = omega (arith, seen-small _ _ _ _ _ _ (c .before .before .before .
 
 -- what `look` says of the fields as C has them
 answered : (c : tie.After-look) → let a = c .before .before .before .args in
-    seen (c .look .result) ≡ lookOf (record { mode = a .mode; size = a .size; cell = a .cell }) (a .mask) (a .symbol) (now (a .grid)) (a .carrier)
+    seen (c .look .result) ≡ lookOf (setupWith (a .mode) (a .size) (a .cell)) (a .mask) (a .symbol) (now (a .grid)) (a .carrier)
 answered c =
     rw (c .before .setup .ensures, toZ-ofZ w32 (c .before .before .before .args .carrier) (c .before .before .before .fits .carrier)) at (c .look .ensures)
 

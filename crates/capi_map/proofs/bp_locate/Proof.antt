@@ -4,6 +4,7 @@ use native.Mathlib.Omega.{arith}
 use mir.Syntax.{w32}
 use mir.ValLaws.{toZ-ofZ}
 use borrow.Author.Needs.{needs}
+use Rattle.map.specs.Setup.{setupWith}
 use Rattle.map.specs.Place.{located, locateOf}
 use Rattle.capi_map.specs.Map.{locateOut}
 use Rattle.capi_map.proofs.Map.{data-small, located-out}
@@ -12,7 +13,7 @@ use Rattle.capi_map.proofs.bp_locate.Tie as tie
 
 -- what `locate` says of the fields as C has them
 answered : (c : tie.After-locate) → let a = c .before .before .args in
-    located (c .locate .result) ≡ locateOf (record { mode = a .mode; size = a .size; cell = a .cell }) (a .symbol) (a .carrier)
+    located (c .locate .result) ≡ locateOf (setupWith (a .mode) (a .size) (a .cell)) (a .symbol) (a .carrier)
 answered c =
     rw (c .before .setup .ensures, toZ-ofZ w32 (c .before .before .args .carrier) (c .before .before .fits .carrier)) at (c .locate .ensures)
 

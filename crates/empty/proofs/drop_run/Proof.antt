@@ -3,6 +3,7 @@ use mathlib.Core.Path.{_≡_}
 use mathlib.Core.Bool.{true}
 use Prim.Native.Nat.{_*_}
 use borrow.Author.Needs.{needs}
+use Rattle.map.specs.Setup.{alone}
 use Rattle.mask.specs.Mask.{isUsedLit}
 use Rattle.rows.specs.Model.{runStep}
 use Rattle.rows.proofs.Walk.{run-is, run-dark, run-bright}
@@ -16,7 +17,7 @@ returns c =
     dark-run _ (start .pre .0) (start .args .mask) (start .args .slot) _ _ (start .pre .1 .0 .0) (start .pre .1 .0 .1) _ _ _
     (run-dark (start .pre .0) (start .args .mask) (start .args .lit .now) (start .pre .1 .1 .0 .3) _ (start .pre .1 .0 .1) _ (c .before .run-lit .ensures) (c .if1 .taken))
 
-bright : (c : tie.Else1) → let start = c .before .before .before .before in isUsedLit (start .args .setup) (start .args .mask) (start .args .i * runStep (start .args .setup)) ≡ true
+bright : (c : tie.Else1) → let start = c .before .before .before .before in isUsedLit (alone (start .args .setup)) (start .args .mask) (start .args .i * runStep (alone (start .args .setup))) ≡ true
 bright c =
     let start = c .before .before .before .before in
     run-bright (start .pre .0) (start .args .mask) (start .args .lit .now) (start .pre .1 .1 .0 .3) _ (start .pre .1 .0 .1) _ (c .before .run-lit .ensures) (c .if1 .left)

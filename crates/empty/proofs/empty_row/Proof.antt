@@ -5,6 +5,7 @@ use native.Mathlib.Omega.{arith}
 use borrow.Author.Needs.{needs}
 use Rattle.carriers.specs.declared.Band.{Band}
 use Rattle.carriers.specs.Band.{carrierOf}
+use Rattle.map.specs.Setup.{alone}
 use Rattle.map.specs.Mode.{symbols}
 use Rattle.map.proofs.ByMode.{few, slot-few, row-few}
 use Rattle.rows.specs.declared.Runs.{Runs}
@@ -16,7 +17,7 @@ use Rattle.empty.proofs.empty_row.Statement.{statement}
 use Rattle.empty.proofs.empty_row.Tie as tie
 
 abbrev Inv-loop : tie.InvT-loop
-Inv-loop setup mask slot row carriers lit runs places grid points₀ first shape all its-places strides numbers band i₀ points i = RowTurn setup mask slot carriers row grid points₀ points i
+Inv-loop setup mask slot row carriers lit runs places grid points₀ first shape all its-places strides numbers band i₀ points i = RowTurn (alone setup) mask slot carriers row grid points₀ points i
 
 abbrev μ-loop : tie.MeasureT-loop
 μ-loop setup mask slot row carriers lit runs places grid points₀ first shape all its-places strides numbers band i₀ points i = shape .count - i
@@ -26,27 +27,27 @@ returns : tie.Need-returns Inv-loop μ-loop
 returns c =
     let start = c .before .before .before .before in
     let past = c .if1 .taken in
-    row-over (row-start _ _ _ _ _ _ _) (start .pre .0) (start .pre .1 .0 .1) (some-run (start .pre .0)) (omega (arith, row-first (start .args .setup) (start .args .row)))
+    row-over (row-start _ _ _ _ _ _ _) (start .pre .0) (start .pre .1 .0 .1) (some-run (start .pre .0)) (omega (arith, row-first (alone (start .args .setup)) (start .args .row)))
 
 -- the runs of the row's symbol
-shape-at : (c : tie.After-row-strides Inv-loop μ-loop) → let start = c .before .before .before .before .before .before .before .before .before in c .before .before .before .symbol-runs .result ≡ runsOf (start .args .setup) (start .args .slot * symbols (start .args .setup) + start .args .row)
+shape-at : (c : tie.After-row-strides Inv-loop μ-loop) → let start = c .before .before .before .before .before .before .before .before .before in c .before .before .before .symbol-runs .result ≡ runsOf (alone (start .args .setup)) (start .args .slot * symbols (alone (start .args .setup)) + start .args .row)
 shape-at c =
     let start = c .before .before .before .before .before .before .before .before .before in
-    c .before .before .before .symbol-runs .ensures ∙ ap (λ (n : ℕ). runsOf (start .args .setup) (start .args .slot * n + start .args .row)) (c .before .before .before .before .symbols .ensures)
+    c .before .before .before .symbol-runs .ensures ∙ ap (λ (n : ℕ). runsOf (alone (start .args .setup)) (start .args .slot * n + start .args .row)) (c .before .before .before .before .symbols .ensures)
 
 row-numbers-requires : tie.Need-row-numbers-requires Inv-loop μ-loop
 row-numbers-requires c κs =
     let start = c .before .before .before .before .before .before .before .before .before in
     (start .pre .0, ((start .pre .1 .0 .1, ap (λ (b : Runs). b .count) (shape-at c)), (start .pre .1 .1 .1, start .pre .1 .1 .2)))
 
-shape-is : (c : tie.At-loop Inv-loop μ-loop) → let start = c .before .before .before .before .before .before .before .before .before .before .before .before in c .before .before .before .before .before .before .symbol-runs .result ≡ runsOf (start .args .setup) (start .args .slot * symbols (start .args .setup) + start .args .row)
+shape-is : (c : tie.At-loop Inv-loop μ-loop) → let start = c .before .before .before .before .before .before .before .before .before .before .before .before in c .before .before .before .before .before .before .symbol-runs .result ≡ runsOf (alone (start .args .setup)) (start .args .slot * symbols (alone (start .args .setup)) + start .args .row)
 shape-is c = shape-at (c .before .before .before)
 
-step-is : (c : tie.At-loop Inv-loop μ-loop) → c .before .before .before .before .before .before .symbol-runs .result .step ≡ runStep (c .before .before .before .before .before .before .before .before .before .before .before .before .args .setup)
+step-is : (c : tie.At-loop Inv-loop μ-loop) → c .before .before .before .before .before .before .symbol-runs .result .step ≡ runStep (alone (c .before .before .before .before .before .before .before .before .before .before .before .before .args .setup))
 step-is c = ap (λ (b : Runs). b .step) (shape-is c)
 
 -- run i is one of them
-run-lt : (c : tie.Then2 Inv-loop μ-loop) → c .before .before .loop .i < runCount (c .before .before .before .before .before .before .before .before .before .before .before .before .before .before .args .setup)
+run-lt : (c : tie.Then2 Inv-loop μ-loop) → c .before .before .loop .i < runCount (alone (c .before .before .before .before .before .before .before .before .before .before .before .before .before .before .args .setup))
 run-lt c = omega (arith, ap (λ (b : Runs). b .count) (shape-is (c .before .before)), c .if2 .taken)
 
 used-lt : (c : tie.Then2 Inv-loop μ-loop) → c .before .before .loop .i * c .before .before .before .before .before .before .before .before .symbol-runs .result .step < 1729
@@ -56,10 +57,10 @@ used-lt c =
     rw (step-is (c .before .before)) (omega (arith, run-used _ (start .pre .0) (start .args .row) _ (start .pre .1 .0 .1) (run-lt c), f .used-few))
 
 -- and starts where it is worked out to
-run-start : (c : tie.After-carrier Inv-loop μ-loop) → let start = c .before .before .before .before .before .before .before .before .before .before .before .before .before .before .before .before in start .args .row * start .args .setup .size + c .carrier .result ≡ runStart (start .args .setup) (start .args .row) (c .before .before .before .before .loop .i)
+run-start : (c : tie.After-carrier Inv-loop μ-loop) → let start = c .before .before .before .before .before .before .before .before .before .before .before .before .before .before .before .before in start .args .row * start .args .setup .size + c .carrier .result ≡ runStart (alone (start .args .setup)) (start .args .row) (c .before .before .before .before .loop .i)
 run-start c =
     let start = c .before .before .before .before .before .before .before .before .before .before .before .before .before .before .before .before in
-    start-is (start .args .setup) (start .args .row) _ _ _ _ refl (step-is (c .before .before .before .before)) (c .carrier .ensures ∙ ap (λ (x : Band). carrierOf x (c .before .before .before .before .loop .i * c .before .before .before .before .before .before .before .before .before .before .symbol-runs .result .step)) (c .before .before .before .before .before .band .ensures))
+    start-is (alone (start .args .setup)) (start .args .row) _ _ _ _ refl (step-is (c .before .before .before .before)) (c .carrier .ensures ∙ ap (λ (x : Band). carrierOf x (c .before .before .before .before .loop .i * c .before .before .before .before .before .before .before .before .before .before .symbol-runs .result .step)) (c .before .before .before .before .before .band .ensures))
 
 small : (c : tie.After-carrier Inv-loop μ-loop) → let start = c .before .before .before .before .before .before .before .before .before .before .before .before .before .before .before .before in start .args .row * start .args .setup .size + c .carrier .result < 65536
 small c =

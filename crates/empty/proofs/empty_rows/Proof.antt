@@ -2,12 +2,13 @@
 use mathlib.Core.Path.{_∙_}
 use Prim.Native.Nat.{_-_}
 use borrow.Author.Needs.{needs}
+use Rattle.map.specs.Setup.{alone}
 use Rattle.empty.proofs.Dropped.{SlotTurn, slot-start, slot-next, slot-done}
 use Rattle.empty.proofs.empty_rows.Statement.{statement}
 use Rattle.empty.proofs.empty_rows.Tie as tie
 
 abbrev Inv-loop : tie.InvT-loop
-Inv-loop setup mask slot carriers grid points₀ lit runs places rows row₀ points row = SlotTurn setup mask slot carriers grid points₀ points row
+Inv-loop setup mask slot carriers grid points₀ lit runs places rows row₀ points row = SlotTurn (alone setup) mask slot carriers grid points₀ points row
 
 abbrev μ-loop : tie.MeasureT-loop
 μ-loop setup mask slot carriers grid points₀ lit runs places rows row₀ points row = rows - row

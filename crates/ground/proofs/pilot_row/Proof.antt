@@ -5,6 +5,7 @@ use Prim.Native.Nat.{_-_, _*_, _<_}
 use native.Mathlib.Omega.{arith}
 use lib.ListN.{getD}
 use borrow.Author.Needs.{needs}
+use Rattle.map.specs.Setup.{alone}
 use Rattle.map.proofs.ByMode.{slot-few, few}
 use Rattle.points.specs.declared.Point.{Point}
 use Rattle.points.specs.Points.{zeroPoint}
@@ -14,7 +15,7 @@ use Rattle.ground.proofs.pilot_row.Statement.{statement}
 use Rattle.ground.proofs.pilot_row.Tie as tie
 
 abbrev Inv-loop : tie.InvT-loop
-Inv-loop setup lit slot row grid₀ comb points i₀ grid i = RowTurn setup lit slot row (getD points 1 zeroPoint) grid₀ comb grid (i * 2)
+Inv-loop setup lit slot row grid₀ comb points i₀ grid i = RowTurn (alone setup) lit slot row (getD points 1 zeroPoint) grid₀ comb grid (i * 2)
 
 abbrev μ-loop : tie.MeasureT-loop
 μ-loop setup lit slot row grid₀ comb points i₀ grid i = comb .count - i
@@ -44,7 +45,7 @@ two c =
     rw (c .run-lit .ensures) (start .pre .1 .1 _ (turn-few (c .before .before .before .loop .inv) (c .before .if1 .taken)))
 
 own : (c : tie.After-run-lit Inv-loop μ-loop) → let start = c .before .before .before .before .before .before .before in
-    (d : Point) → getD (zeroPoint ∷ start .args .p ∷ []) (c .run-lit .result) d ≡ runPoint (start .args .setup) (start .args .lit .now) (start .args .p) (c .before .before .before .loop .i)
+    (d : Point) → getD (zeroPoint ∷ start .args .p ∷ []) (c .run-lit .result) d ≡ runPoint (alone (start .args .setup)) (start .args .lit .now) (start .args .p) (c .before .before .before .loop .i)
 own c d = own-point _ _ _ _ d _ (c .run-lit .ensures) (two c)
 
 second-put : tie.Need-put-used-requires-2 Inv-loop μ-loop

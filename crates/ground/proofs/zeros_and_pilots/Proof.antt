@@ -3,13 +3,14 @@ use mathlib.Core.Path.{sym, _∙_}
 use Prim.Native.Nat.{_-_}
 use native.Mathlib.Omega.{arith}
 use borrow.Author.Needs.{needs}
+use Rattle.map.specs.Setup.{alone}
 use Rattle.map.proofs.ByMode.{few}
 use Rattle.ground.proofs.Pilots.{GroundTurn, ground-start, ground-asks, ground-next, ground-done}
 use Rattle.ground.proofs.zeros_and_pilots.Statement.{statement}
 use Rattle.ground.proofs.zeros_and_pilots.Tie as tie
 
 abbrev Inv-loop : tie.InvT-loop
-Inv-loop setup mask slot p grid₀ lit rows row₀ grid row = GroundTurn setup mask lit slot p rows grid row
+Inv-loop setup mask slot p grid₀ lit rows row₀ grid row = GroundTurn (alone setup) mask lit slot p rows grid row
 
 abbrev μ-loop : tie.MeasureT-loop
 μ-loop setup mask slot p grid₀ lit rows row₀ grid row = rows - row

@@ -19,5 +19,5 @@ look-refusal-spec =
     tie.close
     (tie.spec
     (λ c κs. search needs) (λ c. search (mask-no, needs)) (λ c κs. search needs) mul-if2 (λ c. search (mask-then, by-number, needs))
-    (λ c κs. search (size-few, mask-valid, needs)) (λ c. search (mask-then, carrier-no, by-number, needs))
+    (λ c κs. size-few (mask-valid _ _ _ (c .before .before .before .mask-refusal .ensures) (c .before .before .if1 .left))) (λ c. search (mask-then, carrier-no, by-number, needs))
     (λ c κs. search (mask-valid, needs)) (λ c. search (mask-then, carrier-yes, by-number, needs)))

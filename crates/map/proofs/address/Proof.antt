@@ -1,7 +1,7 @@
 -- `map::address` meets its contract.
 use native.Mathlib.Omega.{arith}
-use Rattle.map.proofs.Choice.{mode-0, mode-1, mode-2}
-use Rattle.map.proofs.ByMode.{pusc-dl-asks, pusc-ul-asks, ofusc-back-asks, amc-back-asks, amc-address, amc-mode, few}
+use Rattle.map.proofs.Choice.{mode-0, mode-1, mode-2, last-mode}
+use Rattle.map.proofs.ByMode.{pusc-dl-asks, pusc-ul-asks, ofusc-back-asks, amc-back-asks, amc-address, listed-mode, few}
 use Rattle.map.specs.Mode.{addressOf}
 use borrow.Author.Needs.{needs}
 use Rattle.map.proofs.address.Statement.{statement}
@@ -44,10 +44,10 @@ address-requires-4 : tie.Need-address-requires-4
 address-requires-4 c κs =
     let s = c .before .before .before .before in
     let p = s .before .before .before .before .before .pre in
-    amc-back-asks (p .0) _ _ (p .1 .0) (p .1 .1) _ (c .before .shape .ensures) _ (c .offset-of .ensures) _ (s .data-of-used .ensures) (search (amc-mode, needs))
+    amc-back-asks (p .0) _ _ (p .1 .0) (p .1 .1) _ (c .before .shape .ensures) _ (c .offset-of .ensures) _ (s .data-of-used .ensures) (search (last-mode, listed-mode, needs))
 
 returns-4 : tie.Need-returns-4
-returns-4 c = search (amc-address, amc-mode, needs)
+returns-4 c = search (amc-address, last-mode, listed-mode, needs)
 
 pub address-spec : {M : Type 1} → statement M
 address-spec =

@@ -1,6 +1,6 @@
 -- `map::spot` meets its contract.
-use Rattle.map.proofs.Choice.{mode-0, mode-1}
-use Rattle.map.proofs.ByMode.{in-pusc-dl, in-pusc-ul, ofusc-few, ofusc-spot, amc-asks, amc-few, amc-spot, amc-mode, slot-few}
+use Rattle.map.proofs.Choice.{mode-0, mode-1, last-mode}
+use Rattle.map.proofs.ByMode.{in-pusc-dl, in-pusc-ul, ofusc-few, ofusc-spot, amc-asks, amc-few, amc-spot, listed-mode, slot-few}
 use mathlib.Core.Path.{refl}
 use native.Mathlib.Omega.{arith}
 use Rattle.map.specs.Mode.{spotOf}
@@ -41,13 +41,13 @@ bin-spot-requires c κs =
 data-number-requires : tie.Need-data-number-requires
 data-number-requires c κs =
     let p = c .before .before .before .before .before .before .before .before .pre in
-    amc-asks (p .0) (search (amc-mode, needs)) _ _ (p .1 .1) (p .1 .2) _ (c .shape .ensures)
+    amc-asks (p .0) (search (last-mode, listed-mode, needs)) _ _ (p .1 .1) (p .1 .2) _ (c .shape .ensures)
 
 bin-spot-requires-2 : tie.Need-bin-spot-requires-2
 bin-spot-requires-2 c κs =
     let y = c .before .before .before .before in
     let s = y .before .before .before .before .before in
-    let few = amc-few (s .pre .0) (search (amc-mode, needs)) _ _ (s .pre .1 .1) (s .pre .1 .2) _ (c .before .shape .ensures) in (
+    let few = amc-few (s .pre .0) (search (last-mode, listed-mode, needs)) _ _ (s .pre .1 .1) (s .pre .1 .2) _ (c .before .shape .ensures) in (
       omega (arith, slot-few (s .pre .0) (s .args .slot) (y .symbols .result) (s .pre .1 .0) (y .symbols .ensures)),
       rw (c .data-number .ensures) (few .0),
       rw (c .data-number .ensures) (few .1),
@@ -59,4 +59,4 @@ spot-spec =
     (tie.spec
     spot-requires returns spot-requires-2 returns-2 (λ c κs. search needs) mul-first (λ c κs. search needs)
     bin-spot-requires (λ c. search (ofusc-spot, needs)) (λ c κs. search needs) data-number-requires bin-spot-requires-2
-    (λ c. search (amc-spot, amc-mode, needs)))
+    (λ c. search (amc-spot, last-mode, listed-mode, needs)))

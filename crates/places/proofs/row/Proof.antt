@@ -3,6 +3,7 @@ use Prim.Native.Nat.{_<_}
 use native.Mathlib.Omega.{arith}
 use borrow.Author.Needs.{needs}
 use Rattle.base.proofs.Chain.{by-answer}
+use Rattle.map.specs.Setup.{alone}
 use Rattle.map.specs.Mode.{subchannels}
 use Rattle.map.specs.Question.{isSlot, isSubchannel}
 use Rattle.map.specs.Model.{Valid}
@@ -13,10 +14,10 @@ use Rattle.places.proofs.row.Statement.{statement}
 use Rattle.places.proofs.row.Tie as tie
 
 -- past questions 1, 2 and 3; and past 5
-past-3 : (c : tie.Else3) → Valid (c .before .before .before .before .before .args .setup)
+past-3 : (c : tie.Else3) → Valid (alone (c .before .before .before .before .before .args .setup))
 past-3 c = search (now-valid, needs)
 
-in-range : (c : tie.Else3) → let a = c .before .before .before .before .before .args in a .subchannel < subchannels (a .setup)
+in-range : (c : tie.Else3) → let a = c .before .before .before .before .before .args in a .subchannel < subchannels (alone (a .setup))
 in-range c = rw (← c .before .subchannels .ensures) (c .if3 .left)
 
 carrier-row-requires : tie.Need-carrier-row-requires

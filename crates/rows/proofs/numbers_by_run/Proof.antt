@@ -2,6 +2,7 @@
 use Prim.Native.Nat.{_+_, _-_, _*_, _<_, _≤_}
 use native.Mathlib.Omega.{arith}
 use borrow.Author.Needs.{needs}
+use Rattle.map.specs.Setup.{alone}
 use Rattle.map.specs.Mode.{symbols}
 use Rattle.rows.specs.Model.{runCount}
 use Rattle.rows.proofs.Filled.{RunsTurn, by-run, runs-none, runs-next, runs-all}
@@ -9,13 +10,13 @@ use Rattle.rows.proofs.numbers_by_run.Statement.{statement}
 use Rattle.rows.proofs.numbers_by_run.Tie as tie
 
 abbrev Inv-loop : tie.InvT-loop
-Inv-loop setup mask slot row count runs places stride numbers₀ i₀ numbers i = RunsTurn setup mask (slot * symbols setup + row) numbers i
+Inv-loop setup mask slot row count runs places stride numbers₀ i₀ numbers i = RunsTurn (alone setup) mask (slot * symbols (alone setup) + row) numbers i
 
 abbrev μ-loop : tie.MeasureT-loop
 μ-loop setup mask slot row count runs places stride numbers₀ i₀ numbers i = count - i
 
 -- run i is one of the row's
-run-lt : (c : tie.In-loop Inv-loop μ-loop) → c .before .loop .i < runCount (c .before .before .before .args .setup)
+run-lt : (c : tie.In-loop Inv-loop μ-loop) → c .before .loop .i < runCount (alone (c .before .before .before .args .setup))
 run-lt c = omega (arith, c .before .before .before .pre .1 .0 .2, c .loop-test .taken)
 
 run-numbers-requires : tie.Need-run-numbers-requires Inv-loop μ-loop

@@ -1,7 +1,8 @@
 -- `rows::place_table` meets its contract.
 use lib.ListN.{replicate}
 use borrow.Author.Needs.{needs}
-use Rattle.map.proofs.ByMode.{amc-mode, in-pusc-dl, in-ofusc, in-amc, bin-width}
+use Rattle.map.proofs.Choice.{last-mode}
+use Rattle.map.proofs.ByMode.{listed-mode, in-pusc-dl, in-ofusc, in-amc, bin-width}
 use Rattle.rows.proofs.Row.{to-table}
 use Rattle.rows.proofs.Numbers.{inverses-as, groups-as, indices-as, no-places}
 use Rattle.rows.proofs.place_table.Statement.{statement}
@@ -23,5 +24,5 @@ place-table-spec =
     (λ c. to-table (c .inverses .result) (inverses-as _ (c .before .if1 .taken)) (c .inverses .ensures))
     (λ c. no-places _ (replicate 48 0) (c .if2 .taken))
     (λ c κs. search needs) table-requires returns-3
-    (λ c κs. in-amc (c .before .before .before .before .before .before .pre) (search (amc-mode, needs)) .cell-lt)
-    (λ c. to-table (c .indices .result) (indices-as _ (search (amc-mode, needs))) (c .indices .ensures)))
+    (λ c κs. in-amc (c .before .before .before .before .before .before .pre) (search (last-mode, listed-mode, needs)) .cell-lt)
+    (λ c. to-table (c .indices .result) (indices-as _ (search (last-mode, listed-mode, needs))) (c .indices .ensures)))

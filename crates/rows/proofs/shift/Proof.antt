@@ -15,7 +15,7 @@ returns-3 : tie.Need-returns-3
 returns-3 c = (shift-2 _ _ (c .if3 .taken), omega arith)
 
 returns-4 : tie.Need-returns-4
-returns-4 c = (search (shift-amc, needs), omega arith)
+returns-4 c = (shift-amc _ _ (search needs) (search needs) (search needs) (search needs), omega arith)
 
 returns-5 : tie.Need-returns-5
 returns-5 c = (search (shift-other, needs), omega arith)

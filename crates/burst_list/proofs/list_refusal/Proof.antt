@@ -1,0 +1,98 @@
+-- `burst_list::list_refusal` meets its contract: the bursts before the i-th have passed, and their edges stand in the columns.
+use mathlib.Core.Path.{_≡_, sym, ap, _∙_}
+use mathlib.Core.Bool.{true}
+use Prim.Native.Nat.{_+_, _-_, _<_}
+use native.Mathlib.Omega.{arith}
+use borrow.Author.Needs.{needs}
+use borrow.Author.Tests.{le-leb, lt-leb}
+use borrow.Author.Count.{below-none, below-more}
+use Rattle.base.proofs.Test.{told-no, told-yes}
+use Rattle.base.proofs.Chain.{by-number}
+use Rattle.burst.specs.declared.Edges.{Edges}
+use Rattle.burst.specs.Burst.{burstAt, isInside}
+use Rattle.burst.specs.Model.{edgesOf}
+use Rattle.burst.proofs.Cover.{inside-ends}
+use Rattle.burst_list.specs.List.{isList, isApart}
+use Rattle.burst_list.specs.Model.{listRefusal}
+use Rattle.burst_list.proofs.Each.{Passes, list-is, list-of, is-outside, is-overlapping, all-pass}
+use Rattle.burst_list.proofs.Columns.{Held, held-none, held-next, held-apart}
+use Rattle.burst_list.proofs.list_refusal.Statement.{statement}
+use Rattle.burst_list.proofs.list_refusal.Tie as tie
+
+abbrev Inv-loop : tie.InvT-loop
+Inv-loop subchannelEnd slotEnd bursts count columns₀ i₀ columns i = (isList bursts ≡ true) × Passes subchannelEnd slotEnd bursts i × Held bursts columns i
+
+abbrev μ-loop : tie.MeasureT-loop
+μ-loop subchannelEnd slotEnd bursts count columns₀ i₀ columns i = count - i
+
+-- what the list's own numbers say of a burst that was asked
+asked : (c : tie.After-is-inside Inv-loop μ-loop) → let a = c .before .before .before .before .before .before .before .args in
+    c .is-inside .result ≡ isInside (a .subchannel-end) (a .slot-end) (burstAt (a .bursts .now) (c .before .before .before .loop .i))
+asked c = c .is-inside .ensures ∙ ap (isInside _ _) (c .before .burst-at .ensures)
+
+-- one that lies in its zone has small edges
+small : (c : tie.Else3 Inv-loop μ-loop) → let b = c .before .before .burst-at .result in (b .subchannel + b .subchannels < 65536) × (b .slot + b .slots < 65536)
+small c =
+    let ends = inside-ends _ _ _ (told-yes _ (c .before .is-inside .ensures) (c .if3 .left)) in
+    let limits = c .before .before .before .before .before .before .before .before .pre in
+    (omega arith, omega arith)
+
+edges : (c : tie.After-end-of2 Inv-loop μ-loop) → let b = c .before .before .before .before .before .before .burst-at .result in
+    _≡_ {A = Edges} (record { start = b .subchannel; end = c .before .before .end-of .result; «slot_start» = b .slot; «slot_end» = c .end-of2 .result }) (edgesOf (burstAt (c .before .before .before .before .before .before .before .before .before .before .before .before .args .bursts .now) (c .before .before .before .before .before .before .before .before .loop .i)))
+edges c = rw (c .before .before .end-of .ensures, c .end-of2 .ensures) (ap edgesOf (c .before .before .before .before .before .before .burst-at .ensures))
+
+-- so that 19 goes by the list's own
+apart : (c : tie.After-is-apart Inv-loop μ-loop) → c .is-apart .result ≡ isApart (c .before .before .before .before .before .before .before .before .before .before .before .before .before .before .before .before .args .bursts .now) (c .before .before .before .before .before .before .before .before .before .before .before .before .loop .i)
+apart c =
+    let kept = c .before .before in
+    let e = edges (kept .before .before) in
+    c .is-apart .ensures ∙ held-apart _ e (held-next _ e (kept .before .before .before .before .before .before .before .before .before .before .loop .inv .2) (kept .keep .ensures))
+
+few : (c : tie.In-loop Inv-loop μ-loop) → c .before .loop .i < 64
+few c = omega (arith, list-of _ (c .before .loop .inv .0), c .loop-test .taken)
+
+loop-holds : tie.Need-loop-holds Inv-loop μ-loop
+loop-holds c = (list-is _ (c .before .if1 .left) (c .if2 .left), below-none _, held-none _)
+
+-- each outcome by the questions
+returns : tie.Need-returns Inv-loop μ-loop
+unfolding listRefusal isList
+returns c = search (by-number, needs)
+
+returns-2 : tie.Need-returns-2 Inv-loop μ-loop
+unfolding listRefusal isList
+returns-2 c = search (by-number, lt-leb, needs)
+
+returns-3 : tie.Need-returns-3 Inv-loop μ-loop
+returns-3 c =
+    let loop = c .before .before .before in
+    is-outside _ _ _ (loop .before .loop .inv .0) (loop .loop-test .taken) (loop .before .loop .inv .1) (told-no _ (asked (c .before)) (c .if3 .taken))
+
+returns-4 : tie.Need-returns-4 Inv-loop μ-loop
+returns-4 c =
+    let inside = c .before .before .before .before .before .before .before .before .before in
+    let loop = inside .before .before .before in
+    is-overlapping _ _ _ (loop .before .loop .inv .0) (loop .loop-test .taken) (loop .before .loop .inv .1) (told-yes _ (asked (inside .before)) (inside .if3 .left)) (told-no _ (apart (c .before)) (c .if4 .taken))
+
+loop-again : tie.Need-loop-again Inv-loop μ-loop
+loop-again c =
+    let inside = c .before .before .before .before .before .before .before .before .before in
+    let inv = inside .before .before .before .before .loop .inv in (
+      inv .0,
+      below-more _ _ (inv .1) (record { inside = told-yes _ (asked (inside .before)) (inside .if3 .left); apart = told-yes _ (apart (c .before)) (c .if4 .left) }),
+      held-next _ (edges (c .before .before .before .before .before)) (inv .2) (c .before .before .before .keep .ensures),
+    )
+
+returns-5 : tie.Need-returns-5 Inv-loop μ-loop
+returns-5 c = let inv = c .before .loop .inv in all-pass _ _ _ (inv .0) (λ k h. inv .1 k (omega (arith, c .loop-test .left)))
+
+pub list-refusal-spec : {M : Type 1} → statement M
+list-refusal-spec =
+    tie.close
+    (tie.spec
+    Inv-loop μ-loop returns returns-2 loop-holds
+    (λ c κs. (few c, omega (arith, c .loop-test .taken))) (λ c κs. search needs) returns-3
+    (λ c. let ends = small (c .before) in omega arith) (λ c κs. search needs) (λ c. let ends = small (c .before .before) in omega (arith, c .end-of .ensures))
+    (λ c. let ends = small (c .before .before .before) in omega arith) (λ c κs. search needs) (λ c. let ends = small (c .before .before .before .before) in omega (arith, c .end-of2 .ensures))
+    (λ c κs. (few (c .before .before .before .before .before .before .before .before), c .before .before .before .before .before .before .before .before .before .loop .inv .2 .long))
+    (λ c κs. few (c .before .before .before .before .before .before .before .before .before .before)) returns-4 (λ c. search needs) (λ c. search needs) loop-again returns-5)

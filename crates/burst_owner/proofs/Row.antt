@@ -1,0 +1,184 @@
+-- The owner of a subchannel in a slot, and the row of a slot's owners as its bursts mark it one after the other.
+use mathlib.Core.Path.{_≡_, sym, _∙_}
+use mathlib.Core.Bool.{Bool, true, false}
+use mathlib.Core.List.{List}
+use Prim.Native.Nat.{ℕ, _+_, _<_, _≤_}
+use native.Mathlib.Omega.{arith}
+use lib.Dec.{eqb, ltb, leb}
+use lib.ListN.{length, set, replicate, length-set, length-replicate, getD-replicate}
+use lib.Seq.{getD-set-same, getD-set-other}
+use borrow.Author.Tests.{lt-ltb, le-ltb, ltb-true, ltb-false, eqb-true, eqb-false, leb-true}
+use borrow.Author.Count.{below-none}
+use Rattle.base.specs.Choice.{pick}
+use Rattle.base.specs.Steps.{entry}
+use Rattle.base.specs.Tabulate.{tabulate}
+use Rattle.base.specs.First.{firstOf}
+use Rattle.base.proofs.Test.{cases, true-false}
+use Rattle.base.proofs.Tabulate.{getD-tabulate, tabulated, length-tabulate}
+use Rattle.base.proofs.First.{None, none-more, first-most, first-before, first-passes, first-is, first-none, none-of}
+use Rattle.burst.specs.Burst.{burstAt, isOf, isCovering, isOverlap}
+use Rattle.burst.proofs.Cover.{of-is, covering-is, elsewhere, beside, overlap-is}
+use Rattle.burst_list.specs.List.{burstCount, isApart}
+use Rattle.burst_list.proofs.Each.{Passed}
+use Rattle.burst_owner.specs.declared.Owned.{Owned}
+use Rattle.burst_owner.specs.Owner.{position, noOwner, ownerAt, lookedAt}
+use Rattle.burst_owner.specs.Model.{marked, markedBy}
+
+-- the first owner, of its position
+module _ (numbers : List ℕ) (slot s : ℕ) {p : ℕ} (e : p ≡ position numbers slot s) where
+  pub owner-some : p < burstCount numbers → _≡_ {A = Owned} (record { refusal = 0; owner = p; looked = p + 1 }) (record { refusal = 0; owner = ownerAt numbers slot s; looked = lookedAt numbers slot s })
+  unfolding ownerAt lookedAt
+  owner-some h = rw (← e, lt-ltb p (burstCount numbers) h)
+
+  pub owner-none : burstCount numbers ≤ p → _≡_ {A = Owned} (record { refusal = 0; owner = noOwner; looked = p }) (record { refusal = 0; owner = ownerAt numbers slot s; looked = lookedAt numbers slot s })
+  unfolding ownerAt lookedAt
+  owner-none h =
+      let all : p ≡ burstCount numbers = omega (arith, first-most (λ i. isCovering (burstAt numbers i) slot s) (burstCount numbers)) in
+      rw (← e, le-ltb p (burstCount numbers) h, all)
+
+-- one number more
+of-none : (first k : ℕ) → isOf first 0 k ≡ false
+unfolding isOf
+of-none first k =
+    cases (leb first k)
+    (λ e. rw (e, le-ltb k (first + 0) (omega (arith, leb-true first k e))))
+    (λ e. rw e)
+
+of-last : (first m : ℕ) → isOf first (m + 1) (first + m) ≡ true
+of-last first m = of-is first (m + 1) (first + m) (omega arith) (omega arith)
+
+of-other : (first m k : ℕ) → (first + m ≡ k → ⊥) → isOf first (m + 1) k ≡ isOf first m k
+unfolding isOf
+of-other first m k n =
+    cases (ltb k (first + m))
+    (λ e. let l = ltb-true k (first + m) e in rw (e, lt-ltb k (first + (m + 1)) (omega arith)))
+    (λ e. let l = ltb-false k (first + m) e in rw (e, le-ltb k (first + (m + 1)) (omega arith)))
+
+-- a row of which m entries from the first on are set to a value
+pub record Marking (first value : ℕ) (row₀ row : List ℕ) (m : ℕ) : Type 0 where
+  pub long : length row ≡ 192
+  pub entries : (k : ℕ) → k < 192 → entry row k ≡ pick (isOf first m k) value (entry row₀ k)
+
+module _ {first value : ℕ} {row₀ : List ℕ} where
+  pub marking-none : length row₀ ≡ 192 → Marking first value row₀ row₀ 0
+  marking-none e = record { long = e; entries = λ k h. rw (of-none first k) }
+
+  pub marking-next : {row : List ℕ} {m : ℕ} → Marking first value row₀ row m → first + m < 192 → Marking first value row₀ (set row (first + m) value) (m + 1)
+  marking-next {row} {m} w h =
+      record {
+        long = length-set row (first + m) value ∙ w .long;
+        entries = λ k l.
+            cases (eqb (first + m) k)
+            (λ e. let same = eqb-true (first + m) k e in
+            rw (← same, of-last first m) (getD-set-same row (first + m) value 0 (omega (arith, w .long))))
+            (λ e. let other = eqb-false (first + m) k e in
+            rw (of-other first m k other) (getD-set-other row (first + m) k value 0 (λ q. other (sym q)) ∙ w .entries k l));
+      }
+
+  pub marking-all : {row : List ℕ} {m : ℕ} → Marking first value row₀ row m → row ≡ marked first m value row₀
+  marking-all {row} {m} w = tabulated 0 row 192 (λ s. pick (isOf first m s) value (entry row₀ s)) (w .long) (w .entries)
+
+-- which bursts cover a slot and subchannel
+abbrev pub covering : (numbers : List ℕ) (slot s i : ℕ) → Bool
+covering numbers slot s i = isCovering (burstAt numbers i) slot s
+
+module _ (numbers : List ℕ) (slot s : ℕ) where
+  abbrev test : ℕ → Bool
+  test = covering numbers slot s
+
+  -- its owner among the first n bursts, and how many of these are looked at
+  abbrev pub ownerAmong : (n : ℕ) → ℕ
+  ownerAmong n = let first = firstOf test n in pick (ltb first n) first noOwner
+
+  abbrev lookedAmong : (n : ℕ) → ℕ
+  lookedAmong n = let first = firstOf test n in pick (ltb first n) (first + 1) n
+
+  -- One that covers it, with none before it, is its owner; where none covers it, it has none.
+  here : (n i : ℕ) → i < n → None test i → test i ≡ true → (ownerAmong n ≡ i) × (lookedAmong n ≡ i + 1)
+  here n i h before e =
+      let is = first-is test n i h before e in
+      let below = lt-ltb i n h in
+      (rw (is, below), rw (is, below))
+
+  nowhere : (n : ℕ) → None test n → (ownerAmong n ≡ noOwner) × (lookedAmong n ≡ n)
+  nowhere n none =
+      let all = first-none test n none in
+      let end = le-ltb n n (omega arith) in
+      (rw (all, end), rw (all, end))
+
+  by-first : {A : Type 0} (n : ℕ) → ((i : ℕ) → i < n → None test i → test i ≡ true → A) → (None test n → A) → A
+  by-first n f g =
+      cases (ltb (firstOf test n) n)
+      (λ t. let h = ltb-true (firstOf test n) n t in f (firstOf test n) h (first-before test n) (first-passes test n h))
+      (λ t. g (λ k h. first-before test n k (omega (arith, ltb-false (firstOf test n) n t))))
+
+  -- one burst more that does not cover it: the owner is as before
+  among-next : (n : ℕ) → test n ≡ false → ownerAmong (n + 1) ≡ ownerAmong n
+  among-next n e =
+      by-first n
+      (λ i h before t. here (n + 1) i (omega arith) before t .0 ∙ sym (here n i h before t .0))
+      (λ none. nowhere (n + 1) (none-more test n none e) .0 ∙ sym (nowhere n none .0))
+
+  -- In an accepted list none before it covers what it covers.
+  pub alone : {subchannelEnd slotEnd n : ℕ} → Passed subchannelEnd slotEnd numbers n → test n ≡ true → None test n
+  unfolding isApart
+  alone {n = n} p e j h =
+      cases (test j)
+      (λ t. absurd (true-false (sym (overlap-is (burstAt numbers j) (burstAt numbers n) slot s t e) ∙ none-of (λ k. isOverlap (burstAt numbers k) (burstAt numbers n)) n (p .apart) j h)))
+      (λ f. f)
+
+  -- the same of the whole list
+  pub owner-here : (i : ℕ) → i < burstCount numbers → None test i → test i ≡ true → (ownerAt numbers slot s ≡ i) × (lookedAt numbers slot s ≡ i + 1)
+  unfolding ownerAt lookedAt
+  owner-here i h before e = here (burstCount numbers) i h before e
+
+  pub no-owner : None test (burstCount numbers) → (ownerAt numbers slot s ≡ noOwner) × (lookedAt numbers slot s ≡ burstCount numbers)
+  unfolding ownerAt lookedAt
+  no-owner none = nowhere (burstCount numbers) none
+
+  -- one of the two
+  pub by-owner : {A : Type 0} → ((i : ℕ) → i < burstCount numbers → test i ≡ true → ownerAt numbers slot s ≡ i → lookedAt numbers slot s ≡ i + 1 → A)
+      → (None test (burstCount numbers) → ownerAt numbers slot s ≡ noOwner → lookedAt numbers slot s ≡ burstCount numbers → A) → A
+  by-owner f g =
+      by-first (burstCount numbers)
+      (λ i h before t. let is = owner-here i h before t in f i h t (is .0) (is .1))
+      (λ none. let is = no-owner none in g none (is .0) (is .1))
+
+-- a row that the first i bursts have marked
+pub record RowMarked (numbers : List ℕ) (slot : ℕ) (row : List ℕ) (i : ℕ) : Type 0 where
+  pub long : length row ≡ 192
+  pub entries : (k : ℕ) → k < 192 → entry row k ≡ ownerAmong numbers slot k i
+
+module _ (numbers : List ℕ) (slot : ℕ) where
+  pub row-none : RowMarked numbers slot (replicate 192 noOwner) 0
+  row-none =
+      record {
+        long = length-replicate 192 noOwner;
+        entries = λ k h. getD-replicate 192 k noOwner 0 h ∙ sym (nowhere numbers slot k 0 (below-none _) .0);
+      }
+
+  module _ {row : List ℕ} {i : ℕ} (w : RowMarked numbers slot row i) where
+    row-skip : isOf (burstAt numbers i .slot) (burstAt numbers i .slots) slot ≡ false → RowMarked numbers slot row (i + 1)
+    row-skip e = record { long = w .long; entries = λ k h. w .entries k h ∙ sym (among-next numbers slot k i (elsewhere (burstAt numbers i) slot k e)) }
+
+    module _ {subchannelEnd slotEnd : ℕ} (p : Passed subchannelEnd slotEnd numbers i) where
+      row-mark : isOf (burstAt numbers i .slot) (burstAt numbers i .slots) slot ≡ true → RowMarked numbers slot (marked (burstAt numbers i .subchannel) (burstAt numbers i .subchannels) i row) (i + 1)
+      row-mark e =
+          record {
+            long = length-tabulate 192 _;
+            entries = λ k h. getD-tabulate 192 _ k 0 h
+                ∙ cases (isOf (burstAt numbers i .subchannel) (burstAt numbers i .subchannels) k)
+                (λ t. let covers = covering-is (burstAt numbers i) slot k t e in rw t (sym (here numbers slot k (i + 1) i (omega arith) (alone numbers slot k p covers) covers .0)))
+                (λ f. rw f (w .entries k h ∙ sym (among-next numbers slot k i (beside (burstAt numbers i) slot k f))));
+          }
+
+      pub row-next : {row′ : List ℕ} → row′ ≡ markedBy (burstAt numbers i) slot i row → RowMarked numbers slot row′ (i + 1)
+      row-next same =
+          rw same
+          (cases (isOf (burstAt numbers i .slot) (burstAt numbers i .slots) slot)
+          (λ t. rw t (row-mark t))
+          (λ f. rw f (row-skip f)))
+
+    pub row-all : i ≡ burstCount numbers → row ≡ tabulate 192 (ownerAt numbers slot)
+    unfolding ownerAt
+    row-all e = tabulated 0 row 192 (ownerAt numbers slot) (w .long) (λ k h. w .entries k h ∙ rw e)
