@@ -71,21 +71,14 @@ module _ (b : Burst) where
   elsewhere slot s e = cases (isOf (b .subchannel) (b .subchannels) s) (λ t. rw (t, e)) (λ f. rw f)
 
   module _ (subchannelEnd slotEnd : ℕ) where
-    pub inside : isInside subchannelEnd slotEnd b ≡ true → (isWithin subchannelEnd (b .subchannel) (b .subchannels) ≡ true) × (isWithin slotEnd (b .slot) (b .slots) ≡ true)
+    pub inside : isInside subchannelEnd slotEnd b ≡ true → ((0 < b .subchannels) × (b .subchannel + b .subchannels ≤ subchannelEnd)) × ((0 < b .slots) × (b .slot + b .slots ≤ slotEnd))
     unfolding isInside
-    inside e = both-true _ _ e
-
-    pub not-empty : isInside subchannelEnd slotEnd b ≡ true → (0 < b .subchannels) × (0 < b .slots)
-    not-empty e = (is-within (b .subchannel) (b .subchannels) subchannelEnd (inside e .0) .0, is-within (b .slot) (b .slots) slotEnd (inside e .1) .0)
-
-    pub inside-ends : isInside subchannelEnd slotEnd b ≡ true → (b .subchannel + b .subchannels ≤ subchannelEnd) × (b .slot + b .slots ≤ slotEnd)
-    inside-ends e = (is-within (b .subchannel) (b .subchannels) subchannelEnd (inside e .0) .1, is-within (b .slot) (b .slots) slotEnd (inside e .1) .1)
+    inside e = let h = both-true _ _ e in (is-within (b .subchannel) (b .subchannels) subchannelEnd (h .0), is-within (b .slot) (b .slots) slotEnd (h .1))
 
     -- what it covers lies in the zone where it does
     pub inside-covers : isInside subchannelEnd slotEnd b ≡ true → (slot s : ℕ) → isCovering b slot s ≡ true → (slot < slotEnd) × (s < subchannelEnd)
     inside-covers e slot s c =
-        let in-subchannels = is-within (b .subchannel) (b .subchannels) subchannelEnd (inside e .0) in
-        let in-slots = is-within (b .slot) (b .slots) slotEnd (inside e .1) in
+        let ends = inside e in
         let of-subchannels = is-of (b .subchannel) (b .subchannels) s (covering slot s c .0) in
         let of-slots = is-of (b .slot) (b .slots) slot (covering slot s c .1) in
         (omega arith, omega arith)
@@ -93,7 +86,7 @@ module _ (b : Burst) where
     -- and it covers its own first subchannel and slot, so that it is not empty
     pub inside-first : isInside subchannelEnd slotEnd b ≡ true → isCovering b (b .slot) (b .subchannel) ≡ true
     inside-first e =
-        let some = not-empty e in
+        let some = inside e in
         covering-is (b .slot) (b .subchannel)
         (of-is (b .subchannel) (b .subchannels) (b .subchannel) (omega arith) (omega arith))
         (of-is (b .slot) (b .slots) (b .slot) (omega arith) (omega arith))
@@ -128,8 +121,10 @@ module _ (a b : Burst) where
   unfolding isOverlap
   overlap-common subchannelEnd slotEnd h h′ e =
       let t = both-true _ _ e in
-      let in-subchannels = shared-common (a .subchannel) (a .subchannels) (b .subchannel) (b .subchannels) (not-empty a subchannelEnd slotEnd h .0) (not-empty b subchannelEnd slotEnd h′ .0) (t .0) in
-      let in-slots = shared-common (a .slot) (a .slots) (b .slot) (b .slots) (not-empty a subchannelEnd slotEnd h .1) (not-empty b subchannelEnd slotEnd h′ .1) (t .1) in
+      let some = inside a subchannelEnd slotEnd h in
+      let some′ = inside b subchannelEnd slotEnd h′ in
+      let in-subchannels = shared-common (a .subchannel) (a .subchannels) (b .subchannel) (b .subchannels) (some .0 .0) (some′ .0 .0) (t .0) in
+      let in-slots = shared-common (a .slot) (a .slots) (b .slot) (b .slots) (some .1 .0) (some′ .1 .0) (t .1) in
       (covering-is a _ _ (in-subchannels .0) (in-slots .0), covering-is b _ _ (in-subchannels .1) (in-slots .1))
 
   -- they overlap by their edges

@@ -35,21 +35,13 @@ use Rattle.zone.proofs.Number.{fieldQuestions, fields-no, fields-then}
 use Rattle.bursts.proofs.Answer.{zone-limits}
 
 -- the outcomes by their answer
-owned-number : (owner looked : ℕ) (answer : Answer (Unit {0})) → owned owner looked answer .refusal ≡ refusalOf answer
-owned-number owner looked (accepted tt) = refl
-owned-number owner looked (refused k) = refl
+owned-by : (owner looked : ℕ) (answer : Answer (Unit {0})) → let r = owned owner looked answer in (r .refusal ≡ refusalOf answer) × ((refusalOf answer ≡ 0 → ⊥) → (r .owner ≡ noOwner) × (r .looked ≡ 0))
+owned-by owner looked (accepted tt) = (refl, λ h. absurd (h refl))
+owned-by owner looked (refused k) = (refl, λ h. (refl, refl))
 
-owned-no : (owner looked : ℕ) (answer : Answer (Unit {0})) → (refusalOf answer ≡ 0 → ⊥) → (owned owner looked answer .owner ≡ noOwner) × (owned owner looked answer .looked ≡ 0)
-owned-no owner looked (accepted tt) h = absurd (h refl)
-owned-no owner looked (refused k) h = (refl, refl)
-
-row-number : (row : ℕ → ℕ) (answer : Answer (Unit {0})) → ownerRow row answer .refusal ≡ refusalOf answer
-row-number row (accepted tt) = refl
-row-number row (refused k) = refl
-
-row-no : (row : ℕ → ℕ) (answer : Answer (Unit {0})) → (refusalOf answer ≡ 0 → ⊥) → ownerRow row answer .owners ≡ tabulate 192 (λ s. noOwner)
-row-no row (accepted tt) h = absurd (h refl)
-row-no row (refused k) h = refl
+row-by : (row : ℕ → ℕ) (answer : Answer (Unit {0})) → let r = ownerRow row answer in (r .refusal ≡ refusalOf answer) × ((refusalOf answer ≡ 0 → ⊥) → r .owners ≡ tabulate 192 (λ s. noOwner))
+row-by row (accepted tt) = (refl, λ h. absurd (h refl))
+row-by row (refused k) = (refl, λ h. refl)
 
 -- a chain whose number is 0 is answered yes, and so is what comes after it
 zero-parts : {A : Type 0} (qs : Questions) → T (counted qs) → (rest : Answer A) → refusalOf (askAll qs rest) ≡ 0 → (firstNo qs ≡ 0) × (refusalOf rest ≡ 0)
@@ -178,7 +170,7 @@ module _ (size : ℕ) (zone : Zone) (numbers : List ℕ) where
 
       owner-number : outcome .refusal ≡ refusalOf (askOwner {A = Unit {0}} size zone slot s numbers (accepted tt))
       unfolding ownerOf
-      owner-number = owned-number (ownerAt numbers slot s) (lookedAt numbers slot s) (askOwner size zone slot s numbers (accepted tt))
+      owner-number = owned-by (ownerAt numbers slot s) (lookedAt numbers slot s) (askOwner size zone slot s numbers (accepted tt)) .0
 
       owner-alike : slot < 512 → s < end → outcome .refusal ≡ checkOf size zone numbers
       unfolding checkOf isSlot isSubchannel
@@ -205,7 +197,7 @@ module _ (size : ℕ) (zone : Zone) (numbers : List ℕ) where
       by-answer f g =
           cases (eqb (outcome .refusal) 0)
           (λ t. let y = owner-yes (eqb-true _ 0 t) in f (y .0) (ap (λ (o : Owned). o .owner) (y .1)) (ap (λ (o : Owned). o .looked) (y .1)))
-          (λ n. let h = owned-no (ownerAt numbers slot s) (lookedAt numbers slot s) (askOwner size zone slot s numbers (accepted tt)) (λ e. eqb-false _ 0 n (owner-number ∙ e)) in g (eqb-false _ 0 n) (h .0) (h .1))
+          (λ n. let h = owned-by (ownerAt numbers slot s) (lookedAt numbers slot s) (askOwner size zone slot s numbers (accepted tt)) .1 (λ e. eqb-false _ 0 n (owner-number ∙ e)) in g (eqb-false _ 0 n) (h .0) (h .1))
 
       only-owner : (i : ℕ) → outcome .refusal ≡ 0 → i < burstCount numbers → Covers numbers i slot s → (outcome .owner ≡ i) × (outcome .looked ≡ i + 1)
       only-owner i e h c =
@@ -242,7 +234,7 @@ module _ (size : ℕ) (zone : Zone) (numbers : List ℕ) where
 
     rows-number : rows .refusal ≡ refusalOf (askOwners {A = Unit {0}} size zone slot numbers (accepted tt))
     unfolding ownersOf
-    rows-number = row-number (rowAt size zone slot numbers) (askOwners size zone slot numbers (accepted tt))
+    rows-number = row-by (rowAt size zone slot numbers) (askOwners size zone slot numbers (accepted tt)) .0
 
     row-alike : slot < 512 → rows .refusal ≡ checkOf size zone numbers
     unfolding checkOf isSlot
@@ -264,7 +256,7 @@ module _ (size : ℕ) (zone : Zone) (numbers : List ℕ) where
     by-row f g =
         cases (eqb (rows .refusal) 0)
         (λ t. let a = row-yes (eqb-true _ 0 t) in f a (ap (λ (o : OwnerRow). o .owners) (row-is a)))
-        (λ n. g (eqb-false _ 0 n) (row-no (rowAt size zone slot numbers) (askOwners size zone slot numbers (accepted tt)) (λ e. eqb-false _ 0 n (rows-number ∙ e))))
+        (λ n. g (eqb-false _ 0 n) (row-by (rowAt size zone slot numbers) (askOwners size zone slot numbers (accepted tt)) .1 (λ e. eqb-false _ 0 n (rows-number ∙ e))))
 
     row-long : length (rows .owners) ≡ 192
     row-long = by-row (λ a e. ap length e ∙ length-tabulate 192 (rowAt size zone slot numbers)) (λ n e. ap length e ∙ length-tabulate 192 (λ s. noOwner))

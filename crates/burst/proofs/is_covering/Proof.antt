@@ -1,13 +1,10 @@
 -- `burst::is_covering` meets its contract.
 use borrow.Author.Needs.{needs}
-use Rattle.burst.specs.Burst.{isCovering}
 use Rattle.base.proofs.Test.{and-of}
+use Rattle.burst.specs.Burst.{isCovering}
 use Rattle.burst.proofs.is_covering.Statement.{statement}
 use Rattle.burst.proofs.is_covering.Tie as tie
 
-returns : tie.Need-returns
-unfolding isCovering
-returns c = and-of (c .before .is-of .ensures) (c .is-of2 .ensures)
-
 pub is-covering-spec : {M : Type 1} → statement M
-is-covering-spec = tie.close (tie.spec (λ c κs. search needs) (λ c κs. search needs) returns)
+unfolding isCovering
+is-covering-spec = tie.close (tie.spec (λ c κs. search needs) (λ c κs. search needs) (λ c. and-of (c .before .is-of .ensures) (c .is-of2 .ensures)))

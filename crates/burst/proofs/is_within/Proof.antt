@@ -1,13 +1,10 @@
 -- `burst::is_within` meets its contract.
 use borrow.Author.Needs.{needs}
-use Rattle.burst.specs.Burst.{isWithin}
 use Rattle.base.proofs.Test.{and-is}
+use Rattle.burst.specs.Burst.{isWithin}
 use Rattle.burst.proofs.is_within.Statement.{statement}
 use Rattle.burst.proofs.is_within.Tie as tie
 
-returns : tie.Need-returns
-unfolding isWithin
-returns c = rw (c .end-of .ensures, and-is)
-
 pub is-within-spec : {M : Type 1} → statement M
-is-within-spec = tie.close (tie.spec (λ c κs. search needs) returns)
+unfolding isWithin
+is-within-spec = tie.close (tie.spec (λ c κs. search needs) (λ c. rw (c .end-of .ensures, and-is)))

@@ -1,17 +1,17 @@
 -- `burst_list::list_refusal` meets its contract: the bursts before the i-th have passed, and their edges stand in the columns.
-use mathlib.Core.Path.{_≡_, sym, ap, _∙_}
+use mathlib.Core.Path.{_≡_, ap, _∙_}
 use mathlib.Core.Bool.{true}
 use Prim.Native.Nat.{_+_, _-_, _<_}
 use native.Mathlib.Omega.{arith}
 use borrow.Author.Needs.{needs}
-use borrow.Author.Tests.{le-leb, lt-leb}
+use borrow.Author.Tests.{lt-leb}
 use borrow.Author.Count.{below-none, below-more}
 use Rattle.base.proofs.Test.{told-no, told-yes}
 use Rattle.base.proofs.Chain.{by-number}
 use Rattle.burst.specs.declared.Edges.{Edges}
 use Rattle.burst.specs.Burst.{burstAt, isInside}
 use Rattle.burst.specs.Model.{edgesOf}
-use Rattle.burst.proofs.Cover.{inside-ends}
+use Rattle.burst.proofs.Cover.{inside}
 use Rattle.burst_list.specs.List.{isList, isApart}
 use Rattle.burst_list.specs.Model.{listRefusal}
 use Rattle.burst_list.proofs.Each.{Passes, list-is, list-of, is-outside, is-overlapping, all-pass}
@@ -33,7 +33,7 @@ asked c = c .is-inside .ensures ∙ ap (isInside _ _) (c .before .burst-at .ensu
 -- one that lies in its zone has small edges
 small : (c : tie.Else3 Inv-loop μ-loop) → let b = c .before .before .burst-at .result in (b .subchannel + b .subchannels < 65536) × (b .slot + b .slots < 65536)
 small c =
-    let ends = inside-ends _ _ _ (told-yes _ (c .before .is-inside .ensures) (c .if3 .left)) in
+    let ends = inside _ _ _ (told-yes _ (c .before .is-inside .ensures) (c .if3 .left)) in
     let limits = c .before .before .before .before .before .before .before .before .pre in
     (omega arith, omega arith)
 
@@ -70,16 +70,16 @@ returns-3 c =
 
 returns-4 : tie.Need-returns-4 Inv-loop μ-loop
 returns-4 c =
-    let inside = c .before .before .before .before .before .before .before .before .before in
-    let loop = inside .before .before .before in
-    is-overlapping _ _ _ (loop .before .loop .inv .0) (loop .loop-test .taken) (loop .before .loop .inv .1) (told-yes _ (asked (inside .before)) (inside .if3 .left)) (told-no _ (apart (c .before)) (c .if4 .taken))
+    let passed = c .before .before .before .before .before .before .before .before .before in
+    let loop = passed .before .before .before in
+    is-overlapping _ _ _ (loop .before .loop .inv .0) (loop .loop-test .taken) (loop .before .loop .inv .1) (told-yes _ (asked (passed .before)) (passed .if3 .left)) (told-no _ (apart (c .before)) (c .if4 .taken))
 
 loop-again : tie.Need-loop-again Inv-loop μ-loop
 loop-again c =
-    let inside = c .before .before .before .before .before .before .before .before .before in
-    let inv = inside .before .before .before .before .loop .inv in (
+    let passed = c .before .before .before .before .before .before .before .before .before in
+    let inv = passed .before .before .before .before .loop .inv in (
       inv .0,
-      below-more _ _ (inv .1) (record { inside = told-yes _ (asked (inside .before)) (inside .if3 .left); apart = told-yes _ (apart (c .before)) (c .if4 .left) }),
+      below-more _ _ (inv .1) (record { inside = told-yes _ (asked (passed .before)) (passed .if3 .left); apart = told-yes _ (apart (c .before)) (c .if4 .left) }),
       held-next _ (edges (c .before .before .before .before .before)) (inv .2) (c .before .before .before .keep .ensures),
     )
 

@@ -13,9 +13,6 @@ Inv-loop row₀ first many value m₀ row m = (m ≤ many) × (first + many ≤ 
 abbrev μ-loop : tie.MeasureT-loop
 μ-loop row₀ first many value m₀ row m = many - m
 
-loop-holds : tie.Need-loop-holds Inv-loop μ-loop
-loop-holds c = (omega arith, c .pre .1, marking-none (c .pre .0))
-
 loop-again : tie.Need-loop-again Inv-loop μ-loop
 loop-again c =
     let inv = c .before .loop .inv in
@@ -28,4 +25,4 @@ returns c =
     rw all at (marking-all (inv .2))
 
 pub mark-spec : {M : Type 1} → statement M
-mark-spec = tie.close (tie.spec Inv-loop μ-loop loop-holds (λ c. search needs) (λ c. search needs) (λ c. search needs) (λ c. search needs) loop-again returns)
+mark-spec = tie.close (tie.spec Inv-loop μ-loop (λ c. (omega arith, c .pre .1, marking-none (c .pre .0))) (λ c. search needs) (λ c. search needs) (λ c. search needs) (λ c. search needs) loop-again returns)

@@ -1,10 +1,10 @@
 -- `burst_owner::marked_row` meets its contract.
 use mathlib.Core.Path.{refl}
-use Prim.Native.Nat.{_-_, _≤_}
+use Prim.Native.Nat.{_-_, _<_, _≤_}
 use native.Mathlib.Omega.{arith}
 use borrow.Author.Needs.{needs}
 use Rattle.burst_list.specs.List.{burstCount}
-use Rattle.burst.proofs.Cover.{inside-ends}
+use Rattle.burst.proofs.Cover.{inside}
 use Rattle.burst_list.proofs.Each.{list-yes, list-most}
 use Rattle.burst_owner.proofs.Row.{RowMarked, row-none, row-next, row-all}
 use Rattle.burst_owner.proofs.marked_row.Statement.{statement}
@@ -19,22 +19,14 @@ abbrev μ-loop : tie.MeasureT-loop
 loop-holds : tie.Need-loop-holds Inv-loop μ-loop
 loop-holds c = (omega arith, row-none _ _)
 
-burst-at-requires : tie.Need-burst-at-requires Inv-loop μ-loop
-burst-at-requires c κs =
-    let accepted = c .before .before .before .before .pre in
-    let most = list-most _ _ _ refl (accepted .no-refusal) in
-    (omega (arith, c .before .loop-test .taken), omega (arith, c .before .loop-test .taken))
-
-cast-mark-burst : tie.Need-cast-mark-burst Inv-loop μ-loop
-cast-mark-burst c =
-    let most = list-most _ _ _ refl (c .before .before .before .before .before .pre .no-refusal) in
-    omega (arith, c .before .before .loop-test .taken)
+few : (c : tie.In-loop Inv-loop μ-loop) → c .before .loop .i < 64
+few c = omega (arith, list-most _ _ _ refl (c .before .before .before .pre .no-refusal), c .loop-test .taken)
 
 mark-burst-requires : tie.Need-mark-burst-requires Inv-loop μ-loop
 mark-burst-requires c κs =
     let loop = c .before .before in
     let accepted = loop .before .before .before .pre in
-    (loop .before .loop .inv .1 .long, rw (c .burst-at .ensures) (omega (arith, inside-ends _ _ _ (list-yes _ _ _ (accepted .no-refusal) .1 (loop .before .loop .i) (loop .loop-test .taken) .inside), accepted .at-most-192)))
+    (loop .before .loop .inv .1 .long, rw (c .burst-at .ensures) (omega (arith, inside _ _ _ (list-yes _ _ _ (accepted .no-refusal) .1 (loop .before .loop .i) (loop .loop-test .taken) .inside), accepted .at-most-192)))
 
 loop-again : tie.Need-loop-again Inv-loop μ-loop
 loop-again c =
@@ -42,11 +34,9 @@ loop-again c =
     let accepted = loop .before .before .before .pre in
     (omega (arith, loop .loop-test .taken), row-next _ _ (loop .before .loop .inv .1) (list-yes _ _ _ (accepted .no-refusal) .1 _ (loop .loop-test .taken)) (rw (c .before .burst-at .ensures) at (c .mark-burst .ensures)))
 
-returns : tie.Need-returns Inv-loop μ-loop
-returns c = row-all _ _ (c .before .loop .inv .1) (omega (arith, c .before .loop .inv .0, c .loop-test .left))
-
 pub marked-row-spec : {M : Type 1} → statement M
 marked-row-spec =
     tie.close
     (tie.spec
-    Inv-loop μ-loop loop-holds burst-at-requires cast-mark-burst mark-burst-requires (λ c. search needs) (λ c. search needs) loop-again returns)
+    Inv-loop μ-loop loop-holds (λ c κs. (few (c .before), omega (arith, c .before .loop-test .taken))) (λ c. omega (arith, few (c .before .before))) mark-burst-requires (λ c. search needs) (λ c. search needs) loop-again
+    (λ c. row-all _ _ (c .before .loop .inv .1) (omega (arith, c .before .loop .inv .0, c .loop-test .left))))

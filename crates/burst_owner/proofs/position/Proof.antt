@@ -16,9 +16,6 @@ Inv-loop bursts slot subchannel count i₀ i = None (λ k. isCovering (burstAt b
 abbrev μ-loop : tie.MeasureT-loop
 μ-loop bursts slot subchannel count i₀ i = count - i
 
-loop-holds : tie.Need-loop-holds Inv-loop μ-loop
-loop-holds c = below-none _
-
 asked : (c : tie.After-is-covering Inv-loop μ-loop) → let a = c .before .before .before .before .before .args in
     c .is-covering .result ≡ isCovering (burstAt (a .bursts .now) (c .before .before .before .loop .i)) (a .slot) (a .subchannel)
 asked c = let a = c .before .before .before .before .before .args in c .is-covering .ensures ∙ ap (λ (b : Burst). isCovering b (a .slot) (a .subchannel)) (c .before .burst-at .ensures)
@@ -33,11 +30,9 @@ loop-again c =
     let loop = c .before .before .before in
     none-more _ _ (loop .before .loop .inv) (sym (asked (c .before)) ∙ c .if1 .left)
 
-returns-2 : tie.Need-returns-2 Inv-loop μ-loop
-returns-2 c = sym (first-none _ _ (λ k h. c .before .loop .inv k (omega (arith, c .loop-test .left))))
-
 pub position-spec : {M : Type 1} → statement M
 position-spec =
     tie.close
     (tie.spec
-    Inv-loop μ-loop loop-holds (λ c κs. search needs) (λ c κs. search needs) returns (λ c. search needs) (λ c. search needs) loop-again returns-2)
+    Inv-loop μ-loop (λ c. below-none _) (λ c κs. search needs) (λ c κs. search needs) returns (λ c. search needs) (λ c. search needs) loop-again
+    (λ c. sym (first-none _ _ (λ k h. c .before .loop .inv k (omega (arith, c .loop-test .left))))))
