@@ -29,23 +29,6 @@ module _ {A : Type 0} (n : ℕ) (rest : Answer A) where
   pub no-first : (n ≡ 0 → ⊥) → numbered n rest ≡ refused n
   no-first h = rw (ne-eqb n 0 h)
 
--- THE LAW OF A CHAIN, link by link from its end: before any answer it is the refusal of the number that it comes to by itself, or that answer.
-pub record Numbered {A : Type 0} (chain rest : Answer A) (alone : Answer (Unit {0})) : Type 0 where
-  pub is : chain ≡ numbered (refusalOf alone) rest
-
-pub no-question : {A : Type 0} {rest : Answer A} → Numbered rest rest (accepted tt)
-no-question = record { is = refl }
-
-pub question : {A : Type 0} (b : Bool) (k : ℕ) {chain rest : Answer A} {alone : Answer (Unit {0})} → Numbered chain rest alone
-    → Numbered (ask b (suc k) chain) rest (ask b (suc k) alone)
-question true k e = e
-question false k e = record { is = rw (ne-eqb (suc k) 0 (λ z. omega arith)) }
-
--- its number is 0 only where each question is answered yes
-pub number-yes : {A : Type 0} (b : Bool) (k : ℕ) (rest : Answer A) → refusalOf (ask b (suc k) rest) ≡ 0 → (b ≡ true) × (refusalOf rest ≡ 0)
-number-yes true k rest e = (refl, e)
-number-yes false k rest e = absurd (omega arith)
-
 -- the number of a chain before an accepted answer is the chain's own
 pub number-is : {A : Type 0} (n : ℕ) (a : A) → refusalOf (numbered n (accepted a)) ≡ n
 number-is n a = cases (eqb n 0) (λ e. rw e (sym (eqb-true n 0 e))) (λ e. rw e)

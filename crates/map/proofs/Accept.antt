@@ -7,15 +7,15 @@ use native.Mathlib.Nat.{mul-pos}
 use native.Mathlib.Omega.{arith}
 use lib.Dec.{eqb, ltb, lit<}
 use borrow.Author.Tests.{ltb-true, eqb-true, ne-eqb, lt-ltb, le-ltb}
-use Rattle.base.specs.Answer.{Answer, accepted, refused, ask, refusalOf}
+use Rattle.base.specs.Answer.{Answer, accepted, ask, refusalOf}
 use Rattle.base.proofs.Test.{cases}
-use Rattle.base.proofs.Chain.{numbered, Questions, AllYes, all-numbered, all-yes}
+use Rattle.base.proofs.Chain.{Questions, AllYes, all-yes}
 use Rattle.ofusc.specs.Width.{Width, n4, n8, n16, n32}
 use Rattle.ofusc.proofs.Sequence.{size, pos}
 use Rattle.map.specs.Setup.{Setup, setupLent, setupWith}
 use Rattle.map.specs.Mode.{width, cells, subchannels}
 use Rattle.map.specs.Question.{isListed, isMode, isFourSizes, isSizeOf, isSize, isCell, isSlot, isSubchannel, askSetup}
-use Rattle.map.specs.Model.{setupRefusal, IsAmc, Valid, pusc-dl, pusc-ul, ofusc, amc}
+use Rattle.map.specs.Model.{IsAmc, Valid, pusc-dl, pusc-ul, ofusc, amc}
 use Rattle.map.proofs.Choice.{amc-tests, mode-amc}
 
 -- N of a size
@@ -102,10 +102,6 @@ passes (amc {mode = m} q w h) =
 abbrev pub setupQuestions : (c : Setup) → Questions
 setupQuestions c = (isMode c, 1) ∷ (isSize c, 2) ∷ (isCell c, 3) ∷ []
 
-pub setup-numbered : {A : Type 0} (c : Setup) (rest : Answer A) → askSetup c rest ≡ numbered (setupRefusal c) rest
-unfolding setupRefusal
-setup-numbered c = all-numbered (setupQuestions c) tt
-
 pub setup-yes : {c : Setup} → Valid c → AllYes (setupQuestions c)
 setup-yes {c} v = all-yes (setupQuestions c) tt (ap refusalOf (passes {rest = accepted tt} v))
 
@@ -127,17 +123,9 @@ size-most c h =
 
 -- 4 and 5, before whatever follows them
 module _ {A : Type 0} (rest : Answer A) where
-  pub slot-no : (slot : ℕ) → 512 ≤ slot → ask (isSlot slot) 4 rest ≡ refused 4
-  unfolding isSlot
-  slot-no slot h = rw (le-ltb slot 512 h)
-
   pub slot-yes : (slot : ℕ) → slot < 512 → ask (isSlot slot) 4 rest ≡ rest
   unfolding isSlot
   slot-yes slot h = rw (lt-ltb slot 512 h)
-
-  pub subchannel-no : (setup : Setup) (s : ℕ) → subchannels setup ≤ s → ask (isSubchannel setup s) 5 rest ≡ refused 5
-  unfolding isSubchannel
-  subchannel-no setup s h = rw (le-ltb s (subchannels setup) h)
 
   pub subchannel-yes : (setup : Setup) (s : ℕ) → s < subchannels setup → ask (isSubchannel setup s) 5 rest ≡ rest
   unfolding isSubchannel

@@ -4,7 +4,7 @@ use mathlib.Core.List.{[], _∷_, _++_}
 use Prim.Native.Nat.{ℕ}
 use borrow.Author.Tests.{ne-eqb}
 use Rattle.base.specs.Answer.{Answer, accepted, refused, ask, refusalOf}
-use Rattle.base.proofs.Chain.{numbered, Questions, all-numbered, is-refused, has-passed}
+use Rattle.base.proofs.Chain.{Questions, is-refused, has-passed}
 use Rattle.map.specs.Question.{isMode, isSize, isCell, askSetup}
 use Rattle.mask.specs.Mask.{isMask}
 use Rattle.zone.specs.declared.Zone.{Zone}
@@ -16,10 +16,6 @@ use Rattle.zone.specs.Model.{zoneRefusal}
 module _ (size : ℕ) (z : Zone) where
   abbrev pub fieldQuestions : Questions
   fieldQuestions = (isZoneMode (z .mode), 1) ∷ (isSize (setupOf size z), 2) ∷ (isCell (setupOf size z), 3) ∷ (isSlots (z .slots), 13) ∷ (isMask (z .mode) (z .mask), 17) ∷ []
-
-  pub fields-numbered : {A : Type 0} (rest : Answer A) → askFields size z rest ≡ numbered (fieldsRefusal size z) rest
-  unfolding fieldsRefusal
-  fields-numbered = all-numbered fieldQuestions tt
 
   pub fields-uplink : z .mode ≡ 1 → 1 ≡ fieldsRefusal size z
   unfolding fieldsRefusal isZoneMode
