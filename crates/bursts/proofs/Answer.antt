@@ -38,19 +38,6 @@ module _ (size : ℕ) (zone : Zone) where
   pub list-asks : {n s : ℕ} → n ≡ fieldsRefusal size zone → n ≡ 0 → s ≡ subchannels (setupOf size zone) → (s < 65536) × (zone .slots < 65536)
   list-asks e z q = let limits = zone-limits (sym e ∙ z) in (omega arith, omega arith)
 
-  -- the zone's own questions as a list, and by their number
-  abbrev pub fieldQuestions : Questions
-  fieldQuestions = (isZoneMode (zone .mode), 1) ∷ (isSize (setupOf size zone), 2) ∷ (isCell (setupOf size zone), 3) ∷ (isSlots (zone .slots), 13) ∷ (isMask (zone .mode) (zone .mask), 17) ∷ []
-
-  module _ (k : ℕ) (e : k ≡ fieldsRefusal size zone) (rest : Answer (Unit {0})) where
-    pub zone-no : (k ≡ 0 → ⊥) → refused k ≡ askFields size zone rest
-    unfolding fieldsRefusal
-    zone-no ne = is-refused fieldQuestions tt rest k e ne
-
-    pub zone-then : k ≡ 0 → (a : Answer (Unit {0})) → a ≡ rest → a ≡ askFields size zone rest
-    unfolding fieldsRefusal
-    zone-then z a f = f ∙ has-passed fieldQuestions tt rest k e z
-
   -- those of the list, by the subchannels that a function counted
   module _ (numbers : List ℕ) (s : ℕ) (q : s ≡ subchannels (setupOf size zone)) (k : ℕ) (e : k ≡ listRefusal s (zone .slots) numbers) (rest : Answer (Unit {0})) where
     pub bursts-no : (k ≡ 0 → ⊥) → refused k ≡ askBursts size zone numbers rest

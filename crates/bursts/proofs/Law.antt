@@ -31,7 +31,8 @@ use Rattle.bursts.specs.declared.OwnerRow.{OwnerRow}
 use Rattle.bursts.specs.Burst.{askBursts, checkOf}
 use Rattle.bursts.specs.Owner.{askOwner, owned, ownerOf, rowAt, askOwners, ownerRow, ownersOf}
 use Rattle.bursts.specs.Law.{Covers, masked, Masks, FirstFit, Fit, Overlapping, BurstLaw}
-use Rattle.bursts.proofs.Answer.{zone-limits, fieldQuestions, zone-no, zone-then}
+use Rattle.zone.proofs.Number.{fieldQuestions, fields-no, fields-then}
+use Rattle.bursts.proofs.Answer.{zone-limits}
 
 -- the outcomes by their answer
 owned-by : (owner looked : ℕ) (answer : Answer (Unit {0})) → let r = owned owner looked answer in (r .refusal ≡ refusalOf answer) × ((refusalOf answer ≡ 0 → ⊥) → (r .owner ≡ noOwner) × (r .looked ≡ 0))
@@ -56,11 +57,11 @@ module _ (size : ℕ) (zone : Zone) (numbers : List ℕ) where
   -- The check: the list's number, where the zone's is 0.
   check-is : fieldsRefusal size zone ≡ 0 → list ≡ checkOf size zone numbers
   unfolding checkOf listRefusal
-  check-is z = ap refusalOf (zone-then size zone _ refl _ z _ refl)
+  check-is z = ap refusalOf (fields-then size zone _ refl _ z _ refl)
 
   zone-first : (fieldsRefusal size zone ≡ 0 → ⊥) → checkOf size zone numbers ≡ fieldsRefusal size zone
   unfolding checkOf
-  zone-first n = sym (ap refusalOf (zone-no size zone _ refl _ n))
+  zone-first n = sym (ap refusalOf (fields-no size zone _ refl _ n))
 
   check-yes : checkOf size zone numbers ≡ 0 → (fieldsRefusal size zone ≡ 0) × (list ≡ 0)
   unfolding checkOf fieldsRefusal listRefusal
@@ -177,7 +178,7 @@ module _ (size : ℕ) (zone : Zone) (numbers : List ℕ) where
 
       owner-is : Answered → s < end → outcome ≡ record { refusal = 0; owner = ownerAt numbers slot s; looked = lookedAt numbers slot s }
       unfolding ownerOf isSlot isSubchannel
-      owner-is a k = sym (ap (owned (ownerAt numbers slot s) (lookedAt numbers slot s)) (zone-then size zone _ refl _ (a .zone-passed) (accepted tt) (rw (lt-ltb slot 512 (a .slot-lt), lt-ltb s end k) (list-passes a))))
+      owner-is a k = sym (ap (owned (ownerAt numbers slot s) (lookedAt numbers slot s)) (fields-then size zone _ refl _ (a .zone-passed) (accepted tt) (rw (lt-ltb slot 512 (a .slot-lt), lt-ltb s end k) (list-passes a))))
 
       owner-yes : outcome .refusal ≡ 0 → Answered × (outcome ≡ record { refusal = 0; owner = ownerAt numbers slot s; looked = lookedAt numbers slot s })
       unfolding fieldsRefusal listRefusal isSlot isSubchannel
@@ -241,7 +242,7 @@ module _ (size : ℕ) (zone : Zone) (numbers : List ℕ) where
 
     row-is : Answered → rows ≡ record { refusal = 0; owners = tabulate 192 (rowAt size zone slot numbers) }
     unfolding ownersOf isSlot
-    row-is a = sym (ap (ownerRow (rowAt size zone slot numbers)) (zone-then size zone _ refl _ (a .zone-passed) (accepted tt) (rw (lt-ltb slot 512 (a .slot-lt)) (list-passes a))))
+    row-is a = sym (ap (ownerRow (rowAt size zone slot numbers)) (fields-then size zone _ refl _ (a .zone-passed) (accepted tt) (rw (lt-ltb slot 512 (a .slot-lt)) (list-passes a))))
 
     row-yes : rows .refusal ≡ 0 → Answered
     unfolding fieldsRefusal listRefusal isSlot

@@ -99,10 +99,6 @@ passes (amc q w h) = simp amc-column (rw (lt-ltb _ 7 (q .1), size-passes w, lt-l
 abbrev pub setupQuestions : (c : Setup) → Questions
 setupQuestions c = (isMode c, 1) ∷ (isSize c, 2) ∷ (isCell c, 3) ∷ []
 
-pub setup-numbered : {A : Type 0} (c : Setup) (rest : Answer A) → askSetup c rest ≡ numbered (setupRefusal c) rest
-unfolding setupRefusal
-setup-numbered c = all-numbered (setupQuestions c) tt
-
 pub setup-yes : {c : Setup} → Valid c → AllYes (setupQuestions c)
 setup-yes {c} v = all-yes (setupQuestions c) tt (ap refusalOf (passes {rest = accepted tt} v))
 
@@ -128,17 +124,9 @@ size-most c e =
 
 -- 4 and 5, before whatever follows them
 module _ {A : Type 0} (rest : Answer A) where
-  pub slot-no : (slot : ℕ) → 512 ≤ slot → ask (isSlot slot) 4 rest ≡ refused 4
-  unfolding isSlot
-  slot-no slot h = rw (le-ltb slot 512 h)
-
   pub slot-yes : (slot : ℕ) → slot < 512 → ask (isSlot slot) 4 rest ≡ rest
   unfolding isSlot
   slot-yes slot h = rw (lt-ltb slot 512 h)
-
-  pub subchannel-no : (setup : Setup) (s : ℕ) → subchannels setup ≤ s → ask (isSubchannel setup s) 5 rest ≡ refused 5
-  unfolding isSubchannel
-  subchannel-no setup s h = rw (le-ltb s (subchannels setup) h)
 
   pub subchannel-yes : (setup : Setup) (s : ℕ) → s < subchannels setup → ask (isSubchannel setup s) 5 rest ≡ rest
   unfolding isSubchannel

@@ -4,7 +4,7 @@ use mathlib.Core.List.{[], _∷_, _++_}
 use Prim.Native.Nat.{ℕ}
 use borrow.Author.Tests.{ne-eqb}
 use Rattle.base.specs.Answer.{Answer, accepted, refused, ask, refusalOf}
-use Rattle.base.proofs.Chain.{numbered, Questions, all-numbered, is-refused, has-passed}
+use Rattle.base.proofs.Chain.{Questions, is-refused, has-passed}
 use Rattle.map.specs.Question.{isMode, isSize, isCell, askSetup}
 use Rattle.mask.specs.Mask.{isMask}
 use Rattle.zone.specs.declared.Zone.{Zone}

@@ -4,7 +4,8 @@ use borrow.Author.Needs.{needs}
 use Rattle.base.specs.Answer.{refusalOf}
 use Rattle.burst_list.specs.Model.{listRefusal}
 use Rattle.bursts.specs.Burst.{checkOf}
-use Rattle.bursts.proofs.Answer.{list-asks, zone-no, zone-then}
+use Rattle.zone.proofs.Number.{fields-no, fields-then}
+use Rattle.bursts.proofs.Answer.{list-asks}
 use Rattle.bursts.proofs.check.Statement.{statement}
 use Rattle.bursts.proofs.check.Tie as tie
 
@@ -13,7 +14,7 @@ unfolding checkOf listRefusal
 check-spec =
     tie.close
     (tie.spec
-    (λ c κs. search needs) (λ c. ap refusalOf (zone-no _ _ _ (c .before .fields-refusal .ensures) _ (c .if1 .taken))) (λ c κs. search needs)
+    (λ c κs. search needs) (λ c. ap refusalOf (fields-no _ _ _ (c .before .fields-refusal .ensures) _ (c .if1 .taken))) (λ c κs. search needs)
     (λ c κs. list-asks _ _ (c .before .before .fields-refusal .ensures) (c .before .if1 .left) (c .subchannels .ensures))
     (λ c. let zone = c .before .before in
-    rw (c .before .subchannels .ensures) at (c .list-refusal .ensures) ∙ ap refusalOf (zone-then _ _ _ (zone .before .fields-refusal .ensures) _ (zone .if1 .left) _ refl)))
+    rw (c .before .subchannels .ensures) at (c .list-refusal .ensures) ∙ ap refusalOf (fields-then _ _ _ (zone .before .fields-refusal .ensures) _ (zone .if1 .left) _ refl)))

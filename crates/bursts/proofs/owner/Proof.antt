@@ -5,7 +5,8 @@ use Rattle.base.proofs.Chain.{by-answer}
 use Rattle.map.specs.Question.{isSlot, isSubchannel}
 use Rattle.burst_list.proofs.Each.{list-most}
 use Rattle.bursts.specs.Owner.{ownerOf}
-use Rattle.bursts.proofs.Answer.{list-asks, zone-no, zone-then, bursts-no, bursts-then, owned-no, owned-yes}
+use Rattle.zone.proofs.Number.{fields-no, fields-then}
+use Rattle.bursts.proofs.Answer.{list-asks, bursts-no, bursts-then, owned-no, owned-yes}
 use Rattle.bursts.proofs.owner.Statement.{statement}
 use Rattle.bursts.proofs.owner.Tie as tie
 
@@ -18,8 +19,8 @@ unfolding ownerOf isSlot isSubchannel
 owner-spec =
     tie.close
     (tie.spec
-    (λ c κs. search needs) (λ c κs. search needs) (λ c. search (owned-no, zone-no, needs))
-    (λ c κs. search needs) (λ c. search (owned-no, zone-then, by-answer, needs))
-    (λ c κs. search needs) (λ c κs. search needs) (λ c. search (owned-no, zone-then, by-answer, needs))
-    (λ c κs. let zone = c .before .before .before in list-asks _ _ (zone .before .fields-refusal .ensures) (zone .if1 .left) (c .before .subchannels .ensures)) (λ c κs. search needs) (λ c. let h = inside (c .before .before .before) in search (owned-no, zone-then, bursts-no, by-answer, needs))
-    (λ c κs. search (list-most, needs)) (λ c. search (owned-yes, zone-then, bursts-then, by-answer, needs)))
+    (λ c κs. search needs) (λ c κs. search needs) (λ c. search (owned-no, fields-no, needs))
+    (λ c κs. search needs) (λ c. search (owned-no, fields-then, by-answer, needs))
+    (λ c κs. search needs) (λ c κs. search needs) (λ c. search (owned-no, fields-then, by-answer, needs))
+    (λ c κs. let zone = c .before .before .before in list-asks _ _ (zone .before .fields-refusal .ensures) (zone .if1 .left) (c .before .subchannels .ensures)) (λ c κs. search needs) (λ c. let h = inside (c .before .before .before) in search (owned-no, fields-then, bursts-no, by-answer, needs))
+    (λ c κs. search (list-most, needs)) (λ c. search (owned-yes, fields-then, bursts-then, by-answer, needs)))
