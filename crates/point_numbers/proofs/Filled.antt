@@ -12,6 +12,7 @@ use borrow.Author.Tests.{eqb-true, eqb-false}
 use Rattle.base.specs.Steps.{entry}
 use Rattle.base.specs.Model.{Starts}
 use Rattle.base.proofs.Test.{cases}
+use Rattle.base.proofs.Tabulate.{WrittenOver}
 use Rattle.ofusc.proofs.Sequence.{size}
 use Rattle.map.specs.Setup.{Setup}
 use Rattle.map.specs.Mode.{width}
@@ -24,32 +25,15 @@ use Rattle.runs.specs.Model.{runStep, runCount, tileRuns, runFirst, runSecond, 
 use Rattle.point_numbers.specs.Model.{runNumber, runStride, pointStride, NumbersBelow, RowNumbers, RunPut}
 use Rattle.runs.proofs.Law.{run-law, bin-runs, bin-apart, runs-bins, one-point, two-points, cluster-apart, few-points}
 
--- what holds before each turn of the loop that puts a run: the first j are put
-pub record PutTurn (before own : List ℕ) (from : ℕ) (after : List ℕ) (j : ℕ) : Type 0 where
-  pub within : j ≤ 12
-  pub long : length after ≡ length before
-  pub kept : (k : ℕ) → k < from → entry after k ≡ entry before k
-  pub put : (k : ℕ) → k < j → entry after (from + k) ≡ entry own k
-
-pub put-none : (before own : List ℕ) (from : ℕ) → PutTurn before own from before 0
-put-none before own from = record { within = omega arith; long = refl; kept = λ k h. refl; put = λ k h. absurd (omega arith) }
-
-module _ {before own : List ℕ} {from : ℕ} {after : List ℕ} {j : ℕ} (t : PutTurn before own from after j) where
-  pub put-next : j < 12 → length before ≡ 1680 → from + 12 ≤ 1680 → (x : ℕ) → x ≡ entry own j → PutTurn before own from (set after (from + j) x) (j + 1)
-  put-next h long room x e =
-      record {
-        within = omega arith;
-        long = length-set after (from + j) x ∙ t .long;
-        kept = λ k l. getD-set-other after (from + j) k x 0 (λ z. omega arith) ∙ t .kept k l;
-        put = λ k l.
-            cases (eqb k j)
-            (λ q. let z = eqb-true k j q in
-            rw z (getD-set-same after (from + j) x 0 (omega (arith, t .long)) ∙ e))
-            (λ q. let z = eqb-false k j q in getD-set-other after (from + j) (from + k) x 0 (λ w. omega arith) ∙ t .put k (omega arith));
-      }
-
-  pub put-all : 12 ≤ j → RunPut before own from after
-  put-all h = record { long = t .long; kept = t .kept; put = λ k l. t .put k (omega arith) }
+-- a run that the loop has put
+pub put-all : {before own : List ℕ} (from : ℕ) {after : List ℕ} {j : ℕ} → WrittenOver 0 1680 12 (λ k. from + k) (entry own) before after j → 12 ≤ j → length before ≡ 1680
+    → RunPut before own from after
+put-all from w h e =
+    record {
+      long = w .written .long ∙ sym e;
+      kept = λ k l. w .others k (λ i i-lt q. omega arith);
+      put = λ k l. w .written .entries k (omega arith);
+    }
 
 -- in modes whose table has run after run: the table has room for all runs, a run for its points, and these stand side by side
 pub record ByRun (c : Setup) (y : ℕ) : Type 0 where

@@ -35,9 +35,9 @@ use Rattle.runs.specs.declared.Runs.{Runs}
 use Rattle.runs.specs.Model.{runStep, runCount, tileRuns, runFirst, runSecond, runsOf, runPlace, runPoints}
 use Rattle.point_numbers.specs.Model.{numberAt, runNumber, runStride, pointStride, RowNumbers, runEntries, runEntry, RunTable, placeEntries, placeEntry, PlaceTable}
 use Rattle.runs.proofs.Law.{bin-runs, bin-apart, runs-bins, two-points, one-point, all-points, cluster-apart}
-use Rattle.clusters.specs.Model as dl
+use Rattle.pusc_dl_points.specs.Model as dl
 use Rattle.pusc_ul.specs.Tile.{tileSubchannel}
-use Rattle.pusc_ul.specs.Model as ul
+use Rattle.pusc_ul_rows.specs.Model as ul
 use Rattle.pusc_ul.specs.Map as ul-map
 use Rattle.ofusc_rows.specs.Model as spread
 use Rattle.ofusc.specs.Map as spread-map

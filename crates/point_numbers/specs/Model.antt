@@ -11,7 +11,7 @@ use Rattle.map.specs.Setup.{Setup}
 use Rattle.map.specs.Mode.{byMode, width, addressOf}
 use Rattle.mask.specs.Mask.{isUsedLit, litRank}
 use Rattle.runs.specs.Model.{runStep, runCount, runsOf, runPlace, runPoints}
-use Rattle.clusters.specs.Model as pusc-dl
+use Rattle.pusc_dl_points.specs.Model as pusc-dl
 use Rattle.ofusc_rows.specs.Model as ofusc
 use Rattle.amc.specs.Map as amc-map
 

@@ -1,24 +1,29 @@
 -- `point_numbers::put_run` meets its contract.
 use mathlib.Core.Path.{refl}
-use Prim.Native.Nat.{_-_}
+use Prim.Native.Nat.{_+_, _-_}
+use native.Mathlib.Omega.{arith}
 use borrow.Author.Needs.{needs}
-use Rattle.point_numbers.proofs.Filled.{PutTurn, put-none, put-next, put-all}
+use Rattle.base.specs.Steps.{entry}
+use Rattle.base.proofs.Tabulate.{WrittenOver, over-none, over-next}
+use Rattle.point_numbers.proofs.Filled.{put-all}
 use Rattle.point_numbers.proofs.put_run.Statement.{statement}
 use Rattle.point_numbers.proofs.put_run.Tie as tie
 
 abbrev Inv-loop : tie.InvT-loop
-Inv-loop numbers₀ from own j₀ numbers j = PutTurn numbers₀ own from numbers j
+Inv-loop numbers₀ from own j₀ numbers j = WrittenOver 0 1680 12 (λ k. from + k) (entry own) numbers₀ numbers j
 
 abbrev μ-loop : tie.MeasureT-loop
 μ-loop numbers₀ from own j₀ numbers j = 12 - j
 
 loop-again : tie.Need-loop-again Inv-loop μ-loop
-loop-again c = put-next (c .before .before .loop .inv) (c .before .loop-test .taken) (c .before .before .before .pre .1) (c .before .before .before .pre .0) _ refl
+loop-again c =
+    let start = c .before .before .before in
+    over-next (c .before .before .loop .inv) (c .before .loop-test .taken) (omega (arith, start .pre .0, c .before .loop-test .taken)) (λ k l q. omega arith) _ refl
 
 pub put-run-spec : {M : Type 1} → statement M
 put-run-spec =
     tie.close
     (tie.spec
-    Inv-loop μ-loop (λ c. put-none _ _ _) (λ c. search needs) (λ c. search needs) (λ c. search needs) (λ c. search needs)
+    Inv-loop μ-loop (λ c. over-none (c .pre .1)) (λ c. search needs) (λ c. search needs) (λ c. search needs) (λ c. search needs)
     (λ c. search needs) (λ c. search needs) (λ c. search needs) loop-again
-    (λ c. put-all (c .before .loop .inv) (c .loop-test .left)))
+    (λ c. put-all _ (c .before .loop .inv) (c .loop-test .left) (c .before .before .pre .1)))
