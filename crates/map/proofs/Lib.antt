@@ -1,6 +1,5 @@
 -- Laws of the map.
 pub mod Choice
-pub mod Before
 pub mod Accept
 pub mod ByMode
 pub mod Slot
