@@ -5,12 +5,10 @@ use native.Mathlib.Nat.{pos-of-ne-zero, mod-lt, mul-assoc, mul-comm, div-add-mod
 use native.Mathlib.Omega.{arith}
 use lib.Arith.{digits-div, digits-mod, digits-lt}
 use lib.Dec.{lit<}
-use Rattle.base.specs.Steps.{entry}
 use Rattle.base.proofs.Perm.{rotation}
 use Rattle.carriers.specs.declared.DataNumber.{DataNumber}
 use Rattle.carriers.specs.Law.{NumberLaw}
 use Rattle.amc.specs.declared.Shape.{Shape}
-use Rattle.amc.specs.Table.{positions}
 use Rattle.amc.specs.Element.{Element, baseSeven, twoDigits, add, subtract, sequence}
 use Rattle.amc.specs.Map.{off, sumOf, elementOf, traffic, indexOf, trafficNumber, dataNumber, addressOf}
 use Rattle.amc.specs.Model.{IsShape}

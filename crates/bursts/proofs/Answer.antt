@@ -1,6 +1,6 @@
 -- The answers of the three calls, by what their questions come to.
 use mathlib.Core.Path.{_≡_, sym, ap, _∙_}
-use mathlib.Core.List.{List, [], _∷_}
+use mathlib.Core.List.{List, []}
 use Prim.Native.Nat.{ℕ, _<_, _≤_}
 use native.Mathlib.Omega.{arith}
 use lib.Dec.{ltb}
@@ -9,13 +9,11 @@ use Rattle.base.specs.Answer.{Answer, accepted, refused}
 use Rattle.base.specs.Tabulate.{tabulate}
 use Rattle.base.proofs.Test.{cases}
 use Rattle.base.proofs.Tabulate.{getD-tabulate, tabulated, length-tabulate}
-use Rattle.base.proofs.Chain.{Questions, is-refused, has-passed}
 use Rattle.map.specs.Mode.{subchannels}
-use Rattle.map.specs.Question.{isSize, isCell, isSubchannel}
+use Rattle.map.specs.Question.{isSubchannel}
 use Rattle.map.proofs.ByMode.{few}
-use Rattle.mask.specs.Mask.{isMask}
 use Rattle.zone.specs.declared.Zone.{Zone}
-use Rattle.zone.specs.Zone.{isZoneMode, setupOf, isSlots, askFields, fieldsRefusal}
+use Rattle.zone.specs.Zone.{setupOf, fieldsRefusal}
 use Rattle.zone.proofs.Judge.{fields-valid, fields-slots}
 use Rattle.burst.specs.Burst.{burstAt, isCovering}
 use Rattle.burst.proofs.Cover.{inside-covers}

@@ -8,7 +8,6 @@ use lib.Arith.{digits-mod}
 use lib.Dec.{eqb}
 use borrow.Author.Tests.{ne-eqb}
 use Rattle.base.specs.Steps.{skip, entry}
-use Rattle.base.specs.Rank.{rank}
 use Rattle.base.specs.Model.{Starts}
 use Rattle.base.proofs.Test.{cases}
 use Rattle.base.proofs.Tabulate.{starts-as}
@@ -26,7 +25,7 @@ use Rattle.map.specs.Setup.{Setup, setupLent}
 use Rattle.map.specs.Mode.{shapeOf, width, symbols, addressOf}
 use Rattle.map.specs.Model.{OverBins, IsAmc, Valid, pusc-dl, pusc-ul, ofusc, amc}
 use Rattle.map.proofs.Choice.{amc-shape, at-0, at-1, at-2, at-amc, at-bins, by-mode}
-use Rattle.map.proofs.ByMode.{listed-mode, shape-symbols, in-pusc-ul, bin-width}
+use Rattle.map.proofs.ByMode.{shape-symbols, in-pusc-ul, bin-width}
 use Rattle.mask.specs.Mask.{isLit, isUsedLit}
 use Rattle.clusters.specs.Cluster.{firstPilot, secondPilot, clusterPlace}
 use Rattle.pusc_dl_lit.specs.Lit.{hasGroup}
