@@ -1,14 +1,8 @@
 -- What specs/Law.antt claims of AMC holds.
-use mathlib.Core.Path.{_≡_, refl, sym, ap, _∙_}
-use Prim.Native.Nat.{ℕ, _*_, _<_}
-use Rattle.carriers.specs.declared.DataNumber.{DataNumber}
-use Rattle.carriers.specs.declared.Address.{Address}
-use Rattle.amc.specs.declared.Shape.{Shape}
-use Rattle.amc.specs.Map.{addressOf}
-use Rattle.amc.specs.Law.{OnePoint, AmcLaw}
-use Rattle.amc.specs.Model.{IsShape}
-use Rattle.amc.proofs.Tables.{printed-list}
-use Rattle.amc.proofs.Law.{law}
+use Rattle.base.proofs.Prelude.{_≡_, refl, sym, ap, _∙_, ℕ, _*_, _<_}
+use Rattle.carriers.specs.{declared.DataNumber.DataNumber, declared.Address.Address}
+use Rattle.amc.specs.{declared.Shape.Shape, Map.addressOf, Law.{OnePoint, AmcLaw}, Model.IsShape}
+use Rattle.amc.proofs.{Tables.printed-list, Law.law}
 
 point-there : (shape : Shape) → IsShape shape → (n cell : ℕ) → cell < 2352 → (o d : ℕ) → o < shape .symbols → d < 48 * n → OnePoint shape n cell o d
 point-there shape six n cell range o d ho hd =

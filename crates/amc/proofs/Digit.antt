@@ -1,9 +1,5 @@
 -- Elements with digits below 7: their numbers in base seven, and addition, which is a rotation of each digit.
-use mathlib.Core.Path.{_≡_, sym, ap, _∙_}
-use Prim.Native.Nat.{ℕ, _+_, _/_, _%_, _<_}
-use native.Mathlib.Omega.{arith}
-use lib.Dec.{lit<}
-use Rattle.base.proofs.Perm.{rotation}
+use Rattle.base.proofs.{Prelude.{_≡_, sym, ap, _∙_, ℕ, _+_, _/_, _%_, _<_, arith, lit<}, Perm.rotation}
 use Rattle.amc.specs.Element.{Element, element, baseSeven, twoDigits, add, subtract}
 
 -- both digits are 0..6

@@ -1,20 +1,14 @@
 -- AMC numbers the data carriers of a slot one for one: index j and v are a rotation, the sequence P, a sum and the zero rule apart, and v and the data place are digits.
-use mathlib.Core.Path.{_≡_, ap, _∙_}
-use Prim.Native.Nat.{ℕ, _+_, _-_, _*_, _/_, _%_, _<_}
-use native.Mathlib.Nat.{pos-of-ne-zero, mod-lt, mul-assoc, mul-comm, div-add-mod', div-lt-iff-lt-mul}
-use native.Mathlib.Omega.{arith}
-use lib.Arith.{digits-div, digits-mod, digits-lt}
-use lib.Dec.{lit<}
+use Rattle.base.proofs.Prelude.{_≡_, ap, _∙_, ℕ, _+_, _-_, _*_, _/_, _%_, _<_, mod-lt, div-add-mod', div-lt-iff-lt-mul, arith, digits-div, digits-mod}
+use Rattle.base.proofs.Prelude.{digits-lt, lit<}
 use Rattle.base.proofs.Perm.{rotation}
-use Rattle.carriers.specs.declared.DataNumber.{DataNumber}
-use Rattle.carriers.specs.Law.{NumberLaw}
-use Rattle.amc.specs.declared.Shape.{Shape}
-use Rattle.amc.specs.Element.{Element, baseSeven, twoDigits, add, subtract, sequence}
-use Rattle.amc.specs.Map.{off, sumOf, elementOf, traffic, indexOf, trafficNumber, dataNumber, addressOf}
-use Rattle.amc.specs.Model.{IsShape}
-use Rattle.amc.proofs.Digit.{Proper, number-lt, digits-proper, digits-number, add-proper, subtract-proper, subtract-add, add-subtract, added-differs, subtracted-differs}
-use Rattle.amc.proofs.Tables.{powers, position-lt, at-position}
-use Rattle.amc.proofs.Parts.{bins-pos, symbols-six, rest-six}
+use native.Mathlib.Nat.{pos-of-ne-zero, mul-assoc, mul-comm}
+use Rattle.carriers.specs.{declared.DataNumber.DataNumber, Law.NumberLaw}
+use Rattle.amc.specs.{declared.Shape.Shape, Element.{Element, baseSeven, twoDigits, add, subtract, sequence}}
+use Rattle.amc.specs.{Map.{off, sumOf, elementOf, traffic, indexOf, trafficNumber, dataNumber, addressOf}, Model.IsShape}
+use Rattle.amc.proofs.Digit.{Proper, number-lt, digits-proper, digits-number, add-proper, subtract-proper, subtract-add, add-subtract}
+use Rattle.amc.proofs.Digit.{added-differs, subtracted-differs}
+use Rattle.amc.proofs.{Tables.{powers, position-lt, at-position}, Parts.{bins-pos, symbols-six, rest-six}}
 use Rattle.amc.proofs.ZeroRule.{sum-back, rule-nonzero, rule-proper, rule-back, sum-not-off, sum-proper}
 
 module _ (cell : ℕ) (range : cell < 2352) where

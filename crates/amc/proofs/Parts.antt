@@ -1,10 +1,7 @@
 -- A slot's shape: what follows of its two numbers from their product alone.
-use mathlib.Core.Path.{_≡_, sym, ap, _∙_}
-use Prim.Native.Nat.{ℕ, zero, suc, _-_, _*_, _/_, _%_, _<_, _≤_}
-use native.Mathlib.Nat.{mul-comm, mul-le-mul, pos-of-ne-zero, mul-div-mul-right, mod-eq-sub-div-mul, div-mul-le-self, div-le-self}
-use native.Mathlib.Omega.{arith}
-use Rattle.amc.specs.declared.Shape.{Shape}
-use Rattle.amc.specs.Model.{IsShape}
+use Rattle.base.proofs.Prelude.{_≡_, sym, ap, _∙_, ℕ, zero, suc, _-_, _*_, _/_, _%_, _<_, _≤_, mul-le-mul, arith}
+use native.Mathlib.Nat.{mul-comm, pos-of-ne-zero, mul-div-mul-right, mod-eq-sub-div-mul, div-mul-le-self, div-le-self}
+use Rattle.amc.specs.{declared.Shape.Shape, Model.IsShape}
 
 -- one of two numbers whose product is six
 part-pos : (x y : ℕ) → x * y ≡ 6 → 0 < x

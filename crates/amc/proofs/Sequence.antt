@@ -1,14 +1,9 @@
 -- v by the entries of P.
-use mathlib.Core.Path.{_≡_, refl, ap, subst}
-use Prim.Native.Nat.{ℕ, _+_, _-_, _*_, _/_, _%_, _<_}
+use Rattle.base.proofs.Prelude.{_≡_, refl, ap, subst, ℕ, _+_, _-_, _*_, _/_, _%_, _<_, arith}
 use native.Mathlib.Nat.{pos-of-ne-zero}
-use native.Mathlib.Omega.{arith}
 use Rattle.base.specs.Steps.{entry}
-use Rattle.amc.specs.Table.{sequenceDigits}
-use Rattle.amc.specs.Map.{elementOf, traffic}
-use Rattle.amc.specs.Model.{sumPlace, sequencePlace}
-use Rattle.amc.proofs.Tables.{powers}
-use Rattle.amc.proofs.Law.{traffic-lt}
+use Rattle.amc.specs.{Table.sequenceDigits, Map.{elementOf, traffic}, Model.{sumPlace, sequencePlace}}
+use Rattle.amc.proofs.{Tables.powers, Law.traffic-lt}
 
 -- index j is at place (j+per) mod 48 of P
 pub traffic-at : (cell j : ℕ) → sequencePlace cell ((j + cell % 48) % 48) ≡ traffic cell j

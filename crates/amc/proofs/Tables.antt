@@ -1,14 +1,8 @@
 -- The sequence P against its rule: document 004's list holds the powers of 22, which is computed once; they are the 48 elements other than zero, and `positions` says where each stands, by tests of the list.
-use mathlib.Core.Path.{_≡_, refl, sym, ap, _∙_}
-use Prim.Native.Nat.{ℕ, zero, suc, _*_, _+_, _-_, _/_, _%_, _<_}
-use native.Mathlib.Omega.{arith}
-use lib.Dec.{eqb, ltb, eqb→eq, ltb→lt}
-use Rattle.base.specs.Steps.{entry}
-use Rattle.base.specs.Tabulate.{tabulate}
-use Rattle.base.proofs.Table.{all-at}
+use Rattle.base.proofs.{Prelude.{_≡_, refl, sym, ap, _∙_, ℕ, zero, suc, _*_, _+_, _-_, _/_, _%_, _<_, arith, eqb, ltb, eqb→eq, ltb→lt}, Table.all-at}
 use Rattle.base.proofs.Tabulate.{entry-of}
-use Rattle.amc.specs.Table.{sequenceDigits, positions}
-use Rattle.amc.specs.Element.{Element, element, baseSeven, times, sequence}
+use Rattle.base.specs.{Steps.entry, Tabulate.tabulate}
+use Rattle.amc.specs.{Table.{sequenceDigits, positions}, Element.{Element, element, baseSeven, times, sequence}}
 use Rattle.amc.proofs.Digit.{Proper, same-number, number-lt}
 
 -- an entry as document 004 prints it, two digits

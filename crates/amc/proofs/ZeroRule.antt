@@ -1,10 +1,6 @@
 -- The zero rule is a bijection: it takes the sums other than off to the elements other than zero, and `sumOf` takes them back.
-use mathlib.Core.Path.{_≡_, refl, sym, ap, _∙_}
-use lib.Dec.{lit<, eqb}
-use borrow.Author.Tests.{eqb-true, eqb-false, eq-eqb, ne-eqb}
-use Rattle.base.proofs.Test.{cases}
-use Rattle.amc.specs.Element.{Element, element, baseSeven}
-use Rattle.amc.specs.Map.{zeroRule, sumOf}
+use Rattle.base.proofs.{Prelude.{_≡_, refl, sym, ap, _∙_, lit<, eqb, eqb-true, eqb-false, eq-eqb, ne-eqb}, Test.cases}
+use Rattle.amc.specs.{Element.{Element, element, baseSeven}, Map.{zeroRule, sumOf}}
 use Rattle.amc.proofs.Digit.{Proper, same-number, digits-proper}
 
 -- the two values of each

@@ -1,21 +1,13 @@
 -- The points of a bin: their indices stand side by side in the table of a slot.
-use mathlib.Core.Path.{_≡_, sym, ap, _∙_, subst}
-use mathlib.Core.List.{List}
-use Prim.Native.Nat.{ℕ, _+_, _-_, _*_, _/_, _%_, _<_, _≤_}
+use Rattle.base.proofs.Prelude.{_≡_, sym, ap, _∙_, subst, List, ℕ, _+_, _-_, _*_, _/_, _%_, _<_, _≤_, arith, length, set, replicate, length-set}
+use Rattle.base.proofs.Prelude.{length-replicate}
 use native.Mathlib.Nat.{div-le-self}
-use native.Mathlib.Omega.{arith}
-use lib.ListN.{length, set, replicate, length-set, length-replicate}
 use lib.Seq.{getD-set-same, getD-set-other}
 use borrow.Author.Count.{below-none, below-more}
-use Rattle.base.specs.Steps.{entry}
-use Rattle.base.specs.Model.{Starts}
+use Rattle.base.specs.{Steps.entry, Model.Starts}
 use Rattle.carriers.specs.Model.{addressNumber}
-use Rattle.amc.specs.declared.Shape.{Shape}
-use Rattle.amc.specs.Map.{indexOf, addressOf}
-use Rattle.amc.specs.Model.{IsShape, sequencePlace}
-use Rattle.amc.proofs.Law.{index-below, index-traffic, traffic-index}
-use Rattle.amc.proofs.Parts.{by-six, rest-six}
-use Rattle.amc.proofs.Sequence.{traffic-at, sequence-place-lt}
+use Rattle.amc.specs.{declared.Shape.Shape, Map.{indexOf, addressOf}, Model.{IsShape, sequencePlace}}
+use Rattle.amc.proofs.{Law.{index-below, index-traffic, traffic-index}, Parts.{by-six, rest-six}, Sequence.{traffic-at, sequence-place-lt}}
 
 -- Before turn i of a loop over the entries of P: the index of each v that the turns before had is written.
 pub record Indexed (cell : ℕ) (l : List ℕ) (i : ℕ) : Type 0 where

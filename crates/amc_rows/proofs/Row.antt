@@ -1,25 +1,15 @@
 -- A row of carriers by the places of P.
-use mathlib.Core.Bool.{Bool}
-use mathlib.Core.Path.{_≡_, sym, ap, ap₂, _∙_}
-use Prim.Native.Nat.{ℕ, _+_, _-_, _*_, _/_, _%_, _<_, _≤_}
-use native.Mathlib.Nat.{mod-lt, mul-assoc, mul-left-comm, mul-right-comm, mul-sub, mul-le-mul, mul-le-mul-left, add-mul, mul-add-mod-self-right, div-add-mod', mul-div-left, div-lt-iff-lt-mul}
-use native.Mathlib.Omega.{arith}
-use lib.Arith.{digits-lt}
-use lib.Dec.{leb}
+use Rattle.base.proofs.Prelude.{Bool, _≡_, sym, ap, ap₂, _∙_, ℕ, _+_, _-_, _*_, _/_, _%_, _<_, _≤_, mod-lt, mul-le-mul, div-add-mod'}
+use Rattle.base.proofs.Prelude.{div-lt-iff-lt-mul, arith, digits-lt, leb}
+use Rattle.base.proofs.{Test.cases, LeaveOut.{skip-lt, skip-step}}
+use native.Mathlib.Nat.{mul-assoc, mul-left-comm, mul-right-comm, mul-sub, mul-le-mul-left, add-mul, mul-add-mod-self-right, mul-div-left}
 use mir.Val.{boolByte}
 use borrow.Author.Tests.{leb-true, leb-false, le-leb, lt-leb}
-use Rattle.base.specs.Choice.{pick}
-use Rattle.base.specs.Steps.{skip}
-use Rattle.base.proofs.Test.{cases}
-use Rattle.base.proofs.LeaveOut.{skip-lt, skip-step}
-use Rattle.carriers.specs.Band.{binBand, carrierOf}
-use Rattle.carriers.specs.Bin.{binPilotPlace, usedOfData, binSpot}
-use Rattle.amc.specs.declared.Shape.{Shape}
-use Rattle.amc.specs.Map.{traffic, trafficNumber}
-use Rattle.amc.specs.Model.{IsShape, sequencePlace}
+use Rattle.base.specs.{Choice.pick, Steps.skip}
+use Rattle.carriers.specs.{Band.{binBand, carrierOf}, Bin.{binPilotPlace, usedOfData, binSpot}}
+use Rattle.amc.specs.{declared.Shape.Shape, Map.{traffic, trafficNumber}, Model.{IsShape, sequencePlace}}
 use Rattle.amc_rows.specs.Model.{EvenWidth, trafficCarrier, subchannelStep, sequenceCarrier}
-use Rattle.amc.proofs.Parts.{bins-pos, bins-few, symbols-six, quotient-few}
-use Rattle.amc.proofs.Law.{bin-of, place-of, all-bins}
+use Rattle.amc.proofs.{Parts.{bins-pos, bins-few, symbols-six, quotient-few}, Law.{bin-of, place-of, all-bins}}
 use Rattle.amc.proofs.Sequence.{traffic-at, sequence-place-lt}
 
 -- index j is at place (j+per) mod 48 of P

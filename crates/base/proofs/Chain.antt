@@ -1,14 +1,8 @@
 -- A chain of questions: what it does to the answer that comes after it.
-use mathlib.Core.Path.{_≡_, refl, sym, ap, _∙_}
-use mathlib.Core.Bool.{Bool, true, false}
-use mathlib.Core.List.{List, [], _∷_, _++_}
-use Prim.Native.Nat.{ℕ, zero, suc}
-use native.Mathlib.Omega.{arith}
-use lib.Dec.{T, eqb}
-use borrow.Author.Tests.{eq-eqb, ne-eqb, eqb-true, eqb-false}
-use Rattle.base.specs.Choice.{pick}
-use Rattle.base.specs.Answer.{Answer, accepted, refused, ask, refusalOf}
+use Rattle.base.proofs.Prelude.{_≡_, refl, sym, ap, _∙_, Bool, true, false, List, [], _∷_, _++_, ℕ, zero, suc, arith, T, eqb, eq-eqb, ne-eqb}
+use Rattle.base.proofs.Prelude.{eqb-true, eqb-false}
 use Rattle.base.proofs.Test.{cases, tests}
+use Rattle.base.specs.{Choice.pick, Answer.{Answer, accepted, refused, ask, refusalOf}}
 
 -- where a request is accepted, each question was answered yes
 pub ask-yes : {A : Type 0} (b : Bool) (k : ℕ) (rest : Answer A) {a : A} → ask b k rest ≡ accepted a → (b ≡ true) × (rest ≡ accepted a)

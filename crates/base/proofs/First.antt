@@ -1,13 +1,10 @@
 -- The first number that passes a test: those before it fail, it passes where it is below n, and no other number is so.
-use mathlib.Core.Path.{_≡_, refl, sym}
-use mathlib.Core.Bool.{Bool, true, false, not, _||_}
-use Prim.Native.Nat.{ℕ, zero, suc, _+_, _<_, _≤_}
-use native.Mathlib.Nat.{not-suc-le-zero}
-use native.Mathlib.Omega.{arith}
-use lib.Dec.{eqb, ltb}
-use borrow.Author.Tests.{eq-eqb, ne-eqb, eqb-true, eqb-false, ltb-true, ltb-false}
-use borrow.Author.Count.{below-none, below-more}
+use Rattle.base.proofs.Prelude.{_≡_, refl, sym, Bool, true, false, ℕ, zero, suc, _+_, _<_, _≤_, arith, eqb, ltb, eq-eqb, ne-eqb, eqb-true}
+use Rattle.base.proofs.Prelude.{eqb-false, ltb-true, ltb-false}
 use Rattle.base.proofs.Test.{cases, true-false}
+use mathlib.Core.Bool.{not, _||_}
+use native.Mathlib.Nat.{not-suc-le-zero}
+use borrow.Author.Count.{below-none, below-more}
 use Rattle.base.specs.First.{firstOf, isNone}
 
 -- the numbers below n fail

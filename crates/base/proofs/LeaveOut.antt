@@ -1,15 +1,10 @@
 -- Leaving one place out loses nothing: `skip p` goes onto the places other than p, and `unskip p` comes back.
-use mathlib.Core.Path.{_≡_, refl, ap, _∙_}
-use mathlib.Core.Bool.{Bool, true, false}
-use Prim.Native.Nat.{ℕ, _+_, _-_, _<_, _≤_}
-use native.Mathlib.Omega.{arith}
-use lib.Dec.{ltb, leb}
-use mir.Syntax.{w16}
-use mir.Val.{Fits, boolByte}
-use borrow.Author.Tests.{ltb-true, ltb-false, leb-true, leb-false, le-ltb, lt-ltb, le-leb, lt-leb}
-use Rattle.base.specs.Choice.{pick}
-use Rattle.base.specs.Steps.{skip, unskip}
+use Rattle.base.proofs.Prelude.{_≡_, refl, ap, _∙_, Bool, true, false, ℕ, _+_, _-_, _<_, _≤_, arith, ltb, leb, ltb-true, ltb-false, le-ltb}
+use Rattle.base.proofs.Prelude.{lt-ltb}
 use Rattle.base.proofs.Test.{cases}
+use mir.{Syntax.w16, Val.{Fits, boolByte}}
+use borrow.Author.Tests.{leb-true, leb-false, le-leb, lt-leb}
+use Rattle.base.specs.{Choice.pick, Steps.{skip, unskip}}
 
 -- the two values of each, by the test
 pub skip-below : (p r : ℕ) → r < p → skip p r ≡ r

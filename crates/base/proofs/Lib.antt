@@ -1,4 +1,5 @@
 -- Each kind of step has one law here; a mode's law is a composition of them.
+pub mod Prelude
 pub mod Test
 pub mod Xor
 pub mod Perm

@@ -1,8 +1,6 @@
 -- A permutation of 0..n-1 with its inverse; the rotation, and the composition of two.
-use mathlib.Core.Path.{_≡_, sym, ap, _∙_}
-use Prim.Native.Nat.{ℕ, _+_, _-_, _*_, _/_, _%_, _<_, _≤_}
-use native.Mathlib.Nat.{mod-lt, mod-eq-of-lt, mod-eq-sub-mod, mod-add-mod, add-mul-mod-self-right, div-add-mod', add-assoc, add-mul, one-mul}
-use native.Mathlib.Omega.{arith}
+use Rattle.base.proofs.Prelude.{_≡_, sym, ap, _∙_, ℕ, _+_, _-_, _*_, _/_, _%_, _<_, _≤_, mod-lt, div-add-mod', arith}
+use native.Mathlib.Nat.{mod-eq-of-lt, mod-eq-sub-mod, mod-add-mod, add-mul-mod-self-right, add-assoc, add-mul, one-mul}
 use Rattle.base.specs.Steps.{rotate, unrotate}
 
 pub record Perm (n : ℕ) (to from : ℕ → ℕ) : Type 0 where

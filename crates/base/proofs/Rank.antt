@@ -1,13 +1,9 @@
 -- Ranks: the numbers that pass a test, counted.
-use mathlib.Core.Path.{_≡_, refl, ap, _∙_}
-use mathlib.Core.Bool.{Bool, true, false}
-use Prim.Native.Nat.{ℕ, zero, suc, _+_, _<_, _≤_}
-use native.Mathlib.Nat.{not-suc-le-zero, add-suc}
-use native.Mathlib.Omega.{arith}
-use lib.Dec.{eqb, ltb}
-use borrow.Author.Tests.{eqb-true, eqb-false, lt-ltb, le-ltb, ltb-true, ltb-false}
-use Rattle.base.specs.Rank.{rank, unrank, RankLaw}
+use Rattle.base.proofs.Prelude.{_≡_, refl, ap, _∙_, Bool, true, false, ℕ, zero, suc, _+_, _<_, _≤_, arith, eqb, ltb, eqb-true, eqb-false}
+use Rattle.base.proofs.Prelude.{lt-ltb, le-ltb, ltb-true, ltb-false}
 use Rattle.base.proofs.Test.{cases}
+use native.Mathlib.Nat.{not-suc-le-zero, add-suc}
+use Rattle.base.specs.Rank.{rank, unrank, RankLaw}
 
 module _ (test : ℕ → Bool) where
   -- one number more

@@ -1,17 +1,10 @@
 -- The rule of a table, proved at all of its entries by one test that is computed, one entry after the other.
-use mathlib.Core.Path.{_≡_, _∙_, subst, sym}
-use mathlib.Core.Bool.{Bool, true}
-use mathlib.Core.List.{List, [], _∷_}
-use Prim.Native.Nat.{ℕ, zero, suc, _+_, _<_}
+use Rattle.base.proofs.Prelude.{_≡_, _∙_, subst, sym, Bool, true, List, [], _∷_, ℕ, zero, suc, _+_, _<_, T, eqb, ltb, eqb→eq, ltb→lt, length}
+use Rattle.base.proofs.Prelude.{getD, eqb-true, eqb-false}
+use Rattle.base.proofs.{Test.{both, both-left, both-right, cases}, Perm.Perm}
 use native.Mathlib.Nat.{add-zero, zero-add, add-suc, suc-add, le-of-suc-le-suc, not-suc-le-zero}
-use lib.Dec.{T, eqb, ltb, eqb→eq, ltb→lt}
 use lib.Arith.{lt-of-le-ne}
-use lib.ListN.{length, getD}
-use borrow.Author.Tests.{eqb-true, eqb-false}
-use Rattle.base.specs.Steps.{entry}
-use Rattle.base.specs.Permutation.{Permutation}
-use Rattle.base.proofs.Test.{both, both-left, both-right, cases}
-use Rattle.base.proofs.Perm.{Perm}
+use Rattle.base.specs.{Steps.entry, Permutation.Permutation}
 
 -- the test passes at each entry of the table and its place, counted from i
 abbrev pub every : (ℕ → ℕ → Bool) → ℕ → List ℕ → Bool

@@ -1,15 +1,10 @@
 -- A tabulated list has its length and its entries, and is the only list that has them; and a loop that writes one entry a turn.
-use mathlib.Core.Path.{_≡_, refl, sym, ap, _∙_, subst}
-use mathlib.Core.List.{List}
-use Prim.Native.Nat.{ℕ, zero, suc, _+_, _-_, _%_, _<_, _≤_}
+use Rattle.base.proofs.Prelude.{_≡_, refl, sym, ap, _∙_, subst, List, ℕ, zero, suc, _+_, _-_, _%_, _<_, _≤_, arith, length, getD, set}
+use Rattle.base.proofs.Prelude.{replicate, length-set, length-replicate}
 use native.Mathlib.Nat.{le-of-suc-le-suc, not-suc-le-zero}
-use native.Mathlib.Omega.{arith}
-use lib.ListN.{length, getD, set, replicate, length-set, length-replicate}
 use lib.Seq.{getD-set-same, getD-set-other, ext-getD}
 use borrow.Author.Count.{below-none, below-more}
-use Rattle.base.specs.Steps.{entry}
-use Rattle.base.specs.Tabulate.{tabulate}
-use Rattle.base.specs.Model.{Starts, Below, Turned}
+use Rattle.base.specs.{Steps.entry, Tabulate.tabulate, Model.{Starts, Below, Turned}}
 
 pub length-tabulate : {A : Type 0} (n : ℕ) (f : ℕ → A) → length (tabulate n f) ≡ n
 unfolding tabulate

@@ -1,10 +1,8 @@
 -- Tests that are computed, and facts from them.
-use mathlib.Core.Path.{_≡_, refl, sym, _∙_}
-use mathlib.Core.Bool.{Bool, true, false, not, _&&_}
-use Prim.Native.Nat.{ℕ, _*_, _<_, _≤_}
-use native.Mathlib.Omega.{arith}
-use lib.Dec.{T, eqb, ltb, leb}
-use borrow.Author.Tests.{leb-true, lt-ltb, le-ltb, eq-eqb, ne-eqb, not-true, not-false}
+use Rattle.base.proofs.Prelude.{_≡_, refl, sym, _∙_, Bool, true, false, ℕ, _*_, _<_, _≤_, arith, T, eqb, ltb, leb, lt-ltb, le-ltb, eq-eqb}
+use Rattle.base.proofs.Prelude.{ne-eqb, not-true, not-false}
+use mathlib.Core.Bool.{not, _&&_}
+use borrow.Author.Tests.{leb-true}
 use Rattle.base.specs.Choice.{pick, isUpTo}
 
 abbrev pub both : Bool → Bool → Bool

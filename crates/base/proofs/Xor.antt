@@ -1,11 +1,6 @@
 -- The exclusive or is associative, so that adding the same element twice changes nothing.
-use mathlib.Core.Path.{_≡_, refl, sym, ap, ap₂, _∙_}
-use Prim.Native.Nat.{ℕ, zero, suc, _+_, _*_, _/_, _%_, _<_}
-use native.Mathlib.Nat.{mod-lt}
-use native.Mathlib.Omega.{arith}
-use lib.Dec.{lit<}
-use lib.Arith.{bin-ind}
-use lib.Bits.{bitXor, differ, xor-step, xor-shr, xor-mod, xor-self, xor-zero-l, xor-zero-r}
+use Rattle.base.proofs.Prelude.{_≡_, refl, sym, ap, ap₂, _∙_, ℕ, zero, suc, _+_, _*_, _/_, _%_, _<_, mod-lt, arith, lit<}
+use lib.{Arith.bin-ind, Bits.{bitXor, differ, xor-step, xor-shr, xor-mod, xor-self, xor-zero-l, xor-zero-r}}
 
 data Bit : ℕ → Type 0 where
   b0 : Bit 0

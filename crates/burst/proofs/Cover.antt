@@ -1,15 +1,8 @@
 -- What a burst covers, and what the tests of a list say of it.
-use mathlib.Core.Path.{_≡_, refl}
-use mathlib.Core.Bool.{true, false}
-use Prim.Native.Nat.{ℕ, _+_, _-_, _<_, _≤_}
-use native.Mathlib.Omega.{arith}
-use lib.Dec.{leb}
-use borrow.Author.Tests.{lt-ltb, ltb-true, le-leb, leb-true, leb-false}
+use Rattle.base.proofs.{Prelude.{_≡_, refl, true, false, ℕ, _+_, _-_, _<_, _≤_, arith, leb, lt-ltb, ltb-true}, Test.{cases, both-true}}
+use borrow.Author.Tests.{le-leb, leb-true, leb-false}
 use Rattle.base.specs.Choice.{pick}
-use Rattle.base.proofs.Test.{cases, both-true}
-use Rattle.burst.specs.declared.Burst.{Burst}
-use Rattle.burst.specs.Burst.{isOf, isCovering, isWithin, isInside, isShared, isOverlap}
-use Rattle.burst.specs.Model.{edgesOf, edgesOverlap}
+use Rattle.burst.specs.{declared.Burst.Burst, Burst.{isOf, isCovering, isWithin, isInside, isShared, isOverlap}, Model.{edgesOf, edgesOverlap}}
 
 -- runs of numbers
 module _ (first many : ℕ) where

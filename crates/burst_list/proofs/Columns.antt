@@ -1,21 +1,12 @@
 -- The edges of a list's bursts in columns, and that their overlaps are the list's.
-use mathlib.Core.Path.{_≡_, ap, _∙_}
-use mathlib.Core.List.{List}
-use Prim.Native.Nat.{ℕ, _+_, _%_, _<_}
-use native.Mathlib.Omega.{arith}
-use lib.Dec.{eqb}
-use lib.ListN.{length, set, replicate, length-set, length-replicate}
+use Rattle.base.proofs.Prelude.{_≡_, ap, _∙_, List, ℕ, _+_, _%_, _<_, arith, eqb, length, set, replicate, length-set, length-replicate}
+use Rattle.base.proofs.First.{first-as}
 use lib.Seq.{getD-set-same, getD-set-other}
 use borrow.Author.Count.{below-none, below-more}
-use Rattle.base.specs.First.{isNone}
-use Rattle.base.specs.Steps.{entry}
-use Rattle.base.proofs.First.{first-as}
-use Rattle.burst.specs.declared.Edges.{Edges}
-use Rattle.burst.specs.Burst.{burstAt, isOverlap}
-use Rattle.burst.specs.Model.{edgesOf, edgesOverlap}
+use Rattle.base.specs.{First.isNone, Steps.entry}
+use Rattle.burst.specs.{declared.Edges.Edges, Burst.{burstAt, isOverlap}, Model.{edgesOf, edgesOverlap}}
 use Rattle.burst.proofs.Cover.{edges-overlap}
-use Rattle.burst_list.specs.List.{isApart}
-use Rattle.burst_list.specs.Model.{edgesAt, Kept}
+use Rattle.burst_list.specs.{List.isApart, Model.{edgesAt, Kept}}
 
 -- one burst's edges, an entry in each column
 module _ (l : List ℕ) (i : ℕ) (h : i < 64) (long : length l ≡ 256) (a b c d : ℕ) where

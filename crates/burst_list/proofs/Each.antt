@@ -1,19 +1,11 @@
 -- The questions put to a list, one burst after the other: as a list of tests, and what each number that they come to says.
-use mathlib.Core.Path.{_≡_, refl, sym, _∙_}
-use mathlib.Core.Bool.{true, false}
-use mathlib.Core.List.{List, [], _∷_}
-use Prim.Native.Nat.{ℕ, zero, suc, _+_, _-_, _%_, _<_, _≤_}
-use native.Mathlib.Omega.{arith}
-use lib.Dec.{T}
-use lib.ListN.{length}
-use borrow.Author.Tests.{eq-eqb, eqb-true, le-leb, leb-true}
-use borrow.Author.Count.{below-none, below-more}
+use Rattle.base.proofs.Prelude.{_≡_, refl, sym, _∙_, true, false, List, [], _∷_, ℕ, zero, suc, _+_, _-_, _%_, _<_, _≤_, arith, T, length, eq-eqb}
+use Rattle.base.proofs.Prelude.{eqb-true}
+use Rattle.base.proofs.{Test.{cases, both-true}, Chain.{Questions, askAll, firstNo, counted, is-refused, has-passed}}
+use borrow.Author.{Tests.{le-leb, leb-true}, Count.{below-none, below-more}}
 use Rattle.base.specs.Answer.{Answer, accepted, refused}
-use Rattle.base.proofs.Test.{cases, both-true}
-use Rattle.base.proofs.Chain.{Questions, askAll, firstNo, counted, is-refused, has-passed}
 use Rattle.burst.specs.Burst.{burstAt, isInside}
-use Rattle.burst_list.specs.List.{burstCount, isList, isApart, askEach, askList}
-use Rattle.burst_list.specs.Model.{listRefusal}
+use Rattle.burst_list.specs.{List.{burstCount, isList, isApart, askEach, askList}, Model.listRefusal}
 
 -- the length of a list
 module _ (numbers : List ℕ) where

@@ -1,27 +1,16 @@
 -- The owner of a subchannel in a slot, and the row of a slot's owners as its bursts mark it one after the other.
-use mathlib.Core.Path.{_≡_, sym, _∙_}
-use mathlib.Core.Bool.{Bool, true, false}
-use mathlib.Core.List.{List}
-use Prim.Native.Nat.{ℕ, _+_, _-_, _<_, _≤_}
-use native.Mathlib.Omega.{arith}
-use lib.Dec.{ltb}
-use lib.ListN.{length, replicate, length-replicate, getD-replicate}
-use borrow.Author.Tests.{lt-ltb, le-ltb, ltb-true, ltb-false}
-use borrow.Author.Count.{below-none}
-use Rattle.base.specs.Choice.{pick}
-use Rattle.base.specs.Steps.{entry}
-use Rattle.base.specs.Tabulate.{tabulate}
-use Rattle.base.specs.First.{firstOf}
-use Rattle.base.proofs.Test.{cases, true-false}
-use Rattle.base.proofs.Tabulate.{getD-tabulate, tabulated, length-tabulate, WrittenOver}
+use Rattle.base.proofs.Prelude.{_≡_, sym, _∙_, Bool, true, false, List, ℕ, _+_, _-_, _<_, _≤_, arith, ltb, length, replicate, length-replicate}
+use Rattle.base.proofs.Prelude.{lt-ltb, le-ltb, ltb-true, ltb-false}
+use Rattle.base.proofs.{Test.{cases, true-false}, Tabulate.{getD-tabulate, tabulated, length-tabulate, WrittenOver}}
 use Rattle.base.proofs.First.{None, none-more, first-most, first-before, first-passes, first-is, first-none, none-of}
+use lib.ListN.{getD-replicate}
+use borrow.Author.Count.{below-none}
+use Rattle.base.specs.{Choice.pick, Steps.entry, Tabulate.tabulate, First.firstOf}
 use Rattle.burst.specs.Burst.{burstAt, isOf, isCovering, isOverlap}
 use Rattle.burst.proofs.Cover.{of-is, is-of, covering-is, elsewhere, beside, overlap-is}
 use Rattle.burst_list.specs.List.{burstCount, isApart}
 use Rattle.burst_list.proofs.Each.{Passed}
-use Rattle.burst_owner.specs.declared.Owned.{Owned}
-use Rattle.burst_owner.specs.Owner.{position, noOwner, ownerAt, lookedAt}
-use Rattle.burst_owner.specs.Model.{marked, markedBy}
+use Rattle.burst_owner.specs.{declared.Owned.Owned, Owner.{position, noOwner, ownerAt, lookedAt}, Model.{marked, markedBy}}
 
 -- the first owner, of its position
 module _ (numbers : List ℕ) (slot s : ℕ) {p : ℕ} (e : p ≡ position numbers slot s) where

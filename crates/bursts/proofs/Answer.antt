@@ -1,31 +1,18 @@
 -- The answers of the three calls, by what their questions come to.
-use mathlib.Core.Path.{_≡_, sym, ap, _∙_}
-use mathlib.Core.List.{List, []}
-use Prim.Native.Nat.{ℕ, _<_, _≤_}
-use native.Mathlib.Omega.{arith}
-use lib.Dec.{ltb}
-use borrow.Author.Tests.{ltb-false}
-use Rattle.base.specs.Answer.{Answer, accepted, refused}
-use Rattle.base.specs.Tabulate.{tabulate}
-use Rattle.base.proofs.Test.{cases}
+use Rattle.base.proofs.{Prelude.{_≡_, sym, ap, _∙_, List, [], ℕ, _<_, _≤_, arith, ltb, ltb-false}, Test.cases}
 use Rattle.base.proofs.Tabulate.{getD-tabulate, tabulated, length-tabulate}
-use Rattle.map.specs.Mode.{subchannels}
-use Rattle.map.specs.Question.{isSubchannel}
+use Rattle.base.specs.{Answer.{Answer, accepted, refused}, Tabulate.tabulate}
+use Rattle.map.specs.{Mode.subchannels, Question.isSubchannel}
 use Rattle.map.proofs.ByMode.{few}
-use Rattle.zone.specs.declared.Zone.{Zone}
-use Rattle.zone.specs.Zone.{setupOf, fieldsRefusal}
+use Rattle.zone.specs.{declared.Zone.Zone, Zone.{setupOf, fieldsRefusal}}
 use Rattle.zone.proofs.Judge.{fields-valid, fields-slots}
 use Rattle.burst.specs.Burst.{burstAt, isCovering}
 use Rattle.burst.proofs.Cover.{inside-covers}
 use Rattle.burst_list.specs.Model.{listRefusal}
 use Rattle.burst_list.proofs.Each.{list-no, list-then, list-yes}
-use Rattle.burst_owner.specs.declared.Owned.{Owned}
-use Rattle.burst_owner.specs.Owner.{noOwner, ownerAt}
-use Rattle.burst_owner.specs.Model.{Accepted}
+use Rattle.burst_owner.specs.{declared.Owned.Owned, Owner.{noOwner, ownerAt}, Model.Accepted}
 use Rattle.burst_owner.proofs.Row.{no-owner}
-use Rattle.bursts.specs.declared.OwnerRow.{OwnerRow}
-use Rattle.bursts.specs.Burst.{askBursts}
-use Rattle.bursts.specs.Owner.{owned, rowAt, ownerRow}
+use Rattle.bursts.specs.{declared.OwnerRow.OwnerRow, Burst.askBursts, Owner.{owned, rowAt, ownerRow}}
 
 module _ (size : ℕ) (zone : Zone) where
   -- where a zone's own questions are all answered yes, it is small

@@ -1,34 +1,18 @@
 -- THE LAW OF THE BURSTS.
-use mathlib.Core.Path.{_≡_, refl, sym, ap, _∙_}
-use mathlib.Core.Bool.{Bool, true, false}
-use mathlib.Core.List.{List, [], _∷_}
-use Prim.Native.Nat.{ℕ, _+_, _%_, _<_, _≤_}
-use native.Mathlib.Omega.{arith}
-use lib.Dec.{T, eqb, ltb}
-use lib.ListN.{length}
-use borrow.Author.Tests.{eqb-true, eqb-false, lt-ltb, le-ltb, ltb-true, ltb-false}
-use Rattle.base.specs.Answer.{Answer, accepted, refused, refusalOf}
-use Rattle.base.specs.Steps.{entry}
-use Rattle.base.specs.Tabulate.{tabulate}
-use Rattle.base.specs.First.{firstOf}
-use Rattle.base.proofs.Test.{cases, true-false}
-use Rattle.base.proofs.Tabulate.{length-tabulate, entry-of}
-use Rattle.base.proofs.First.{first-most, first-passes, none-is, none-not}
+use Rattle.base.proofs.Prelude.{_≡_, refl, sym, ap, _∙_, Bool, true, false, List, [], _∷_, ℕ, _+_, _%_, _<_, _≤_, arith, T, eqb, ltb, length}
+use Rattle.base.proofs.Prelude.{eqb-true, eqb-false, lt-ltb, le-ltb, ltb-true, ltb-false}
+use Rattle.base.proofs.{Test.{cases, true-false}, Tabulate.{length-tabulate, entry-of}, First.{first-most, first-passes, none-is, none-not}}
 use Rattle.base.proofs.Chain.{Questions, askAll, firstNo, counted, all-numbered, all-yes, numbered-zero}
-use Rattle.map.specs.Mode.{subchannels}
-use Rattle.map.specs.Question.{isSlot, isSubchannel}
-use Rattle.zone.specs.declared.Zone.{Zone}
-use Rattle.zone.specs.Zone.{setupOf, askFields, fieldsRefusal}
+use Rattle.base.specs.{Answer.{Answer, accepted, refused, refusalOf}, Steps.entry, Tabulate.tabulate, First.firstOf}
+use Rattle.map.specs.{Mode.subchannels, Question.{isSlot, isSubchannel}}
+use Rattle.zone.specs.{declared.Zone.Zone, Zone.{setupOf, askFields, fieldsRefusal}}
 use Rattle.burst.specs.Burst.{burstAt, isCovering, isInside, isOverlap}
 use Rattle.burst.proofs.Cover.{inside-covers, inside-first, inside-is, overlap-is, overlap-common}
-use Rattle.burst_list.specs.List.{burstCount, isList, isApart}
-use Rattle.burst_list.specs.Model.{listRefusal}
+use Rattle.burst_list.specs.{List.{burstCount, isList, isApart}, Model.listRefusal}
 use Rattle.burst_list.proofs.Each.{list-is, list-of, list-then, Passes, list-yes, all-pass, is-overlapping, by-list}
-use Rattle.burst_owner.specs.declared.Owned.{Owned}
-use Rattle.burst_owner.specs.Owner.{noOwner, ownerAt, lookedAt}
+use Rattle.burst_owner.specs.{declared.Owned.Owned, Owner.{noOwner, ownerAt, lookedAt}}
 use Rattle.burst_owner.proofs.Row.{alone, owner-here, by-owner}
-use Rattle.bursts.specs.declared.OwnerRow.{OwnerRow}
-use Rattle.bursts.specs.Burst.{askBursts, checkOf}
+use Rattle.bursts.specs.{declared.OwnerRow.OwnerRow, Burst.{askBursts, checkOf}}
 use Rattle.bursts.specs.Owner.{askOwner, owned, ownerOf, rowAt, askOwners, ownerRow, ownersOf}
 use Rattle.bursts.specs.Law.{Covers, masked, Masks, FirstFit, Fit, Overlapping, BurstLaw}
 use Rattle.zone.proofs.Number.{fieldQuestions, fields-no, fields-then}

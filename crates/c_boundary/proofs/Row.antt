@@ -1,8 +1,5 @@
 -- What a row comes to at the C boundary.
-use mathlib.Core.Path.{_≡_}
-use mathlib.Core.List.{List}
-use Prim.Native.Nat.{ℕ}
-use borrow.Author.Tests.{eq-eqb, ne-eqb}
+use Rattle.base.proofs.Prelude.{_≡_, List, ℕ, eq-eqb, ne-eqb}
 use Rattle.c_boundary.specs.Row.{rowOut}
 
 module _ (refusal : ℕ) (new old : List ℕ) where

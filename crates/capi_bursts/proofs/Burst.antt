@@ -1,8 +1,5 @@
 -- What the owner of a subchannel comes to at the C boundary.
-use mathlib.Core.Path.{_≡_}
-use mathlib.Core.List.{List}
-use Prim.Native.Nat.{ℕ, _≤_}
-use borrow.Author.Tests.{eq-eqb, ne-eqb}
+use Rattle.base.proofs.Prelude.{_≡_, List, ℕ, _≤_, eq-eqb, ne-eqb}
 use Rattle.zone.specs.declared.Zone.{Zone}
 use Rattle.burst_owner.specs.declared.Owned.{Owned}
 use Rattle.bursts.specs.Owner.{ownerOf}

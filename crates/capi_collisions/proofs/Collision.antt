@@ -1,17 +1,11 @@
 -- Marks written as bytes, and the outcome of an answer.
-use mathlib.Core.Path.{_≡_, refl, sym, _∙_}
-use mathlib.Core.Bool.{Bool, true, false}
-use mathlib.Core.List.{List, map}
-use Prim.Native.Nat.{ℕ, _≤_}
-use native.Mathlib.Omega.{arith}
-use lib.ListN.{length, getD, length-map, List·getD-map}
-use mir.Val.{boolByte}
-use borrow.Author.Tests.{eq-eqb}
-use Rattle.base.specs.Answer.{Answer, accepted, refused}
-use Rattle.base.specs.Tabulate.{tabulate}
+use Rattle.base.proofs.Prelude.{_≡_, refl, sym, _∙_, Bool, true, false, List, ℕ, _≤_, arith, length, getD, eq-eqb}
 use Rattle.base.proofs.Tabulate.{length-tabulate, tabulated, Written, written-all}
-use Rattle.collision.specs.declared.Collisions.{Collisions}
-use Rattle.collision.specs.Collision.{answerOf, ofuscOf, amcOf}
+use mathlib.Core.List.{map}
+use lib.ListN.{length-map, List·getD-map}
+use mir.Val.{boolByte}
+use Rattle.base.specs.{Answer.{Answer, accepted, refused}, Tabulate.tabulate}
+use Rattle.collision.specs.{declared.Collisions.Collisions, Collision.{answerOf, ofuscOf, amcOf}}
 use Rattle.collision.proofs.Count.{count-le}
 use Rattle.capi_collisions.specs.Collision.{byteOf, collisionOut}
 

@@ -1,16 +1,11 @@
 -- What the answers of `look` come to at the C boundary, and that their numbers fit there.
-use mathlib.Core.Path.{_≡_, sym, ap, _∙_}
-use mathlib.Core.List.{List}
-use Prim.Native.Nat.{ℕ, _<_}
-use lib.IntN.{ℤ}
-use lib.Ieee.{Float}
+use Rattle.base.proofs.Prelude.{_≡_, sym, ap, _∙_, List, ℕ, _<_}
+use lib.{IntN.ℤ, Ieee.Float}
 use Rattle.base.specs.Answer.{Answer}
 use Rattle.map.specs.Setup.{Setup}
 use Rattle.map.proofs.Law.{point-small}
 use Rattle.points.specs.declared.Point.{Point}
-use Rattle.look.specs.declared.Seen.{Seen}
-use Rattle.look.specs.declared.Seen.the-variants.{Data}
-use Rattle.look.specs.Look.{Sight, lookOf, seen}
+use Rattle.look.specs.{declared.Seen.Seen, declared.Seen.the-variants.Data, Look.{Sight, lookOf, seen}}
 use Rattle.look.proofs.Looked.{look-point}
 use Rattle.capi_look.specs.Look.{lookOut}
 

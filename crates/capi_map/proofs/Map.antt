@@ -1,17 +1,10 @@
 -- What the answers of `place` and `locate` come to at the C boundary, and that their numbers fit there.
-use mathlib.Core.Path.{_≡_, sym, ap, _∙_}
-use Prim.Native.Nat.{ℕ, _<_}
+use Rattle.base.proofs.Prelude.{_≡_, sym, ap, _∙_, ℕ, _<_, arith}
 use lib.IntN.{ℤ}
-use native.Mathlib.Omega.{arith}
-use mir.Syntax.{w32}
-use mir.Val.{SFits}
+use mir.{Syntax.w32, Val.SFits}
 use Rattle.base.specs.Answer.{Answer}
-use Rattle.map.specs.Setup.{Setup}
-use Rattle.map.specs.declared.Placed.{Placed}
-use Rattle.map.specs.declared.Placed.the-variants.{At}
-use Rattle.map.specs.declared.Located.{Located}
-use Rattle.map.specs.declared.Located.the-variants.{Data}
-use Rattle.map.specs.Place.{Place, Content, placed, located, placeOf, locateOf}
+use Rattle.map.specs.{Setup.Setup, declared.Placed.Placed, declared.Placed.the-variants.At, declared.Located.Located}
+use Rattle.map.specs.{declared.Located.the-variants.Data, Place.{Place, Content, placed, located, placeOf, locateOf}}
 use Rattle.map.proofs.Law.{place-small, point-small}
 use Rattle.capi_map.specs.Map.{placeOut, locateOut}
 

@@ -1,13 +1,8 @@
 -- What plans come to at the C boundary, and that a written plan's length fits there.
-use mathlib.Core.Path.{_≡_, sym, ap, _∙_}
-use mathlib.Core.List.{List}
-use Prim.Native.Nat.{ℕ, _≤_}
-use borrow.Author.Tests.{eq-eqb, ne-eqb}
+use Rattle.base.proofs.Prelude.{_≡_, sym, ap, _∙_, List, ℕ, _≤_, eq-eqb, ne-eqb}
 use Rattle.plan.specs.declared.Plan.{Plan}
 use Rattle.plan_read.specs.declared.ReadPlan.{ReadPlan}
-use Rattle.plan_write.specs.declared.Written.{Written}
-use Rattle.plan_write.specs.declared.Written.the-variants.{Bytes}
-use Rattle.plan_write.specs.Write.{writeOf, written}
+use Rattle.plan_write.specs.{declared.Written.Written, declared.Written.the-variants.Bytes, Write.{writeOf, written}}
 use Rattle.plan_write.proofs.Round.{written-51}
 use Rattle.plan_numbers.specs.Numbers.{numbersOf}
 use Rattle.capi_plan.specs.Plan.{readOut, writeOut}

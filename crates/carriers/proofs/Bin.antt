@@ -1,17 +1,10 @@
 -- The data places of bins: a mode over bins meets the law of a slot.
-use mathlib.Core.Path.{_≡_, sym, ap, ap₂, _∙_}
-use mathlib.Core.Bool.{false}
-use Prim.Native.Nat.{ℕ, _+_, _*_, _/_, _%_, _<_, _≤_}
-use native.Mathlib.Omega.{arith}
-use lib.Dec.{leb}
-use mir.Val.{boolByte}
-use borrow.Author.Tests.{ne-eqb, eqb-false}
-use Rattle.base.specs.Steps.{skip, unskip}
+use Rattle.base.proofs.Prelude.{_≡_, sym, ap, ap₂, _∙_, false, ℕ, _+_, _*_, _/_, _%_, _<_, _≤_, arith, leb, ne-eqb, eqb-false}
 use Rattle.base.proofs.LeaveOut.{unskip-skip, skip-unskip, skip-ne, skip-lt, unskip-lt, skip-step}
-use Rattle.carriers.specs.declared.DataNumber.{DataNumber}
-use Rattle.carriers.specs.declared.Address.{Address}
-use Rattle.carriers.specs.Bin.{binPilotPlace, isBinPilot, usedOfData, dataOfUsed, binSpot}
-use Rattle.carriers.specs.Law.{SlotLaw, NumberLaw}
+use mir.Val.{boolByte}
+use Rattle.base.specs.Steps.{skip, unskip}
+use Rattle.carriers.specs.{declared.DataNumber.DataNumber, declared.Address.Address}
+use Rattle.carriers.specs.{Bin.{binPilotPlace, isBinPilot, usedOfData, dataOfUsed, binSpot}, Law.{SlotLaw, NumberLaw}}
 
 -- a used number as a sum of steps
 pub used-by-steps : (y d : ℕ) → d + d / 8 + boolByte (leb (binPilotPlace y) (d % 8)) ≡ usedOfData y d

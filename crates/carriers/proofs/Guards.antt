@@ -1,17 +1,10 @@
 -- Used numbers and the carriers that are neither guard nor DC are the same, one for one.
-use mathlib.Core.Path.{_≡_, refl, sym, ap, _∙_}
-use mathlib.Core.Bool.{true, false}
-use Prim.Native.Nat.{ℕ, _+_, _-_, _*_, _<_, _≤_}
-use native.Mathlib.Omega.{arith}
-use lib.Dec.{ltb, leb}
-use borrow.Author.Tests.{le-ltb, lt-leb, ne-eqb, ltb-false, leb-false, eqb-false}
-use Rattle.base.specs.Choice.{pick}
-use Rattle.base.specs.Steps.{skip, unskip}
-use Rattle.base.proofs.Test.{cases, true-false}
-use Rattle.base.proofs.LeaveOut.{unskip-skip, skip-unskip, skip-ne, skip-lt, unskip-lt, before-skip}
-use Rattle.carriers.specs.declared.Band.{Band}
-use Rattle.carriers.specs.Band.{binBand, puscBand, carrierOf, usedOf, isGuard, isDc}
-use Rattle.carriers.specs.Law.{Whole, BandLaw}
+use Rattle.base.proofs.Prelude.{_≡_, refl, sym, ap, _∙_, true, false, ℕ, _+_, _-_, _*_, _<_, _≤_, arith, ltb, leb, le-ltb, ne-eqb, ltb-false}
+use Rattle.base.proofs.Prelude.{eqb-false}
+use Rattle.base.proofs.{Test.{cases, true-false}, LeaveOut.{unskip-skip, skip-unskip, skip-ne, skip-lt, unskip-lt, before-skip}}
+use borrow.Author.Tests.{lt-leb, leb-false}
+use Rattle.base.specs.{Choice.pick, Steps.{skip, unskip}}
+use Rattle.carriers.specs.{declared.Band.Band, Band.{binBand, puscBand, carrierOf, usedOf, isGuard, isDc}, Law.{Whole, BandLaw}}
 
 pub pusc-band : Whole puscBand 2048
 pusc-band = record { dc-is = refl; half-lt = omega arith; size-is = refl }

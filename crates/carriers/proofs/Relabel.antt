@@ -1,10 +1,6 @@
 -- The law of a slot speaks only of its own symbols: pilots and addresses may be given otherwise elsewhere.
-use mathlib.Core.Path.{_≡_, sym, _∙_, subst⁻¹}
-use mathlib.Core.Bool.{Bool}
-use Prim.Native.Nat.{ℕ, _<_}
-use Rattle.carriers.specs.declared.Spot.{Spot}
-use Rattle.carriers.specs.declared.Address.{Address}
-use Rattle.carriers.specs.Law.{SlotLaw, PointOf}
+use Rattle.base.proofs.Prelude.{_≡_, sym, _∙_, subst⁻¹, Bool, ℕ, _<_}
+use Rattle.carriers.specs.{declared.Spot.Spot, declared.Address.Address, Law.{SlotLaw, PointOf}}
 
 module _
     {symbols subchannels used : ℕ} {pilot pilot′ : ℕ → ℕ → Bool} {spot : ℕ → ℕ → Spot} {address address′ : ℕ → ℕ → Address}

@@ -1,12 +1,7 @@
 -- A spot's carrier by sums of steps.
-use mathlib.Core.Path.{_≡_}
-use Prim.Native.Nat.{_%_, _<_}
-use native.Mathlib.Omega.{arith}
+use Rattle.base.proofs.Prelude.{_≡_, _%_, _<_, arith}
 use Rattle.base.specs.Steps.{skip}
-use Rattle.carriers.specs.declared.Band.{Band}
-use Rattle.carriers.specs.declared.Spot.{Spot}
-use Rattle.carriers.specs.Band.{carrierOf}
-use Rattle.carriers.specs.Model.{spotNumber, carrierNumber, carrierStep}
+use Rattle.carriers.specs.{declared.Band.Band, declared.Spot.Spot, Band.carrierOf, Model.{spotNumber, carrierNumber, carrierStep}}
 
 pub step-carrier : (b : Band) (x : Spot) → x .used < 2048 → carrierStep b (spotNumber x) ≡ carrierNumber 2048 b x
 unfolding carrierStep carrierOf skip

@@ -1,19 +1,12 @@
 -- THE LAW OF THE CENTRE holds at every even size, where as many carriers lie below DC as from DC on.
-use mathlib.Core.Path.{_≡_, refl, sym, ap, _∙_}
-use mathlib.Core.Bool.{Bool, true, false}
-use Prim.Native.Nat.{ℕ, zero, suc, _+_, _-_, _*_, _/_, _≤_, _<_}
-use native.Mathlib.Omega.{arith}
-use lib.Dec.{T, ltb, lt→ltb}
-use lib.IntN.{ℤ, pos, negsuc, negℤ, natAbs, _+ℤ_, _-ℤ_, +ℤ-invr, -ℤ-+ℤ-cancel, +ℤ-negℤ-cancel}
-use lib.Signed.{_<ℤ_, ltZ, ltZ-yes, mag, nonNeg, pos-natAbs}
-use mir.Syntax.{w32}
-use mir.Val.{SFits, toZ, ofZ}
-use mir.ValLaws.{toZ-pos, toZ-ofZ}
-use borrow.Author.Tests.{lt-ltb, le-ltb, ltb-true, ltb-false}
-use Rattle.base.specs.Choice.{pick}
+use Rattle.base.proofs.Prelude.{_≡_, refl, sym, ap, _∙_, Bool, true, false, ℕ, zero, suc, _+_, _-_, _*_, _/_, _≤_, _<_, arith, T, ltb, lt-ltb, le-ltb}
+use Rattle.base.proofs.Prelude.{ltb-true, ltb-false}
 use Rattle.base.proofs.Test.{cases, true-false}
-use Rattle.centre.specs.Centre.{fromDc, inRange, onRow}
-use Rattle.centre.specs.Law.{CentreLaw}
+use lib.{Dec.lt→ltb, IntN.{ℤ, pos, negsuc, negℤ, natAbs, _+ℤ_, _-ℤ_, +ℤ-invr, -ℤ-+ℤ-cancel, +ℤ-negℤ-cancel}}
+use lib.Signed.{_<ℤ_, ltZ, ltZ-yes, mag, nonNeg, pos-natAbs}
+use mir.{Syntax.w32, Val.{SFits, toZ, ofZ}, ValLaws.{toZ-pos, toZ-ofZ}}
+use Rattle.base.specs.Choice.{pick}
+use Rattle.centre.specs.{Centre.{fromDc, inRange, onRow}, Law.CentreLaw}
 
 -- from -h to h-1
 abbrev around : ℕ → ℤ → Bool

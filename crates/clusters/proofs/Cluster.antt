@@ -1,13 +1,7 @@
 -- Data numbers and data places of a cluster are the same, one for one, in each of the two symbols of a slot.
-use mathlib.Core.Path.{_≡_}
-use mathlib.Core.Bool.{Bool, true, false, not}
-use Prim.Native.Nat.{ℕ, _%_, _<_}
-use native.Mathlib.Omega.{arith}
-use lib.Dec.{T, eqb, ltb, eqb→eq, ltb→lt}
-use Rattle.base.specs.Choice.{pick}
-use Rattle.base.specs.Steps.{skip, unskip}
-use Rattle.base.proofs.Test.{failed}
-use Rattle.base.proofs.Table.{all}
+use Rattle.base.proofs.{Prelude.{_≡_, Bool, true, false, ℕ, _%_, _<_, arith, T, eqb, ltb, eqb→eq, ltb→lt}, Test.failed, Table.all}
+use mathlib.Core.Bool.{not}
+use Rattle.base.specs.{Choice.pick, Steps.{skip, unskip}}
 use Rattle.clusters.specs.Cluster.{isClusterPilot, firstPilot, secondPilot, clusterPlace, clusterData}
 use Rattle.clusters.proofs.Tables.{all-pairs}
 

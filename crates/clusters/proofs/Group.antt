@@ -1,13 +1,8 @@
 -- Major groups: their sizes, and numbers and groups, each one for one.
-use mathlib.Core.Path.{_≡_, _∙_}
-use mathlib.Core.List.{List}
-use Prim.Native.Nat.{ℕ, _+_, _-_, _*_, _%_, _<_, _≤_}
-use native.Mathlib.Omega.{arith}
-use lib.Dec.{T, eqb, ltb, leb, eqb→eq, ltb→lt, leb→le, lit<}
+use Rattle.base.proofs.{Prelude.{_≡_, _∙_, List, ℕ, _+_, _-_, _*_, _%_, _<_, _≤_, arith, T, eqb, ltb, leb, eqb→eq, ltb→lt, lit<}, Perm.Perm}
+use Rattle.base.proofs.{Table.{all, all-at}, Test.cases}
+use lib.Dec.{leb→le}
 use Rattle.base.specs.Steps.{entry}
-use Rattle.base.proofs.Perm.{Perm}
-use Rattle.base.proofs.Table.{all, all-at}
-use Rattle.base.proofs.Test.{cases}
 use Rattle.clusters.specs.Group.{clusterStarts, subchannelStarts, groupIn, groupSize, ofSize, baseOf, baseInverse}
 use Rattle.clusters.proofs.Tables.{b12-perm, b8-perm, all-pairs}
 

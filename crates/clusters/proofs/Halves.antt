@@ -1,16 +1,10 @@
 -- A loop that writes one entry of each half of a list a turn.
-use mathlib.Core.Path.{_≡_, ap, _∙_}
-use mathlib.Core.List.{List}
-use Prim.Native.Nat.{ℕ, _+_, _-_, _<_, _≤_}
-use native.Mathlib.Omega.{arith}
-use lib.Dec.{ltb}
-use lib.ListN.{length, getD, set, replicate, length-set, length-replicate}
+use Rattle.base.proofs.Prelude.{_≡_, ap, _∙_, List, ℕ, _+_, _-_, _<_, _≤_, arith, ltb, length, getD, set, replicate, length-set, length-replicate}
+use Rattle.base.proofs.Prelude.{ltb-true, ltb-false}
+use Rattle.base.proofs.{Tabulate.tabulated, Test.cases}
 use lib.Seq.{getD-set-same, getD-set-other}
 use borrow.Author.Count.{below-none, below-more}
-use borrow.Author.Tests.{ltb-true, ltb-false}
 use Rattle.base.specs.Tabulate.{tabulate}
-use Rattle.base.proofs.Tabulate.{tabulated}
-use Rattle.base.proofs.Test.{cases}
 
 -- a list of n + n entries: the first i of each half are those of f
 pub record Halves (n : ℕ) (f : ℕ → ℕ) (l : List ℕ) (i : ℕ) : Type 0 where

@@ -1,11 +1,7 @@
 -- The law of the renumbering: logical and physical clusters are the same, one for one.
-use Prim.Native.Nat.{ℕ, _*_}
-use lib.Dec.{lit<}
+use Rattle.base.proofs.{Prelude.{ℕ, _*_, lit<}, Perm.{Perm, rotation, compose}}
 use Rattle.base.specs.Steps.{rotate, unrotate, entry}
-use Rattle.base.proofs.Perm.{Perm, rotation, compose}
-use Rattle.clusters.specs.Table.{renumbering as R, renumberingInverse as R⁻¹}
-use Rattle.clusters.specs.Cluster.{renumber, unrenumber}
-use Rattle.clusters.specs.Law.{Renumbering}
+use Rattle.clusters.specs.{Table.{renumbering as R, renumberingInverse as R⁻¹}, Cluster.{renumber, unrenumber}, Law.Renumbering}
 use Rattle.clusters.proofs.Tables.{r-perm}
 
 -- logical by physical

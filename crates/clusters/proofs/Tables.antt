@@ -1,16 +1,9 @@
 -- R and the bases B are permutations, by one computed test for each direction; a base goes on past M; and pilots go by the parity of the symbol.
-use mathlib.Core.Path.{_≡_, refl}
-use mathlib.Core.Bool.{Bool}
-use mathlib.Core.List.{List}
-use Prim.Native.Nat.{ℕ, _+_, _*_, _%_, _<_}
-use native.Mathlib.Omega.{arith}
-use lib.Dec.{T, eqb, ltb, eqb→eq, ltb→lt}
-use Rattle.base.specs.Steps.{entry}
-use Rattle.base.proofs.Perm.{Perm}
+use Rattle.base.proofs.{Prelude.{_≡_, refl, Bool, List, ℕ, _+_, _*_, _%_, _<_, arith, T, eqb, ltb, eqb→eq, ltb→lt}, Perm.Perm}
 use Rattle.base.proofs.Table.{all, all-at, table-perm, permutation}
+use Rattle.base.specs.Steps.{entry}
 use Rattle.clusters.specs.Table.{renumbering, renumberingInverse, base12, base12Inverse, base8, base8Inverse}
-use Rattle.clusters.specs.Cluster.{isClusterPilot, firstPilot, secondPilot}
-use Rattle.clusters.specs.Law.{TableRules}
+use Rattle.clusters.specs.{Cluster.{isClusterPilot, firstPilot, secondPilot}, Law.TableRules}
 
 pub r-perm : Perm 120 (entry renumbering) (entry renumberingInverse)
 r-perm = table-perm 120 renumbering renumberingInverse refl refl tt tt

@@ -1,10 +1,6 @@
 -- Counting marks.
-use mathlib.Core.Path.{_≡_}
-use mathlib.Core.Bool.{Bool, true, false}
-use Prim.Native.Nat.{ℕ, zero, suc, _+_, _≤_}
-use native.Mathlib.Omega.{arith}
-use Rattle.base.specs.Choice.{pick}
-use Rattle.base.specs.Tabulate.{tabulate}
+use Rattle.base.proofs.Prelude.{_≡_, Bool, true, false, ℕ, zero, suc, _+_, _≤_, arith}
+use Rattle.base.specs.{Choice.pick, Tabulate.tabulate}
 use Rattle.collision.specs.Collision.{countOf}
 
 abbrev pub one : Bool → ℕ

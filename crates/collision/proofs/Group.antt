@@ -1,28 +1,16 @@
 -- Groups of optional FUSC: where a subchannel's point lies in group k, and that two are on one carrier where their elements of the field are the same.
-use mathlib.Core.Path.{_≡_, sym, ap, ap₂, _∙_}
-use Prim.Native.Nat.{ℕ, _+_, _*_, _<_}
-use native.Mathlib.Omega.{arith}
-use lib.Arith.{digits-lt}
-use lib.Bits.{bitXor}
-use lib.Dec.{lit<, eqb}
-use lib.IntN.{ℤ}
-use borrow.Author.Tests.{eqb-true, eqb-false, eq-eqb, ne-eqb}
-use Rattle.base.proofs.Test.{cases}
-use Rattle.base.proofs.Perm.{rotation}
-use Rattle.carriers.specs.Band.{binBand, carrierOf, usedOf}
-use Rattle.carriers.specs.Bin.{usedOfData, dataOfUsed}
-use Rattle.carriers.proofs.Guards.{bin-band, used-carrier}
-use Rattle.carriers.proofs.Bin.{data-used, used-lt}
+use Rattle.base.proofs.Prelude.{_≡_, sym, ap, ap₂, _∙_, ℕ, _+_, _*_, _<_, arith, digits-lt, lit<, eqb, eqb-true, eqb-false, eq-eqb, ne-eqb}
+use Rattle.base.proofs.{Test.cases, Perm.rotation}
+use lib.{Bits.bitXor, IntN.ℤ}
+use Rattle.carriers.specs.{Band.{binBand, carrierOf, usedOf}, Bin.{usedOfData, dataOfUsed}}
+use Rattle.carriers.proofs.{Guards.{bin-band, used-carrier}, Bin.{data-used, used-lt}}
 use Rattle.centre.specs.Centre.{fromDc, onRow}
 use Rattle.centre.proofs.Law.{centre-law}
-use Rattle.ofusc.specs.Width.{Width}
-use Rattle.ofusc.specs.Map.{groupOf, cellTerm, dataNumber}
+use Rattle.ofusc.specs.{Width.Width, Map.{groupOf, cellTerm, dataNumber}}
 use Rattle.ofusc_rows.specs.Model.{cellNumber, groupNumber}
-use Rattle.ofusc.proofs.Sequence.{pos}
-use Rattle.ofusc.proofs.Law.{element-lt}
+use Rattle.ofusc.proofs.{Sequence.pos, Law.element-lt}
 use Rattle.ofusc_rows.proofs.Row.{with-subchannel}
-use Rattle.map.specs.Setup.{setupWith}
-use Rattle.map.specs.Mode.{width, symbols, band, spotOf}
+use Rattle.map.specs.{Setup.setupWith, Mode.{width, symbols, band, spotOf}}
 use Rattle.map.proofs.Accept.{width-is}
 use Rattle.collision.specs.Collision.{indexIn, columnIn, ofuscHit}
 

@@ -1,14 +1,10 @@
 -- What the calls' inner functions ask and give.
-use mathlib.Core.Path.{_≡_, ap, _∙_}
-use mathlib.Core.Bool.{Bool, true}
-use Prim.Native.Nat.{ℕ, _*_, _/_, _≤_}
-use native.Mathlib.Omega.{arith}
+use Rattle.base.proofs.Prelude.{_≡_, ap, _∙_, Bool, true, ℕ, _*_, _/_, _≤_, arith}
 use Rattle.base.specs.Answer.{Answer, accepted}
 use Rattle.ofusc.specs.Width.{Width, n4, n8, n16, n32}
 use Rattle.map.specs.Question.{isFourSizes}
 use Rattle.map.proofs.Accept.{Sized, sized, four-sizes, width-is}
-use Rattle.collision.specs.declared.Collisions.{Collisions}
-use Rattle.collision.specs.Collision.{ofuscHit, answerOf}
+use Rattle.collision.specs.{declared.Collisions.Collisions, Collision.{ofuscHit, answerOf}}
 
 -- N of an accepted size, and its cells
 pub record Wide (size : ℕ) : Type 0 where

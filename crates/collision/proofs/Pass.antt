@@ -1,16 +1,9 @@
 -- One pass that sets a mark for each of 48 places and counts those that are set.
-use mathlib.Core.Path.{_≡_, refl, ap, _∙_}
-use mathlib.Core.Bool.{Bool, true, false}
-use mathlib.Core.List.{List}
-use Prim.Native.Nat.{ℕ, _+_, _<_, _≤_}
-use native.Mathlib.Numerals.{add-one}
-use native.Mathlib.Omega.{arith}
-use lib.ListN.{set, replicate, length-replicate}
-use mir.Syntax.{w64}
-use mir.Val.{Fits, boolByte}
-use Rattle.base.specs.Answer.{accepted}
-use Rattle.base.specs.Tabulate.{tabulate}
+use Rattle.base.proofs.Prelude.{_≡_, refl, ap, _∙_, Bool, true, false, List, ℕ, _+_, _<_, _≤_, arith, set, replicate, length-replicate}
 use Rattle.base.proofs.Tabulate.{WrittenAt, at-none, at-next, all-written}
+use native.Mathlib.Numerals.{add-one}
+use mir.{Syntax.w64, Val.{Fits, boolByte}}
+use Rattle.base.specs.{Answer.accepted, Tabulate.tabulate}
 use Rattle.collision.specs.Collision.{countOf, answerOf}
 use Rattle.collision.proofs.Count.{one, one-le, count-last, count-le}
 

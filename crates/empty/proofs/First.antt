@@ -1,26 +1,16 @@
 -- Emptying only the first carriers of a grid.
-use mathlib.Core.Path.{_≡_, refl, sym, ap, _∙_}
-use mathlib.Core.List.{List}
-use Prim.Native.Nat.{ℕ, _*_, _<_, _≤_}
-use native.Mathlib.Omega.{arith}
-use lib.Dec.{eqb, ltb}
-use lib.ListN.{length}
-use lib.Ieee.{Float}
-use borrow.Author.Tests.{eqb-true, eqb-false, ltb-false, le-ltb}
-use Rattle.base.specs.Answer.{accepted}
+use Rattle.base.proofs.Prelude.{_≡_, refl, sym, ap, _∙_, List, ℕ, _*_, _<_, _≤_, arith, eqb, ltb, length, eqb-true, eqb-false, ltb-false, le-ltb}
 use Rattle.base.proofs.Test.{cases}
+use lib.Ieee.{Float}
+use Rattle.base.specs.Answer.{accepted}
 use Rattle.map.specs.Setup.{Setup}
 use Rattle.mask.specs.Mask.{litSubchannels}
-use Rattle.points.specs.declared.Point.{Point}
-use Rattle.points.specs.Points.{pointAt, floatsOf}
+use Rattle.points.specs.{declared.Point.Point, Points.{pointAt, floatsOf}}
 use Rattle.points.proofs.Points.{length-floats, point-floats, by-points}
-use Rattle.lengths.specs.Length.{gridPoints}
-use Rattle.lengths.specs.Question.{askEmpty}
-use Rattle.lengths.specs.Model.{emptyRefusal}
+use Rattle.lengths.specs.{Length.gridPoints, Question.askEmpty, Model.emptyRefusal}
 use Rattle.lengths.proofs.Refusal.{EmptyAccepted, empty-numbered, empty-accepted}
-use Rattle.grid.specs.Grid.{Outcome, outcome}
+use Rattle.grid.specs.Grid.{Outcome, outcome, Leaves}
 use Rattle.empty.specs.Empty.{litStandsAt, emptyOf, emptiedFirst, emptyFirstOf}
-use Rattle.grid.specs.Grid.{Leaves}
 use Rattle.grid.proofs.Outcome.{left, refused-leaves, accepted-anew}
 use Rattle.empty.proofs.Rows.{by-count, first-all}
 

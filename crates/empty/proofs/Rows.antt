@@ -1,20 +1,10 @@
 -- The rows of a slot walked one after another: the points on the first carriers are taken, all others are as they were.
-use mathlib.Core.Path.{_≡_, refl, _∙_}
-use mathlib.Core.List.{List}
-use Prim.Native.Nat.{ℕ, _+_, _*_, _<_, _≤_}
-use native.Mathlib.Omega.{arith}
-use lib.Dec.{ltb}
-use lib.ListN.{length}
+use Rattle.base.proofs.{Prelude.{_≡_, refl, _∙_, List, ℕ, _+_, _*_, _<_, _≤_, arith, ltb, length, ltb-true, ltb-false, lt-ltb}, Test.cases}
 use lib.Ieee.{Float}
-use borrow.Author.Tests.{ltb-true, ltb-false, lt-ltb}
 use Rattle.base.specs.Choice.{pick}
-use Rattle.base.proofs.Test.{cases}
-use Rattle.map.specs.Setup.{Setup}
-use Rattle.map.specs.Mode.{symbols}
-use Rattle.map.specs.Model.{Valid}
+use Rattle.map.specs.{Setup.Setup, Mode.symbols, Model.Valid}
 use Rattle.mask.specs.Mask.{litSubchannels}
-use Rattle.points.specs.declared.Point.{Point}
-use Rattle.points.specs.Points.{pointAt, floatsOf}
+use Rattle.points.specs.{declared.Point.Point, Points.{pointAt, floatsOf}}
 use Rattle.points.proofs.Points.{length-floats, point-floats, by-points}
 use Rattle.lengths.specs.Length.{gridPoints}
 use Rattle.row_walk.specs.Model.{TakenTo, Took}

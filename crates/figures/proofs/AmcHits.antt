@@ -1,24 +1,13 @@
 -- The hits of AMC as places: whatever the slot's shape, two cells put index j of a subchannel on one carrier of one symbol just where they give the same v.
-use mathlib.Core.Path.{_≡_, sym, ap, ap₂, _∙_}
-use mathlib.Core.Bool.{true}
-use Prim.Native.Nat.{ℕ, _+_, _*_, _/_, _%_, _<_}
-use lib.Arith.{digits-mod}
-use borrow.Author.Tests.{eqb-true, eq-eqb}
+use Rattle.base.proofs.{Prelude.{_≡_, sym, ap, ap₂, _∙_, true, ℕ, _+_, _*_, _/_, _%_, _<_, digits-mod, eqb-true, eq-eqb}, Chain.same-accepted}
 use Rattle.base.specs.Answer.{accepted}
-use Rattle.base.proofs.Chain.{same-accepted}
 use Rattle.ofusc.specs.Width.{Width}
 use Rattle.ofusc.proofs.Sequence.{pos}
-use Rattle.amc.specs.declared.Shape.{Shape}
-use Rattle.amc.specs.Model.{IsShape}
-use Rattle.amc.specs.Map.{traffic, trafficNumber, dataNumber}
+use Rattle.amc.specs.{declared.Shape.Shape, Model.IsShape, Map.{traffic, trafficNumber, dataNumber}}
 use Rattle.amc.proofs.Law.{traffic-lt, traffic-back, offset-lt, number-below}
-use Rattle.map.specs.Place.{Place, usedCarrier, placeAt, placeOf}
-use Rattle.map.specs.Setup.{setupWith}
-use Rattle.map.specs.Mode.{shapeOf, width, subchannels, symbols, band, spotOf}
+use Rattle.map.specs.{Place.{Place, usedCarrier, placeAt, placeOf}, Setup.setupWith, Mode.{shapeOf, width, subchannels, symbols, band, spotOf}}
 use Rattle.map.specs.Model.{IsAmc, amc}
-use Rattle.map.proofs.Accept.{width-is}
-use Rattle.map.proofs.Choice.{amc-shape, amc-column}
-use Rattle.map.proofs.Law.{place-accepts}
+use Rattle.map.proofs.{Accept.width-is, Choice.{amc-shape, amc-column}, Law.place-accepts}
 use Rattle.collision.specs.Collision.{amcHit}
 use Rattle.collision.proofs.Group.{carrierAt, numberOf, number-at}
 use Rattle.figures.specs.Word.{SamePlace}

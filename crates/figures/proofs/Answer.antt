@@ -1,18 +1,9 @@
 -- What the two calls answer where they accept: the marks, one by one, and their count.
-use mathlib.Core.Path.{_≡_, refl, sym, ap, _∙_}
-use mathlib.Core.Bool.{Bool, false}
-use mathlib.Core.List.{List}
-use Prim.Native.Nat.{ℕ, _*_, _<_}
-use lib.ListN.{getD}
-use borrow.Author.Tests.{lt-ltb}
-use Rattle.base.specs.Answer.{Answer, accepted, refused}
-use Rattle.base.specs.Tabulate.{tabulate}
-use Rattle.base.proofs.Tabulate.{getD-tabulate}
-use Rattle.map.specs.Mode.{width, cells, subchannels}
-use Rattle.map.specs.Question.{isCell, isSubchannel}
+use Rattle.base.proofs.{Prelude.{_≡_, refl, sym, ap, _∙_, Bool, false, List, ℕ, _*_, _<_, getD, lt-ltb}, Tabulate.getD-tabulate}
+use Rattle.base.specs.{Answer.{Answer, accepted, refused}, Tabulate.tabulate}
+use Rattle.map.specs.{Mode.{width, cells, subchannels}, Question.{isCell, isSubchannel}}
 use Rattle.map.proofs.Accept.{size-passes, width-is}
-use Rattle.collision.specs.declared.Collisions.{Collisions}
-use Rattle.collision.specs.Collision.{countOf, ofuscHit, amcHit, answerOf, ofuscOf, amcOf}
+use Rattle.collision.specs.{declared.Collisions.Collisions, Collision.{countOf, ofuscHit, amcHit, answerOf, ofuscOf, amcOf}}
 use Rattle.figures.specs.Word.{Pair}
 
 -- optional FUSC

@@ -1,17 +1,14 @@
 -- What two cells add in group k, as a polynomial of 2^k: the first sequence goes by 2^k, the second by its square, and different cells have different coefficients.
-use mathlib.Core.Path.{_≡_, refl, sym, ap, ap₂, _∙_}
-use Prim.Native.Nat.{ℕ, zero, suc, _+_, _-_, _*_, _/_, _%_, _<_}
-use native.Mathlib.Nat.{pos-of-ne-zero, mod-lt, div-add-mod', div-lt-iff-lt-mul}
-use native.Mathlib.Omega.{arith}
-use lib.Bits.{bitXor}
-use lib.Dec.{eqb, ltb}
-use borrow.Author.Tests.{eqb-true, eqb-false, ne-eqb, ltb-true, ltb-false}
-use Rattle.base.specs.Choice.{pick}
+use Rattle.base.proofs.Prelude.{_≡_, refl, sym, ap, ap₂, _∙_, ℕ, zero, suc, _+_, _-_, _*_, _/_, _%_, _<_, mod-lt, div-add-mod', div-lt-iff-lt-mul}
+use Rattle.base.proofs.Prelude.{arith, eqb, ltb, eqb-true, eqb-false, ne-eqb, ltb-true, ltb-false}
 use Rattle.base.proofs.Test.{cases}
-use Rattle.ofusc.specs.Field.{times, power, p1, p2}
-use Rattle.ofusc.specs.Map.{term, cellTerm}
+use native.Mathlib.Nat.{pos-of-ne-zero}
+use lib.Bits.{bitXor}
+use Rattle.base.specs.Choice.{pick}
+use Rattle.ofusc.specs.{Field.{times, power, p1, p2}, Map.{term, cellTerm}}
 use Rattle.ofusc.proofs.Sequence.{term-zero, term-entry}
-use Rattle.figures.proofs.Field.{shift, Doubling, xor-swap, xor-zero, shift-lt, shift-sum, shift-add, shift-mod, shift-zero, shift-back, still, still-twice, three}
+use Rattle.figures.proofs.Field.{shift, Doubling, xor-swap, xor-zero, shift-lt, shift-sum, shift-add, shift-mod, shift-zero, shift-back, still}
+use Rattle.figures.proofs.Field.{still-twice, three}
 
 power-shift : (n i : ℕ) → power n 2 i ≡ shift n i 1
 unfolding power shift

@@ -1,18 +1,10 @@
 -- Counting marks, and sums.
-use mathlib.Core.Path.{_≡_, refl, sym, ap, _∙_}
-use mathlib.Core.Bool.{Bool, true, false}
-use mathlib.Core.List.{List, [], _∷_, _++_}
-use Prim.Native.Nat.{ℕ, zero, suc, _+_, _*_, _<_, _≤_}
-use native.Mathlib.Omega.{arith}
+use Rattle.base.proofs.Prelude.{_≡_, refl, sym, ap, _∙_, Bool, true, false, List, [], _∷_, _++_, ℕ, zero, suc, _+_, _*_, _<_, _≤_, arith, eqb, ltb}
+use Rattle.base.proofs.Prelude.{length, take, drop, eqb-true, eqb-false, ne-eqb, ltb-true, ltb-false}
+use Rattle.base.proofs.{Test.{cases, true-false}, Tabulate.{length-tabulate, getD-tabulate}}
 use native.Mathlib.Nat.{le-of-suc-le-suc, zero-mul, suc-mul}
-use lib.Arith.{lt-of-le-ne}
-use lib.Dec.{eqb, ltb}
-use lib.ListN.{length, take, drop, length-take, length-drop, take-append-drop, List·getD-eq-default}
-use lib.Seq.{getD-take, getD-drop, drop-drop}
-use borrow.Author.Tests.{eqb-true, eqb-false, ne-eqb, ltb-true, ltb-false}
+use lib.{Arith.lt-of-le-ne, ListN.{length-take, length-drop, take-append-drop, List·getD-eq-default}, Seq.{getD-take, getD-drop, drop-drop}}
 use Rattle.base.specs.Tabulate.{tabulate}
-use Rattle.base.proofs.Test.{cases, true-false}
-use Rattle.base.proofs.Tabulate.{length-tabulate, getD-tabulate}
 use Rattle.collision.specs.Collision.{countOf}
 use Rattle.collision.proofs.Count.{one}
 use Rattle.figures.specs.Word.{Marked, inRow, sum}

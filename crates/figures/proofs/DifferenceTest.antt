@@ -1,13 +1,7 @@
 -- Differences of entries of P, by a test that is computed over document 004's list.
-use mathlib.Core.Path.{_≡_, sym, ap₂, _∙_}
-use mathlib.Core.Bool.{Bool}
-use Prim.Native.Nat.{ℕ, suc, _+_, _%_, _<_}
-use native.Mathlib.Omega.{arith}
-use lib.Dec.{eqb, eqb→eq}
+use Rattle.base.proofs.{Prelude.{_≡_, sym, ap₂, _∙_, Bool, ℕ, suc, _+_, _%_, _<_, arith, eqb, eqb→eq}, Table.{all, all-at}}
 use Rattle.base.specs.Steps.{entry}
-use Rattle.base.proofs.Table.{all, all-at}
-use Rattle.amc.specs.Table.{positions}
-use Rattle.amc.specs.Element.{Element, baseSeven, subtract, sequence}
+use Rattle.amc.specs.{Table.positions, Element.{Element, baseSeven, subtract, sequence}}
 use Rattle.amc.proofs.Tables.{printed, powers}
 
 -- where the difference of two elements stands in P

@@ -1,10 +1,8 @@
 -- The algebra behind the figures of optional FUSC, once over N. With x = 2^k, a hit in group k means d + A·x + B·x² = 0; A and B are not both 0 where the cells differ, and then at most two x solve it. Doubling is all the multiplication that this takes.
-use mathlib.Core.Path.{_≡_, refl, sym, ap, _∙_}
-use Prim.Native.Nat.{ℕ, zero, suc, _+_, _-_, _*_, _/_, _%_, _<_}
-use native.Mathlib.Nat.{zero-add, suc-add, zero-mul, suc-mul, div-add-mod'}
-use native.Mathlib.Omega.{arith}
-use lib.Bits.{bitXor, xor-self, xor-comm, xor-zero-l}
+use Rattle.base.proofs.Prelude.{_≡_, refl, sym, ap, _∙_, ℕ, zero, suc, _+_, _-_, _*_, _/_, _%_, _<_, div-add-mod', arith}
 use Rattle.base.proofs.Xor.{xor-assoc, xor-twice}
+use native.Mathlib.Nat.{zero-add, suc-add, zero-mul, suc-mul}
+use lib.Bits.{bitXor, xor-self, xor-comm, xor-zero-l}
 use Rattle.ofusc.specs.Field.{times}
 
 -- x times 2^i, by doubling i times

@@ -1,13 +1,8 @@
 -- The fields of the four N, each fact a test that is computed.
-use mathlib.Core.Bool.{Bool, true}
-use Prim.Native.Nat.{ℕ, suc, _-_}
-use lib.Dec.{eqb, ltb, eqb→eq, ltb→lt}
+use Rattle.base.proofs.{Prelude.{Bool, true, ℕ, suc, _-_, eqb, ltb, eqb→eq, ltb→lt, eq-eqb}, Table.{all, all-at}}
 use lib.Bits.{bitXor}
-use borrow.Author.Tests.{eq-eqb}
 use Rattle.base.specs.Choice.{pick}
-use Rattle.base.proofs.Table.{all, all-at}
-use Rattle.ofusc.specs.Width.{Width}
-use Rattle.ofusc.specs.Field.{modulus, coefficient, product, remainder, times}
+use Rattle.ofusc.specs.{Width.Width, Field.{modulus, coefficient, product, remainder, times}}
 use Rattle.ofusc.proofs.Sequence.{at-width, size, sum-lt}
 use Rattle.figures.proofs.Field.{shift, Doubling}
 

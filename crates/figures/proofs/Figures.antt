@@ -1,37 +1,21 @@
 -- The planners' figures hold.
-use mathlib.Core.Path.{_≡_, refl, sym, _∙_, subst, subst⁻¹}
+use Rattle.base.proofs.Prelude.{_≡_, refl, sym, _∙_, subst, subst⁻¹, true, ℕ, _+_, _-_, _*_, _/_, _<_, _≤_, arith, eqb-true, eq-eqb}
+use Rattle.base.proofs.{Chain.same-accepted, Tabulate.length-tabulate}
 use mathlib.Core.Logic.{_↔_}
-use mathlib.Core.Bool.{true}
-use Prim.Native.Nat.{ℕ, _+_, _-_, _*_, _/_, _<_, _≤_}
-use native.Mathlib.Omega.{arith}
-use borrow.Author.Tests.{eqb-true, eq-eqb}
-use Rattle.base.specs.Answer.{accepted}
-use Rattle.base.specs.Steps.{skip}
-use Rattle.base.specs.Tabulate.{tabulate}
-use Rattle.base.proofs.Chain.{same-accepted}
-use Rattle.base.proofs.Tabulate.{length-tabulate}
-use Rattle.carriers.specs.Band.{carrierOf}
-use Rattle.carriers.specs.Bin.{binPilotPlace, usedOfData}
-use Rattle.ofusc.specs.Width.{Width, n4, n8, n16, n32}
-use Rattle.ofusc.specs.Field.{modulus, coefficient, product, remainder, times, power, p1, p2}
+use Rattle.base.specs.{Answer.accepted, Steps.skip, Tabulate.tabulate}
+use Rattle.carriers.specs.{Band.carrierOf, Bin.{binPilotPlace, usedOfData}}
+use Rattle.ofusc.specs.{Width.{Width, n4, n8, n16, n32}, Field.{modulus, coefficient, product, remainder, times, power, p1, p2}}
 use Rattle.ofusc.specs.Map.{groupOf, term, cellTerm, dataNumber}
-use Rattle.amc.specs.Element.{add, sequence, times as product′}
-use Rattle.amc.specs.Map.{off, zeroRule, elementOf, traffic}
-use Rattle.map.specs.Setup.{setupWith}
-use Rattle.map.specs.Mode.{width, cells, subchannels, symbols, band, spotOf}
-use Rattle.map.specs.Question.{isFourSizes, isCell, isSubchannel}
+use Rattle.amc.specs.{Element.{add, sequence, times as product′}, Map.{off, zeroRule, elementOf, traffic}}
+use Rattle.map.specs.{Setup.setupWith, Mode.{width, cells, subchannels, symbols, band, spotOf}, Question.{isFourSizes, isCell, isSubchannel}}
 use Rattle.map.specs.Place.{Place, placeOf}
-use Rattle.map.proofs.Accept.{width-is}
-use Rattle.map.proofs.Law.{placing}
-use Rattle.map.proofs.ByMode.{in-ofusc}
+use Rattle.map.proofs.{Accept.width-is, Law.placing, ByMode.in-ofusc}
 use Rattle.collision.specs.Collision.{countOf, indexIn, columnIn, ofuscHit, amcHit, answerOf, ofuscOf, amcOf}
-use Rattle.figures.specs.Word.{Pair, InGroup, Marked, Reached, most}
-use Rattle.figures.specs.Figures.{Figures}
+use Rattle.figures.specs.{Word.{Pair, InGroup, Marked, Reached, most}, Figures.Figures}
 use Rattle.figures.proofs.Count.{count-all, count-rows, sum-same}
 use Rattle.figures.proofs.Answer.{ofusc-hits, ofusc-mark, ofusc-count, ofusc-counted, amc-mark, amc-count, amc-counted}
 use Rattle.figures.proofs.Placing.{ofusc-placed, index-is, index-in}
-use Rattle.figures.proofs.OfuscHits.{row-two, all-counts, same-subchannel, other-subchannel, met, meets}
-use Rattle.figures.proofs.AmcHits.{amc-met, amc-meets}
+use Rattle.figures.proofs.{OfuscHits.{row-two, all-counts, same-subchannel, other-subchannel, met, meets}, AmcHits.{amc-met, amc-meets}}
 use Rattle.figures.proofs.ThreeKinds.{at-most-three}
 
 a-index : {n : ℕ} → Width n → (cell slot s m k : ℕ) (p : Place) → k < 48 → placeOf (setupWith 2 (64 * n) cell) slot s m ≡ accepted p

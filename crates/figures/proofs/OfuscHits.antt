@@ -1,31 +1,17 @@
 -- The hits of optional FUSC, from the algebra of the field: in a row, in a group, for one cell, and as places.
-use mathlib.Core.Path.{_≡_, refl, sym, ap, _∙_, subst⁻¹}
-use mathlib.Core.Bool.{Bool, true}
-use Prim.Native.Nat.{ℕ, _+_, _-_, _*_, _<_, _≤_}
-use native.Mathlib.Omega.{arith}
+use Rattle.base.proofs.Prelude.{_≡_, refl, sym, ap, _∙_, subst⁻¹, Bool, true, ℕ, _+_, _-_, _*_, _<_, _≤_, arith, eqb, eqb-true, eq-eqb, ne-eqb}
+use Rattle.base.proofs.{Chain.same-accepted, Xor.xor-twice}
 use lib.Bits.{bitXor}
-use lib.Dec.{eqb}
-use borrow.Author.Tests.{eqb-true, eq-eqb, ne-eqb}
-use Rattle.base.specs.Answer.{accepted}
-use Rattle.base.specs.Tabulate.{tabulate}
-use Rattle.base.proofs.Chain.{same-accepted}
-use Rattle.base.proofs.Xor.{xor-twice}
-use Rattle.ofusc.specs.Width.{Width}
-use Rattle.ofusc.specs.Map.{cellTerm, dataNumber}
-use Rattle.ofusc.proofs.Sequence.{sum-lt, cell-term-lt}
-use Rattle.ofusc.proofs.Law.{element-lt}
-use Rattle.map.specs.Place.{Place, placeOf}
-use Rattle.map.specs.Setup.{setupWith}
+use Rattle.base.specs.{Answer.accepted, Tabulate.tabulate}
+use Rattle.ofusc.specs.{Width.Width, Map.{cellTerm, dataNumber}}
+use Rattle.ofusc.proofs.{Sequence.{sum-lt, cell-term-lt}, Law.element-lt}
+use Rattle.map.specs.{Place.{Place, placeOf}, Setup.setupWith}
 use Rattle.map.proofs.Law.{placing}
 use Rattle.collision.specs.Collision.{countOf, indexIn, ofuscHit}
 use Rattle.figures.specs.Word.{Allowed, Pair, InGroup, Marked, inRow, SameInGroup, sum}
-use Rattle.collision.proofs.Count.{one}
-use Rattle.figures.proofs.Count.{marked-at, marked-in-row, no-three, count-all, count-none, sum-same, sum-one, columns}
-use Rattle.collision.proofs.Group.{carrierAt, element, number-in, same-element, same-test, hit-is}
-use Rattle.figures.proofs.Field.{xor-cross}
-use Rattle.figures.proofs.FieldTest.{field}
-use Rattle.figures.proofs.Cells.{three-groups}
-use Rattle.figures.proofs.Placing.{at, ofusc-placed, index-lt, index-is, index-in}
+use Rattle.collision.proofs.{Count.one, Group.{carrierAt, element, number-in, same-element, same-test, hit-is}}
+use Rattle.figures.proofs.{Count.{marked-at, marked-in-row, no-three, count-all, count-none, sum-same, sum-one, columns}, Field.xor-cross}
+use Rattle.figures.proofs.{FieldTest.field, Cells.three-groups, Placing.{at, ofusc-placed, index-lt, index-is, index-in}}
 
 -- in each group one subchannel of cell b is on the carrier of s under a: that of the element less what b adds
 module _ {n : ℕ} (w : Width n) (a b s : ℕ) (hs : s < n) where

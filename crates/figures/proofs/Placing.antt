@@ -1,21 +1,10 @@
 -- What `place` answers in optional FUSC, by data numbers, and who is in group k.
-use mathlib.Core.Path.{_≡_, refl, sym, ap, _∙_}
-use Prim.Native.Nat.{ℕ, _+_, _-_, _*_, _/_, _<_}
-use native.Mathlib.Omega.{arith}
-use lib.Arith.{digits-div, digits-lt}
-use lib.Dec.{lit<}
+use Rattle.base.proofs.{Prelude.{_≡_, refl, sym, ap, _∙_, ℕ, _+_, _-_, _*_, _/_, _<_, arith, digits-div, digits-lt, lit<}, Perm.rotation}
 use Rattle.base.specs.Answer.{accepted}
-use Rattle.base.proofs.Perm.{rotation}
-use Rattle.ofusc.specs.Width.{Width}
-use Rattle.ofusc.specs.Map.{groupOf, dataNumber}
-use Rattle.ofusc.proofs.Sequence.{pos}
-use Rattle.ofusc.proofs.Law.{element-lt, group-digit, law}
-use Rattle.map.specs.Setup.{setupWith}
-use Rattle.map.specs.Mode.{width, symbols, subchannels, band, spotOf}
-use Rattle.map.specs.Place.{Place, usedCarrier, placeAt, placeOf}
-use Rattle.map.specs.Model.{ofusc}
-use Rattle.map.proofs.Accept.{width-is}
-use Rattle.map.proofs.Law.{place-accepts}
+use Rattle.ofusc.specs.{Width.Width, Map.{groupOf, dataNumber}}
+use Rattle.ofusc.proofs.{Sequence.pos, Law.{element-lt, group-digit, law}}
+use Rattle.map.specs.{Setup.setupWith, Mode.{width, symbols, subchannels, band, spotOf}, Place.{Place, usedCarrier, placeAt, placeOf}, Model.ofusc}
+use Rattle.map.proofs.{Accept.width-is, Law.place-accepts}
 use Rattle.collision.specs.Collision.{indexIn}
 use Rattle.figures.specs.Word.{InGroup}
 use Rattle.collision.proofs.Group.{carrierAt, one-symbol, same-number, element, number-in}

@@ -1,25 +1,14 @@
 -- At most three indices of AMC collide: a hit is one of three kinds, the first cell's zero rule, the second's, or equal sums, and each kind has one index at most.
-use mathlib.Core.Path.{_≡_, sym, ap, _∙_}
-use mathlib.Core.Bool.{Bool, true, false}
-use Prim.Native.Nat.{ℕ, suc, _+_, _-_, _%_, _/_, _<_, _≤_}
-use native.Mathlib.Omega.{arith}
-use lib.Dec.{lit<, eqb}
-use borrow.Author.Tests.{eqb-true, eqb-false, eq-eqb}
-use Rattle.base.specs.Steps.{entry, unrotate}
-use Rattle.base.specs.Tabulate.{tabulate}
-use Rattle.base.proofs.Test.{cases}
-use Rattle.base.proofs.Perm.{rotation}
-use Rattle.amc.specs.Table.{positions}
-use Rattle.amc.specs.Element.{Element, element, baseSeven, add, subtract, sequence}
-use Rattle.amc.specs.Map.{off, elementOf, traffic}
-use Rattle.amc.proofs.Digit.{Proper, same-number, number-digits, add-proper, subtract-add}
-use Rattle.amc.proofs.Tables.{powers}
-use Rattle.amc.proofs.ZeroRule.{rule-other}
+use Rattle.base.proofs.Prelude.{_≡_, sym, ap, _∙_, Bool, true, false, ℕ, suc, _+_, _-_, _%_, _/_, _<_, _≤_, arith, lit<, eqb, eqb-true, eqb-false}
+use Rattle.base.proofs.Prelude.{eq-eqb}
+use Rattle.base.proofs.{Test.cases, Perm.rotation}
+use Rattle.base.specs.{Steps.{entry, unrotate}, Tabulate.tabulate}
+use Rattle.amc.specs.{Table.positions, Element.{Element, element, baseSeven, add, subtract, sequence}, Map.{off, elementOf, traffic}}
+use Rattle.amc.proofs.{Digit.{Proper, same-number, number-digits, add-proper, subtract-add}, Tables.powers, ZeroRule.rule-other}
 use Rattle.amc.proofs.Law.{off-proper, turn-lt, traffic-number}
 use Rattle.collision.specs.Collision.{countOf, amcHit}
 use Rattle.collision.proofs.Count.{one, one-le}
-use Rattle.figures.proofs.Count.{no-two-of, count-cover}
-use Rattle.figures.proofs.DifferenceTest.{distance, difference}
+use Rattle.figures.proofs.{Count.{no-two-of, count-cover}, DifferenceTest.{distance, difference}}
 
 abbrev turned : ℕ → ℕ → ℕ
 turned cell j = (j + cell % 48) % 48

@@ -1,10 +1,7 @@
 -- The outcome of a call with a buffer, by the number that its questions come to.
-use mathlib.Core.Path.{_≡_, refl, sym, ap, _∙_}
-use mathlib.Core.List.{List}
-use Prim.Native.Nat.{ℕ}
+use Rattle.base.proofs.{Prelude.{_≡_, refl, sym, ap, _∙_, List, ℕ}, Chain.{numbered, yes-all, no-first, number-is}}
 use lib.Ieee.{Float}
 use Rattle.base.specs.Answer.{Answer, accepted, refused, refusalOf}
-use Rattle.base.proofs.Chain.{numbered, yes-all, no-first, number-is}
 use Rattle.grid.specs.Grid.{Outcome, outcome}
 
 -- an outcome's number is that of its answer

@@ -1,41 +1,23 @@
 -- A slot's points and the places of its grid: from the law of the map.
-use mathlib.Core.Path.{_≡_, refl, sym, ap, _∙_}
-use mathlib.Core.Bool.{Bool, true, false}
-use mathlib.Core.List.{List}
-use Prim.Native.Nat.{ℕ, _+_, _*_, _/_, _%_, _<_}
-use native.Mathlib.Nat.{mod-lt, div-add-mod', div-lt-iff-lt-mul}
-use native.Mathlib.Omega.{arith}
-use lib.ListN.{length}
-use lib.Ieee.{Float}
-use lib.Arith.{digits-lt, digits-div, digits-mod}
-use Rattle.base.specs.Choice.{pick}
-use Rattle.base.specs.Answer.{accepted}
-use Rattle.carriers.specs.declared.Band.{Band}
-use Rattle.carriers.specs.declared.Spot.{Spot}
+use Rattle.base.proofs.Prelude.{_≡_, refl, sym, ap, _∙_, Bool, true, false, List, ℕ, _+_, _*_, _/_, _%_, _<_, mod-lt, div-add-mod', div-lt-iff-lt-mul}
+use Rattle.base.proofs.Prelude.{arith, length, digits-lt, digits-div, digits-mod}
 use Rattle.base.proofs.Tabulate.{turned-below}
-use Rattle.carriers.specs.Band.{carrierOf, usedOf}
-use Rattle.carriers.specs.Law.{DataSpot}
+use lib.Ieee.{Float}
+use Rattle.base.specs.{Choice.pick, Answer.accepted}
+use Rattle.carriers.specs.{declared.Band.Band, declared.Spot.Spot, Band.{carrierOf, usedOf}, Law.DataSpot}
 use Rattle.carriers.proofs.Guards.{carrier-lt, used-carrier}
 use Rattle.centre.specs.Centre.{fromDc}
 use Rattle.centre.proofs.Law.{one-column}
-use Rattle.map.specs.Setup.{Setup}
-use Rattle.map.specs.Mode.{subchannels, symbols, band, isPilot, spotOf}
-use Rattle.map.specs.Place.{Content, guard, point, Place, usedCarrier, placeAt, contentOf}
-use Rattle.map.specs.Model.{Valid}
-use Rattle.map.proofs.Slot.{slot-law, band-law, centred}
-use Rattle.map.proofs.Law.{content-placed, locate-column, placed-where-located, placing}
+use Rattle.map.specs.{Setup.Setup, Mode.{subchannels, symbols, band, isPilot, spotOf}}
+use Rattle.map.specs.{Place.{Content, guard, point, Place, usedCarrier, placeAt, contentOf}, Model.Valid}
+use Rattle.map.proofs.{Slot.{slot-law, band-law, centred}, Law.{content-placed, locate-column, placed-where-located, placing}}
 use Rattle.mask.specs.Mask.{isLit, isUsedLit, litContent}
 use Rattle.mask.proofs.Law.{point-lit}
 use Rattle.lengths.specs.Length.{gridPoints}
-use Rattle.grid.specs.Row.{columnPosition, usedPosition, rowOf, columnOf}
-use Rattle.grid.specs.Grid.{contentAt, standsAt}
-use Rattle.grid.specs.Grid.{PlacedIn}
-use Rattle.points.specs.declared.Point.{Point}
-use Rattle.points.specs.Points.{pointAt, floatsOf}
-use Rattle.points.specs.Model.{puts, turned, Within}
+use Rattle.grid.specs.{Row.{columnPosition, usedPosition, rowOf, columnOf}, Grid.{contentAt, standsAt, PlacedIn}}
+use Rattle.points.specs.{declared.Point.Point, Points.{pointAt, floatsOf}, Model.{puts, turned, Within}}
 use Rattle.points.proofs.Points.{length-floats, puts-as}
-use Rattle.rows.specs.declared.CarrierRow.{CarrierRow}
-use Rattle.rows.specs.Model.{pointPlace, RowOf}
+use Rattle.rows.specs.{declared.CarrierRow.CarrierRow, Model.{pointPlace, RowOf}}
 
 -- a grid by its points has the length that is asked for
 pub floats-long : (setup : Setup) (f : ℕ → Point) → length (floatsOf (gridPoints setup) f) ≡ 2 * gridPoints setup

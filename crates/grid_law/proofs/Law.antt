@@ -1,49 +1,35 @@
 -- THE LAW OF THE GRID: it rests on the laws of the map and of the mask, and on no mode's text.
-use mathlib.Core.Path.{_≡_, refl, sym, ap, _∙_, subst}
-use mathlib.Core.Bool.{true, false}
-use mathlib.Core.List.{List, [], _∷_}
-use Prim.Native.Nat.{ℕ, _+_, _*_, _/_, _%_, _<_}
-use native.Mathlib.Nat.{mod-lt, div-add-mod', div-lt-iff-lt-mul}
-use native.Mathlib.Omega.{arith}
-use lib.Arith.{digits-div, digits-mod}
-use lib.Dec.{ltb}
-use lib.ListN.{length}
-use lib.IntN.{ℤ}
-use lib.Ieee.{Float}
-use borrow.Author.Tests.{eq-eqb, ne-eqb}
-use Rattle.base.specs.Choice.{pick}
-use Rattle.base.specs.Answer.{accepted}
+use Rattle.base.proofs.Prelude.{_≡_, refl, sym, ap, _∙_, subst, true, false, List, [], _∷_, ℕ, _+_, _*_, _/_, _%_, _<_, mod-lt, div-add-mod'}
+use Rattle.base.proofs.Prelude.{div-lt-iff-lt-mul, arith, digits-div, digits-mod, ltb, length, eq-eqb, ne-eqb}
 use Rattle.base.proofs.Test.{cases}
+use lib.{IntN.ℤ, Ieee.Float}
+use Rattle.base.specs.{Choice.pick, Answer.accepted}
 use Rattle.carriers.specs.Band.{carrierOf, usedOf}
 use Rattle.carriers.proofs.Guards.{carrier-lt, used-carrier}
 use Rattle.centre.specs.Centre.{fromDc}
-use Rattle.map.specs.Setup.{Setup}
-use Rattle.map.specs.Mode.{subchannels, symbols, band, isPilot, spotOf}
-use Rattle.map.specs.Law.{Passes}
+use Rattle.map.specs.{Setup.Setup, Mode.{subchannels, symbols, band, isPilot, spotOf}, Law.Passes}
 use Rattle.map.specs.Place.{Place, Content, guard, dc, pilot, point, usedCarrier, placeAt, placeOf, contentOf}
-use Rattle.map.proofs.ByMode.{few}
-use Rattle.map.proofs.Slot.{slot-law, band-law, centred}
+use Rattle.map.proofs.{ByMode.few, Slot.{slot-law, band-law, centred}}
 use Rattle.map.proofs.Law.{setup-asked, placing, place-accepts, content-placed, dc-content, pilot-content}
 use Rattle.mask.specs.Mask.{isMask, isLit, isUsedLit, litContent, litSubchannels, litRank, ofLitRank, allLit}
 use Rattle.mask.proofs.Law.{mask-law, point-lit}
-use Rattle.points.specs.declared.Point.{Point}
-use Rattle.points.specs.Points.{zeroPoint, pointAt, floatsOf}
+use Rattle.points.specs.{declared.Point.Point, Points.{zeroPoint, pointAt, floatsOf}}
 use Rattle.points.proofs.Points.{point-floats, by-points}
 use Rattle.lengths.specs.Length.{gridPoints, litPointsLength, gridLength}
+use Rattle.lengths.proofs.Refusal.{MaskAccepted, GroundAccepted, LayAccepted, LookAccepted, ground-numbered, ground-0, lay-numbered, lay-unlit, lay-0}
+use Rattle.lengths.proofs.Refusal.{empty-numbered, empty-0, look-0}
 use Rattle.lengths.proofs.Length.{lengths-listed, all-lit-length}
-use Rattle.lengths.proofs.Refusal.{MaskAccepted, GroundAccepted, LayAccepted, LookAccepted, ground-numbered, ground-0, lay-numbered, lay-unlit, lay-0, empty-numbered, empty-0, look-0}
-use Rattle.grid.specs.Row.{columnPosition, usedPosition, rowOf, columnOf}
-use Rattle.grid.specs.Grid.{Leaves, contentAt, pointNumber, standsAt, PlacedIn}
+use Rattle.grid.specs.{Row.{columnPosition, usedPosition, rowOf, columnOf}, Grid.{Leaves, contentAt, pointNumber, standsAt, PlacedIn}}
 use Rattle.ground.specs.Ground.{bare, groundOf}
 use Rattle.lay.specs.Lay.{relaid, layOf}
 use Rattle.empty.specs.Empty.{emptied, emptyOf, emptyFirstOf}
 use Rattle.look.specs.Look.{data-with, sight, lookOf}
+use Rattle.grid_law.specs.Law.{Lay, Lays, no-lay, lay-then, Never, none, another, LastLay, here, later, ownPoints, LaidGrid, FilledGrid}
+use Rattle.grid_law.specs.Law.{GridLaw}
 use Rattle.grid_law.specs.Filled.{held, filled, heldAll, filledAll}
-use Rattle.grid_law.specs.Law.{Lay, Lays, no-lay, lay-then, Never, none, another, LastLay, here, later, ownPoints, LaidGrid, FilledGrid, GridLaw}
 use Rattle.grid.proofs.Outcome.{refused-leaves, accepted-anew, accepted-number}
 use Rattle.grid.proofs.Slot.{floats-long, row-position, column-position, position-lt, stands-lt, stands-alone, lit-holds, point-stands, placed-there}
-use Rattle.ground.proofs.Left.{ground-fits, ground-long, ground-at}
-use Rattle.ground.proofs.Alike.{ground-mod-3, ground-always, every-cell}
+use Rattle.ground.proofs.{Left.{ground-fits, ground-long, ground-at}, Alike.{ground-mod-3, ground-always, every-cell}}
 use Rattle.lay.proofs.Left.{lay-fits, lay-long, lay-at}
 use Rattle.empty.proofs.First.{refused-alike, of-all, of-none, then-more, left-at}
 use Rattle.look.proofs.Looked.{look-done}

@@ -1,29 +1,16 @@
 -- Which grounds are the same: those of slots whose pilots are at the same places, and where all is lit those of all cells.
-use mathlib.Core.Path.{_≡_, ap, _∙_}
-use mathlib.Core.List.{List}
+use Rattle.base.proofs.{Prelude.{_≡_, ap, _∙_, List, ℕ, _+_, _*_, _%_, _<_, length, lt-ltb}, Test.cases}
 use mathlib.Core.Logic.{_⊎_, ⊎-elim}
-use Prim.Native.Nat.{ℕ, _+_, _*_, _%_, _<_}
-use lib.ListN.{length}
 use lib.Ieee.{Float}
-use borrow.Author.Tests.{lt-ltb}
 use Rattle.base.specs.Answer.{Answer, accepted, ask}
-use Rattle.base.proofs.Test.{cases}
 use Rattle.carriers.specs.Band.{usedOf, isGuard, isDc}
-use Rattle.map.specs.Setup.{Setup, setupLent}
-use Rattle.map.specs.Mode.{symbols, band, isPilot}
-use Rattle.map.specs.Question.{isSlot}
-use Rattle.map.specs.Place.{dataAt, contentOf}
-use Rattle.map.specs.Model.{Valid}
-use Rattle.map.proofs.Accept.{passes}
-use Rattle.map.proofs.Alike.{alike-mod-3, alike-by-threes, pilots-down, pilots-alike, same-symbols, same-band, same-pilots}
+use Rattle.map.specs.{Setup.{Setup, setupLent}, Mode.{symbols, band, isPilot}, Question.isSlot, Place.{dataAt, contentOf}, Model.Valid}
+use Rattle.map.proofs.{Accept.passes, Alike.{alike-mod-3, alike-by-threes, pilots-down, pilots-alike, same-symbols, same-band, same-pilots}}
 use Rattle.mask.specs.Mask.{isMask, isUsedLit, litContent, allLit}
 use Rattle.mask.proofs.Law.{mask-law}
-use Rattle.points.specs.declared.Point.{Point}
-use Rattle.points.specs.Points.{floatsOf}
-use Rattle.lengths.specs.Length.{gridPoints}
-use Rattle.lengths.specs.Question.{isGrid, askGround}
-use Rattle.grid.specs.Row.{rowOf, columnOf}
-use Rattle.grid.specs.Grid.{Outcome, outcome}
+use Rattle.points.specs.{declared.Point.Point, Points.floatsOf}
+use Rattle.lengths.specs.{Length.gridPoints, Question.{isGrid, askGround}}
+use Rattle.grid.specs.{Row.{rowOf, columnOf}, Grid.{Outcome, outcome}}
 use Rattle.ground.specs.Ground.{bare, grounded, groundOf}
 
 -- ---- the ground goes by its pilots

@@ -1,20 +1,14 @@
 -- A ground that is accepted: what it asked, and what stands then at each place of the grid.
-use mathlib.Core.Path.{_≡_, refl, ap, _∙_}
-use mathlib.Core.List.{List}
-use Prim.Native.Nat.{ℕ, _*_, _<_}
-use lib.ListN.{length}
+use Rattle.base.proofs.Prelude.{_≡_, refl, ap, _∙_, List, ℕ, _*_, _<_, length}
 use lib.Ieee.{Float}
 use Rattle.base.specs.Answer.{accepted}
 use Rattle.map.specs.Setup.{Setup}
-use Rattle.points.specs.declared.Point.{Point}
-use Rattle.points.specs.Points.{pointAt}
+use Rattle.points.specs.{declared.Point.Point, Points.pointAt}
 use Rattle.points.proofs.Points.{point-floats}
-use Rattle.lengths.specs.Length.{gridPoints}
-use Rattle.lengths.specs.Model.{groundRefusal}
+use Rattle.lengths.specs.{Length.gridPoints, Model.groundRefusal}
 use Rattle.lengths.proofs.Refusal.{GroundAccepted, ground-numbered, ground-accepted}
 use Rattle.grid.specs.Grid.{Leaves, contentAt}
-use Rattle.grid.proofs.Outcome.{left}
-use Rattle.grid.proofs.Slot.{floats-long}
+use Rattle.grid.proofs.{Outcome.left, Slot.floats-long}
 use Rattle.ground.specs.Ground.{bare, grounded, groundOf}
 
 module _ (setup : Setup) (mask slot : ℕ) (p : Point) (old ground : List Float) (e : Leaves (groundOf setup mask slot p old) ground) where

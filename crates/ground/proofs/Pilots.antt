@@ -1,38 +1,24 @@
 -- The ground: the pass over the pilots of a cleared grid puts on every pilot's place what the ground has there.
-use mathlib.Core.Path.{_≡_, refl, sym, ap, _∙_, subst}
-use mathlib.Core.Bool.{true}
-use mathlib.Core.List.{List, [], _∷_}
-use mathlib.Core.Logic.{_⊎_, inl, inr, ⊎-elim}
-use Prim.Native.Nat.{ℕ, _+_, _-_, _*_, _/_, _%_, _<_, _≤_}
-use native.Mathlib.Nat.{mod-lt, div-add-mod', mul-le-mul-right}
-use native.Mathlib.Omega.{arith}
-use lib.Arith.{digits-lt}
-use lib.Dec.{eqb, ltb}
-use lib.ListN.{length, getD, replicate, length-replicate}
-use lib.Ieee.{Float}
-use borrow.Author.Tests.{eqb-true, eqb-false, ltb-true, ltb-false, lt-ltb}
+use Rattle.base.proofs.Prelude.{_≡_, refl, sym, ap, _∙_, subst, true, List, [], _∷_, ℕ, _+_, _-_, _*_, _/_, _%_, _<_, _≤_, mod-lt, div-add-mod'}
+use Rattle.base.proofs.Prelude.{arith, digits-lt, eqb, ltb, length, getD, replicate, length-replicate, eqb-true, eqb-false, ltb-true, ltb-false}
+use Rattle.base.proofs.Prelude.{lt-ltb}
 use Rattle.base.proofs.Test.{cases}
+use mathlib.Core.Logic.{_⊎_, inl, inr, ⊎-elim}
+use native.Mathlib.Nat.{mul-le-mul-right}
+use lib.Ieee.{Float}
 use Rattle.carriers.specs.Band.{usedOf}
 use Rattle.carriers.proofs.Guards.{used-carrier}
-use Rattle.map.specs.Setup.{Setup}
-use Rattle.map.specs.Mode.{symbols, band, isPilot}
-use Rattle.map.specs.Place.{Content, guard, dc, pilot, point}
-use Rattle.map.specs.Model.{Valid}
-use Rattle.map.proofs.Slot.{band-law}
-use Rattle.map.proofs.Law.{pilot-content, pilot-at}
+use Rattle.map.specs.{Setup.Setup, Mode.{symbols, band, isPilot}, Place.{Content, guard, dc, pilot, point}, Model.Valid}
+use Rattle.map.proofs.{Slot.band-law, Law.{pilot-content, pilot-at}}
 use Rattle.mask.specs.Mask.{isUsedLit, litContent}
-use Rattle.points.specs.declared.Point.{Point}
-use Rattle.points.specs.Points.{zero32, zeroPoint, pointAt}
-use Rattle.points.specs.Model.{putPoint}
+use Rattle.points.specs.{declared.Point.Point, Points.{zero32, zeroPoint, pointAt}, Model.putPoint}
 use Rattle.points.proofs.Points.{by-points, point-cleared, length-put, put-same, put-other}
-use Rattle.runs.specs.declared.Runs.{Runs}
-use Rattle.runs.specs.Model.{runStep, runCount, runsOf, LitRuns, runLit}
+use Rattle.runs.specs.{declared.Runs.Runs, Model.{runStep, runCount, runsOf, LitRuns, runLit}}
 use Rattle.runs.proofs.Law.{RunLaw, run-law, run-light, first-pilot, second-pilot, pilot-place}
 use Rattle.lengths.specs.Length.{gridPoints}
 use Rattle.grid.specs.Row.{usedPosition, rowOf, columnOf}
 use Rattle.grid.proofs.Slot.{litAt, holdsAt, used-row, used-column, used-position-lt, row-lt, at-place}
-use Rattle.ground.specs.Ground.{bare, grounded}
-use Rattle.ground.specs.Model.{lastPilot, groundAt, PilotsBelow}
+use Rattle.ground.specs.{Ground.{bare, grounded}, Model.{lastPilot, groundAt, PilotsBelow}}
 
 -- a run's place is a used number
 pub run-used : {setup : Setup} → Valid setup → (i place : ℕ) → i < runCount setup → place < runStep setup → i * runStep setup + place < band setup .used

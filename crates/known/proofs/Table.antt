@@ -1,11 +1,6 @@
 -- The known points hold: each by computing both sides; in line 10, and in the lemma behind line 11, all that is asked of the cell is that it is below 32.
-use mathlib.Core.Path.{_≡_, refl}
-use Prim.Native.Nat.{ℕ, _<_}
-use native.Mathlib.Omega.{arith}
-use borrow.Author.Tests.{lt-ltb}
-use Rattle.base.specs.Choice.{isUpTo}
-use Rattle.base.specs.Steps.{skip, unskip}
-use Rattle.base.specs.Tabulate.{tabulate}
+use Rattle.base.proofs.Prelude.{_≡_, refl, ℕ, _<_, arith, lt-ltb}
+use Rattle.base.specs.{Choice.isUpTo, Steps.{skip, unskip}, Tabulate.tabulate, First.firstOf}
 use Rattle.centre.specs.Centre.{fromDc, inRange, onRow}
 use Rattle.map.specs.Place.{usedCarrier, placeOf, locateOf, placeAt, contentOf, dataAt}
 use Rattle.collision.specs.Collision.{countOf, indexIn, columnIn, ofuscHit, amcHit, answerOf, ofuscOf, amcOf}
@@ -13,10 +8,8 @@ use Rattle.mask.specs.Mask.{isMask}
 use Rattle.zone.specs.Zone.{isZoneMode}
 use Rattle.plan.specs.Plan.{each}
 use Rattle.plan_read.proofs.Points.{any-first-cell, first-refusals, amc-after-amc, others-after-amc, faults-in-order, mask-outside, masks-refused}
-use Rattle.base.specs.First.{firstOf}
 use Rattle.burst_owner.specs.Owner.{ownerAt, lookedAt}
-use Rattle.bursts.specs.Burst.{checkOf}
-use Rattle.bursts.specs.Owner.{ownerOf}
+use Rattle.bursts.specs.{Burst.checkOf, Owner.ownerOf}
 use Rattle.known.specs.Table.{Known, AnyCell, setFrom, groups, indices, bursts, corner, check, owner, owns, refusal}
 use Rattle.carriers.specs.Band as band
 use Rattle.carriers.specs.Bin as bin

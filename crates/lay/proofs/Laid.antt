@@ -1,23 +1,10 @@
 -- A lay: a subchannel's points put at their places are the laid grid.
-use mathlib.Core.Path.{_≡_, refl, sym, ap, _∙_}
-use mathlib.Core.Bool.{Bool, true}
-use mathlib.Core.List.{List}
-use Prim.Native.Nat.{ℕ, _*_, _<_}
-use native.Mathlib.Omega.{arith}
-use lib.Dec.{eqb}
-use lib.ListN.{length}
+use Rattle.base.proofs.{Prelude.{_≡_, refl, sym, ap, _∙_, Bool, true, List, ℕ, _*_, _<_, arith, eqb, length, eqb-true, eqb-false}, Test.cases}
 use lib.Ieee.{Float}
-use borrow.Author.Tests.{eqb-true, eqb-false}
 use Rattle.base.specs.Choice.{pick}
-use Rattle.base.proofs.Test.{cases}
-use Rattle.map.specs.Setup.{Setup}
-use Rattle.map.specs.Mode.{subchannels}
-use Rattle.map.specs.Place.{Content, guard, dc, pilot, point}
-use Rattle.map.specs.Model.{Valid}
+use Rattle.map.specs.{Setup.Setup, Mode.subchannels, Place.{Content, guard, dc, pilot, point}, Model.Valid}
 use Rattle.mask.specs.Mask.{isLit}
-use Rattle.points.specs.declared.Point.{Point}
-use Rattle.points.specs.Points.{pointAt}
-use Rattle.points.specs.Model.{puts}
+use Rattle.points.specs.{declared.Point.Point, Points.pointAt, Model.puts}
 use Rattle.points.proofs.Points.{by-points, length-puts, puts-miss, puts-hit}
 use Rattle.lengths.specs.Length.{gridPoints}
 use Rattle.grid.specs.Grid.{contentAt, standsAt}

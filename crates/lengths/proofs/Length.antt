@@ -1,17 +1,11 @@
 -- The lengths by mode and size. Cell 0 is a cell of every listed mode and size, so the first refusal with it tells whether the map has them.
-use mathlib.Core.Path.{_≡_, refl, ap, _∙_}
-use Prim.Native.Nat.{ℕ, _*_}
-use borrow.Author.Tests.{lt-ltb}
-use Rattle.base.proofs.Test.{cases}
-use Rattle.map.specs.Setup.{Setup, setupWith}
-use Rattle.map.specs.Mode.{width, cells, subchannels, symbols}
-use Rattle.map.specs.Question.{isListed, isMode, isSizeOf, isSize, isCell}
+use Rattle.base.proofs.{Prelude.{_≡_, refl, ap, _∙_, ℕ, _*_, lt-ltb}, Test.cases}
+use Rattle.map.specs.{Setup.{Setup, setupWith}, Mode.{width, cells, subchannels, symbols}, Question.{isListed, isMode, isSizeOf, isSize, isCell}}
 use Rattle.map.specs.Model.{setupRefusal, Valid}
 use Rattle.map.proofs.Accept.{some-cell, setup-yes}
 use Rattle.mask.specs.Mask.{isMask, isLit, litSubchannels, allLit}
 use Rattle.mask.proofs.Law.{mask-law}
-use Rattle.lengths.specs.Length.{gridPoints, whereListed, pointsLength, litPointsLength, gridLength}
-use Rattle.lengths.specs.Model.{maskRefusal}
+use Rattle.lengths.specs.{Length.{gridPoints, whereListed, pointsLength, litPointsLength, gridLength}, Model.maskRefusal}
 use Rattle.lengths.proofs.Refusal.{MaskAccepted, mask-accepted}
 
 pub listed : {setup : Setup} → Valid setup → {n length : ℕ} → n ≡ length → n ≡ whereListed (setup .mode) (setup .size) length

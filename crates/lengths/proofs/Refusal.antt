@@ -1,22 +1,12 @@
 -- What the questions of ground, lay, empty and look come to.
-use mathlib.Core.Path.{_≡_, refl, sym, ap, _∙_}
-use mathlib.Core.Bool.{true, false}
-use mathlib.Core.List.{[], _∷_, _++_}
-use Prim.Native.Nat.{ℕ, _*_, _<_, _≤_}
-use native.Mathlib.Nat.{mul-le-mul}
-use native.Mathlib.Omega.{arith}
+use Rattle.base.proofs.Prelude.{_≡_, refl, sym, ap, _∙_, true, false, [], _∷_, _++_, ℕ, _*_, _<_, _≤_, mul-le-mul, arith, lt-ltb, eq-eqb, ltb-true}
+use Rattle.base.proofs.Prelude.{eqb-true}
+use Rattle.base.proofs.{Test.both-true, Chain.{numbered, Questions, AllYes, all-numbered, all-yes, yes-parts, is-refused, has-passed}}
 use lib.IntN.{ℤ}
-use borrow.Author.Tests.{lt-ltb, eq-eqb, ltb-true, eqb-true}
 use Rattle.base.specs.Answer.{Answer, refusalOf}
-use Rattle.base.proofs.Test.{both-true}
-use Rattle.base.proofs.Chain.{numbered, Questions, AllYes, all-numbered, all-yes, yes-parts, is-refused, has-passed}
 use Rattle.centre.specs.Centre.{inRange}
-use Rattle.map.specs.Setup.{Setup}
-use Rattle.map.specs.Mode.{subchannels, symbols}
-use Rattle.map.specs.Question.{isSlot, isSymbol, isSubchannel, isCarrier}
-use Rattle.map.specs.Model.{Valid}
-use Rattle.map.proofs.Accept.{valid, passes, setupQuestions}
-use Rattle.map.proofs.ByMode.{few}
+use Rattle.map.specs.{Setup.Setup, Mode.{subchannels, symbols}, Question.{isSlot, isSymbol, isSubchannel, isCarrier}, Model.Valid}
+use Rattle.map.proofs.{Accept.{valid, passes, setupQuestions}, ByMode.few}
 use Rattle.mask.specs.Mask.{isMask, isLit, litSubchannels}
 use Rattle.mask.proofs.Law.{mask-small}
 use Rattle.lengths.specs.Length.{gridPoints}

@@ -1,26 +1,14 @@
 -- Look: what a column holds and whether it is lit decide what is seen.
-use mathlib.Core.Path.{_≡_, refl, sym, ap, _∙_}
-use mathlib.Core.Bool.{Bool, true, false}
-use mathlib.Core.List.{List}
-use Prim.Native.Nat.{ℕ, _%_, _<_}
-use native.Mathlib.Omega.{arith}
-use lib.ListN.{length}
-use lib.IntN.{ℤ}
-use lib.Ieee.{Float}
-use Rattle.base.specs.Choice.{pick}
-use Rattle.base.specs.Answer.{Answer, accepted, refused}
+use Rattle.base.proofs.Prelude.{_≡_, refl, sym, ap, _∙_, Bool, true, false, List, ℕ, _%_, _<_, arith, length}
 use Rattle.base.proofs.Chain.{same-accepted, yes-all, no-first, number-none}
+use lib.{IntN.ℤ, Ieee.Float}
+use Rattle.base.specs.{Choice.pick, Answer.{Answer, accepted, refused}}
 use Rattle.carriers.specs.Band.{usedOf}
 use Rattle.centre.specs.Centre.{onRow}
-use Rattle.map.specs.Setup.{Setup}
-use Rattle.map.specs.Mode.{symbols, band}
-use Rattle.map.specs.Question.{isCarrier}
-use Rattle.map.specs.Place.{Content, guard, dc, pilot, point, contentOf, locateOf}
-use Rattle.map.proofs.Slot.{centred}
-use Rattle.map.proofs.Law.{locate-accepts}
+use Rattle.map.specs.{Setup.Setup, Mode.{symbols, band}, Question.isCarrier, Place.{Content, guard, dc, pilot, point, contentOf, locateOf}}
+use Rattle.map.proofs.{Slot.centred, Law.locate-accepts}
 use Rattle.mask.specs.Mask.{isUsedLit, litContent}
-use Rattle.points.specs.declared.Point.{Point}
-use Rattle.points.specs.Points.{pointAt}
+use Rattle.points.specs.{declared.Point.Point, Points.pointAt}
 use Rattle.lengths.specs.Model.{lookRefusal}
 use Rattle.lengths.proofs.Refusal.{LookAccepted, look-numbered, look-accepted}
 use Rattle.grid.specs.Row.{columnPosition}

@@ -1,19 +1,12 @@
 -- Questions 1, 2 and 3 let pass just the valid setups; and what 4 and 5 come to.
-use mathlib.Core.Path.{_≡_, refl, sym, ap, subst⁻¹, _∙_}
-use mathlib.Core.Bool.{true}
-use mathlib.Core.List.{List, [], _∷_}
-use Prim.Native.Nat.{ℕ, zero, suc, _*_, _/_, _<_, _≤_}
+use Rattle.base.proofs.Prelude.{_≡_, refl, sym, ap, subst⁻¹, _∙_, true, List, [], _∷_, ℕ, zero, suc, _*_, _/_, _<_, _≤_, arith, eqb, ltb, lit<}
+use Rattle.base.proofs.Prelude.{ltb-true, ltb-false, eqb-true, ne-eqb, lt-ltb}
+use Rattle.base.proofs.{Test.{cases, true-false}, Chain.{Questions, AllYes, all-yes}}
 use native.Mathlib.Nat.{mul-pos}
-use native.Mathlib.Omega.{arith}
-use lib.Dec.{eqb, ltb, lit<}
-use borrow.Author.Tests.{ltb-true, ltb-false, eqb-true, ne-eqb, lt-ltb}
 use Rattle.base.specs.Answer.{Answer, accepted, ask, refusalOf}
-use Rattle.base.proofs.Test.{cases, true-false}
-use Rattle.base.proofs.Chain.{Questions, AllYes, all-yes}
 use Rattle.ofusc.specs.Width.{Width, n4, n8, n16, n32}
 use Rattle.ofusc.proofs.Sequence.{size, pos}
-use Rattle.map.specs.Setup.{Setup, setupLent, setupWith}
-use Rattle.map.specs.Mode.{width, cells, subchannels}
+use Rattle.map.specs.{Setup.{Setup, setupLent, setupWith}, Mode.{width, cells, subchannels}}
 use Rattle.map.specs.Question.{isListed, isMode, isFourSizes, isSizeOf, isSize, isCell, isSlot, isSubchannel, askSetup}
 use Rattle.map.specs.Model.{IsListed, IsAmc, Valid, pusc-dl, pusc-ul, ofusc, amc}
 use Rattle.map.proofs.Choice.{at-amc, at-none, by-mode, amc-column}

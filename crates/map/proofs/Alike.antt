@@ -1,16 +1,9 @@
 -- Which slots and cells have their pilots at the same places.
-use mathlib.Core.Path.{_≡_, refl, sym, ap, _∙_}
-use mathlib.Core.List.{List}
-use Prim.Native.Nat.{ℕ, _+_, _*_, _/_, _%_}
-use native.Mathlib.Nat.{add-assoc, add-mul, mul-assoc, mul-right-comm, div-add-mod', mul-add-mod-self-right}
-use native.Mathlib.Omega.{arith}
-use lib.Dec.{eqb}
-use borrow.Author.Tests.{eq-eqb, eqb-true}
-use Rattle.base.proofs.Test.{cases}
+use Rattle.base.proofs.{Prelude.{_≡_, refl, sym, ap, _∙_, List, ℕ, _+_, _*_, _/_, _%_, div-add-mod', arith, eqb, eq-eqb, eqb-true}, Test.cases}
+use native.Mathlib.Nat.{add-assoc, add-mul, mul-assoc, mul-right-comm, mul-add-mod-self-right}
 use Rattle.carriers.specs.Bin.{binPilotPlace, isBinPilot}
 use Rattle.clusters.proofs.Tables.{pilot-parity}
-use Rattle.map.specs.Setup.{Setup, setupLent}
-use Rattle.map.specs.Mode.{width, symbols, band, isPilot}
+use Rattle.map.specs.{Setup.{Setup, setupLent}, Mode.{width, symbols, band, isPilot}}
 
 -- the number of a symbol mod 3, by its slot mod 3, and where a slot has three or six
 mod-3 : (a k o : ℕ) → (a * k + o) % 3 ≡ (a % 3 * k + o) % 3

@@ -1,29 +1,19 @@
 -- What a valid setup says of its mode.
-use mathlib.Core.Path.{_≡_, refl, sym, ap, ap₂, _∙_}
-use mathlib.Core.Bool.{false}
-use Prim.Native.Nat.{ℕ, _*_, _/_, _%_, _<_, _≤_}
-use native.Mathlib.Nat.{mod-lt, div-add-mod', mul-le-mul}
-use native.Mathlib.Omega.{arith}
+use Rattle.base.proofs.Prelude.{_≡_, refl, sym, ap, ap₂, _∙_, false, ℕ, _*_, _/_, _%_, _<_, _≤_, mod-lt, div-add-mod', mul-le-mul, arith}
+use Rattle.base.proofs.LeaveOut.{unskip-le}
 use Rattle.ofusc.specs.Width.{Width}
 use Rattle.ofusc.proofs.Sequence.{size}
-use Rattle.base.proofs.LeaveOut.{unskip-le}
-use Rattle.carriers.specs.declared.Spot.{Spot}
-use Rattle.carriers.specs.declared.DataNumber.{DataNumber}
-use Rattle.carriers.specs.declared.Address.{Address}
-use Rattle.carriers.specs.Bin.{binPilotPlace, dataOfUsed, binSpot, inOnlySymbol}
-use Rattle.carriers.specs.Law.{NumberLaw}
+use Rattle.carriers.specs.{declared.Spot.Spot, declared.DataNumber.DataNumber, declared.Address.Address}
+use Rattle.carriers.specs.{Bin.{binPilotPlace, dataOfUsed, binSpot, inOnlySymbol}, Law.NumberLaw}
 use Rattle.carriers.proofs.Bin.{data-lt}
 use Rattle.clusters.specs.Cluster.{isClusterPilot}
 use Rattle.clusters.proofs.Tables.{pilot-parity}
 use Rattle.pusc_ul.specs.Tile.{isTilePilot}
-use Rattle.amc.specs.declared.Shape.{Shape}
-use Rattle.amc.specs.Model.{IsShape}
+use Rattle.amc.specs.{declared.Shape.Shape, Model.IsShape}
 use Rattle.amc.proofs.Parts.{symbols-pos, symbols-few, symbols-are}
-use Rattle.map.specs.Setup.{Setup}
-use Rattle.map.specs.Mode.{shapeOf, width, cells, subchannels, symbols, band, isPilot, spotOf, addressOf}
+use Rattle.map.specs.{Setup.Setup, Mode.{shapeOf, width, cells, subchannels, symbols, band, isPilot, spotOf, addressOf}}
 use Rattle.map.specs.Model.{IsListed, OverBins, IsAmc, Valid, pusc-dl, pusc-ul, ofusc, amc}
-use Rattle.map.proofs.Choice.{amc-shape, at-0, at-1, at-2, at-amc, by-mode, amc-column}
-use Rattle.map.proofs.Accept.{width-is}
+use Rattle.map.proofs.{Choice.{amc-shape, at-0, at-1, at-2, at-amc, by-mode, amc-column}, Accept.width-is}
 use Rattle.ofusc.specs.Map as spread
 use Rattle.ofusc.proofs.Law as spread-law
 use Rattle.amc.specs.Map as adjacent

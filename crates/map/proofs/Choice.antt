@@ -1,15 +1,11 @@
 -- A choice by the mode, and AMC's modes and shapes.
-use mathlib.Core.Path.{_≡_, refl, sym, _∙_}
-use mathlib.Core.Bool.{Bool, true, false}
-use Prim.Native.Nat.{ℕ, zero, suc, _<_, _≤_}
-use native.Mathlib.Omega.{arith}
-use lib.Dec.{eqb, leb, ltb}
-use borrow.Author.Tests.{ne-eqb, eqb-true, eqb-false, leb-true, ltb-true, ltb-false, lt-ltb, le-ltb, le-leb}
+use Rattle.base.proofs.Prelude.{_≡_, refl, sym, _∙_, Bool, true, false, ℕ, zero, suc, _<_, _≤_, arith, eqb, leb, ltb, ne-eqb, eqb-true, eqb-false}
+use Rattle.base.proofs.Prelude.{ltb-true, ltb-false, lt-ltb, le-ltb}
 use Rattle.base.proofs.Test.{cases, true-false, both-true}
+use borrow.Author.Tests.{leb-true, le-leb}
 use Rattle.base.specs.Choice.{pick}
 use Rattle.amc.specs.Model.{IsShape}
-use Rattle.map.specs.Mode.{isAmc, shapeOf, byMode}
-use Rattle.map.specs.Model.{IsListed, OverBins, isOverBins, IsAmc}
+use Rattle.map.specs.{Mode.{isAmc, shapeOf, byMode}, Model.{IsListed, OverBins, isOverBins, IsAmc}}
 
 -- each of AMC's shapes has six bins in all
 pub amc-shape : (mode : ℕ) → IsAmc mode → IsShape (shapeOf mode)

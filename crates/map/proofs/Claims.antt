@@ -1,20 +1,15 @@
 -- What specs/Law.antt claims of the map holds.
-use mathlib.Core.Path.{_≡_, sym, ap, _∙_, subst}
-use mathlib.Core.Bool.{false}
-use Prim.Native.Nat.{ℕ, _+_, _*_, _/_, _<_}
-use native.Mathlib.Omega.{arith}
-use lib.Arith.{digits-div, digits-lt}
+use Rattle.base.proofs.Prelude.{_≡_, sym, ap, _∙_, subst, false, ℕ, _+_, _*_, _/_, _<_, arith, digits-div, digits-lt}
 use lib.IntN.{ℤ, pos}
 use Rattle.base.specs.Answer.{accepted}
 use Rattle.carriers.specs.Band.{carrierOf, usedOf}
 use Rattle.carriers.proofs.Guards.{carrier-lt, carrier-no-guard, carrier-no-dc, used-carrier, band-law as columns}
-use Rattle.map.specs.Setup.{Setup}
-use Rattle.map.specs.Mode.{symbols, band, isPilot, spotOf, addressOf}
-use Rattle.map.specs.Place.{Place, dc, usedCarrier, placeAt, placeOf, contentOf, locateOf}
-use Rattle.map.specs.Model.{Valid}
+use Rattle.map.specs.{Setup.Setup, Mode.{symbols, band, isPilot, spotOf, addressOf}}
+use Rattle.map.specs.{Place.{Place, dc, usedCarrier, placeAt, placeOf, contentOf, locateOf}, Model.Valid}
 use Rattle.map.specs.Law.{Passes, PlacedAt, HoldsData, JustOnePoint, MapLaw}
+use Rattle.map.proofs.Law.{setup-asked, placing, place-accepts, locate-column, located-where-placed, placed-where-located, one-address}
+use Rattle.map.proofs.Law.{in-own-slot, data-placed, dc-content, pilot-content}
 use Rattle.map.proofs.Slot.{slot-law, band-law, centred}
-use Rattle.map.proofs.Law.{setup-asked, placing, place-accepts, locate-column, located-where-placed, placed-where-located, one-address, in-own-slot, data-placed, dc-content, pilot-content}
 
 passed : (setup : Setup) → Passes setup → Valid setup
 passed setup e = setup-asked setup _ e .0

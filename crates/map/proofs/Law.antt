@@ -1,31 +1,18 @@
 -- THE LAW OF THE MAP, for every mode, size and cell that the questions let pass. It rests on the laws of `Slot`, and on no mode's text.
-use mathlib.Core.Path.{_≡_, refl, sym, ap, _∙_, subst}
-use mathlib.Core.Bool.{true, false}
-use Prim.Native.Nat.{ℕ, _+_, _-_, _*_, _/_, _%_, _<_}
-use native.Mathlib.Nat.{mod-lt, div-add-mod', div-lt-iff-lt-mul}
-use native.Mathlib.Omega.{arith}
-use lib.Arith.{digits-div, digits-lt}
-use lib.IntN.{ℤ}
-use lib.Signed.{mag}
-use borrow.Author.Tests.{lt-ltb, le-ltb, lt-leb, eq-eqb, ltb-true}
+use Rattle.base.proofs.Prelude.{_≡_, refl, sym, ap, _∙_, subst, true, false, ℕ, _+_, _-_, _*_, _/_, _%_, _<_, mod-lt, div-add-mod', div-lt-iff-lt-mul}
+use Rattle.base.proofs.Prelude.{arith, digits-div, digits-lt, lt-ltb, le-ltb, eq-eqb, ltb-true}
+use Rattle.base.proofs.{Test.cases, Chain.{ask-yes, same-accepted}}
+use lib.{IntN.ℤ, Signed.mag}
+use borrow.Author.Tests.{lt-leb}
 use Rattle.base.specs.Answer.{Answer, accepted}
-use Rattle.base.proofs.Test.{cases}
-use Rattle.base.proofs.Chain.{ask-yes, same-accepted}
-use Rattle.carriers.specs.declared.Spot.{Spot}
-use Rattle.carriers.specs.declared.Address.{Address}
-use Rattle.carriers.specs.Band.{carrierOf, usedOf, isGuard, isDc}
-use Rattle.carriers.specs.Law.{PointOf}
+use Rattle.carriers.specs.{declared.Spot.Spot, declared.Address.Address, Band.{carrierOf, usedOf, isGuard, isDc}, Law.PointOf}
 use Rattle.carriers.proofs.Guards.{carrier-lt, carrier-no-guard, carrier-no-dc, used-carrier, used-lt, carrier-used}
 use Rattle.centre.specs.Centre.{fromDc, inRange, onRow}
 use Rattle.centre.proofs.Law.{in-range-mag}
-use Rattle.map.specs.Setup.{Setup}
-use Rattle.map.specs.Mode.{subchannels, symbols, band, isPilot, spotOf, addressOf}
+use Rattle.map.specs.{Setup.Setup, Mode.{subchannels, symbols, band, isPilot, spotOf, addressOf}}
 use Rattle.map.specs.Question.{askSetup, isMode, isSize, isCell, isSlot, isSymbol, isSubchannel, isIndex, isCarrier}
-use Rattle.map.specs.Place.{Place, Content, dc, pilot, point, usedCarrier, placeAt, placeOf, dataAt, contentOf, locateOf}
-use Rattle.map.specs.Model.{Valid}
-use Rattle.map.proofs.Accept.{valid, passes}
-use Rattle.map.proofs.ByMode.{few}
-use Rattle.map.proofs.Slot.{LawOf, slot-law, band-law, centred}
+use Rattle.map.specs.{Place.{Place, Content, dc, pilot, point, usedCarrier, placeAt, placeOf, dataAt, contentOf, locateOf}, Model.Valid}
+use Rattle.map.proofs.{Accept.{valid, passes}, ByMode.few, Slot.{LawOf, slot-law, band-law, centred}}
 
 -- what an accepted setup is
 pub setup-asked : {A : Type 0} (c : Setup) (rest : Answer A) {a : A} → askSetup c rest ≡ accepted a → Valid c × (rest ≡ accepted a)

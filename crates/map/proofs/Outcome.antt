@@ -1,31 +1,17 @@
 -- What placing and locating come to at each of their returns.
-use mathlib.Core.Path.{_≡_, refl, sym, ap, _∙_, subst}
-use mathlib.Core.Bool.{Bool, true, false, not}
-use Prim.Native.Nat.{ℕ, _*_, _/_, _<_, _≤_}
-use native.Mathlib.Omega.{arith}
+use Rattle.base.proofs.Prelude.{_≡_, refl, sym, ap, _∙_, subst, Bool, true, false, ℕ, _*_, _/_, _<_, _≤_, arith, not-false}
+use Rattle.base.proofs.{Test.{told-no, told-yes}, Chain.{all-yes, is-refused, has-passed}}
+use mathlib.Core.Bool.{not}
 use lib.IntN.{ℤ}
-use mir.Syntax.{w32}
-use mir.Val.{SFits, toZ, ofZ}
-use mir.ValLaws.{toZ-ofZ}
-use borrow.Author.Tests.{not-false}
+use mir.{Syntax.w32, Val.{SFits, toZ, ofZ}, ValLaws.toZ-ofZ}
 use Rattle.base.specs.Answer.{Answer, accepted, refused, refusalOf}
-use Rattle.base.proofs.Test.{told-no, told-yes}
-use Rattle.base.proofs.Chain.{all-yes, is-refused, has-passed}
-use Rattle.carriers.specs.declared.Address.{Address}
-use Rattle.carriers.specs.declared.Band.{Band}
-use Rattle.carriers.specs.Band.{carrierOf, usedOf, isGuard, isDc}
-use Rattle.carriers.specs.declared.Spot.{Spot}
+use Rattle.carriers.specs.{declared.Address.Address, declared.Band.Band, Band.{carrierOf, usedOf, isGuard, isDc}, declared.Spot.Spot}
 use Rattle.carriers.proofs.Guards.{carrier-lt, used-left, used-lt}
 use Rattle.centre.specs.Centre.{inRange, onRow}
-use Rattle.map.specs.Setup.{Setup}
-use Rattle.map.specs.Mode.{subchannels, symbols, band, isPilot, spotOf, addressOf}
-use Rattle.map.specs.Question.{askSetup, isCarrier}
+use Rattle.map.specs.{Setup.Setup, Mode.{subchannels, symbols, band, isPilot, spotOf, addressOf}, Question.{askSetup, isCarrier}}
 use Rattle.map.specs.Model.{setupRefusal, Valid}
 use Rattle.map.specs.Place.{Place, Content, guard, dc, pilot, point, placeAt, placeOf, dataAt, contentOf, locateOf}
-use Rattle.map.proofs.Accept.{valid, setupQuestions}
-use Rattle.map.proofs.ByMode.{few}
-use Rattle.map.proofs.Slot.{slot-law, band-law, centred}
-use Rattle.map.proofs.Law.{place-accepts, locate-accepts}
+use Rattle.map.proofs.{Accept.{valid, setupQuestions}, ByMode.few, Slot.{slot-law, band-law, centred}, Law.{place-accepts, locate-accepts}}
 
 pub now-valid : (c : Setup) (k : ℕ) → k ≡ setupRefusal c → k ≡ 0 → Valid c
 unfolding setupRefusal

@@ -1,23 +1,15 @@
 -- Every valid setup meets the law of a slot, the law of its band and the law of the centre: one clause a case of validity. All that is said of the map above rests on these three.
-use mathlib.Core.Path.{_≡_, refl, ap, subst⁻¹}
-use Prim.Native.Nat.{ℕ, _+_, _*_, _/_, _%_, _<_}
-use native.Mathlib.Omega.{arith}
-use lib.Arith.{digits-mod}
-use Rattle.carriers.specs.Bin.{isBinPilot, dataOfUsed, binSpot, inOnlySymbol}
-use Rattle.carriers.specs.Law.{Whole, SlotLaw}
-use Rattle.carriers.proofs.Guards.{pusc-band, bin-band}
-use Rattle.carriers.proofs.Bin.{bin-law}
-use Rattle.carriers.proofs.Relabel.{relabel}
+use Rattle.base.proofs.Prelude.{_≡_, refl, ap, subst⁻¹, ℕ, _+_, _*_, _/_, _%_, _<_, arith, digits-mod}
+use Rattle.carriers.specs.{Bin.{isBinPilot, dataOfUsed, binSpot, inOnlySymbol}, Law.{Whole, SlotLaw}}
+use Rattle.carriers.proofs.{Guards.{pusc-band, bin-band}, Bin.bin-law, Relabel.relabel}
 use Rattle.centre.specs.Law.{CentreLaw}
 use Rattle.centre.proofs.Law.{centre-law}
 use Rattle.clusters.proofs.Tables.{pilot-parity}
 use Rattle.pusc_ul.specs.Tile.{isTilePilot}
 use Rattle.ofusc.proofs.Sequence.{pos}
-use Rattle.map.specs.Setup.{Setup}
-use Rattle.map.specs.Mode.{shapeOf, width, subchannels, symbols, band, isPilot, spotOf, addressOf}
+use Rattle.map.specs.{Setup.Setup, Mode.{shapeOf, width, subchannels, symbols, band, isPilot, spotOf, addressOf}}
 use Rattle.map.specs.Model.{Valid, pusc-dl, pusc-ul, ofusc, amc}
-use Rattle.map.proofs.Choice.{amc-shape, amc-column}
-use Rattle.map.proofs.Accept.{width-is}
+use Rattle.map.proofs.{Choice.{amc-shape, amc-column}, Accept.width-is}
 use Rattle.pusc_dl.specs.Map as dl
 use Rattle.pusc_dl.proofs.Law as dl-law
 use Rattle.pusc_ul.specs.Map as ul

@@ -1,16 +1,7 @@
 -- Signed numbers of the vectors: the next carrier, and a carrier as a sign and a number.
-use mathlib.Core.Path.{_≡_, _∙_}
-use mathlib.Core.Bool.{true, false}
-use Prim.Native.Nat.{ℕ, zero, suc, _<_}
-use native.Mathlib.Omega.{arith}
-use lib.Dec.{T, ltb}
-use lib.IntN.{ℤ, pos, negsuc, negℤ, natAbs, _+ℤ_, _-ℤ_, +ℤ-idl}
-use lib.Signed.{ltZ, mag, nonNeg}
-use mir.Syntax.{w32, w64}
-use mir.Val.{Fits, SFits, toZ, ofZ}
-use mir.ValLaws.{toZ-ofZ}
-use borrow.Author.Tests.{ltb-true, ltb-false}
-use Rattle.base.proofs.Test.{cases, true-false}
+use Rattle.base.proofs.{Prelude.{_≡_, _∙_, true, false, ℕ, zero, suc, _<_, arith, T, ltb, ltb-true, ltb-false}, Test.{cases, true-false}}
+use lib.{IntN.{ℤ, pos, negsuc, negℤ, natAbs, _+ℤ_, _-ℤ_, +ℤ-idl}, Signed.{ltZ, mag, nonNeg}}
+use mir.{Syntax.{w32, w64}, Val.{Fits, SFits, toZ, ofZ}, ValLaws.toZ-ofZ}
 
 -- a carrier below the greatest has a next one
 pub next-fits : (n : ℕ) → ltZ (toZ w32 n) (pos 2147483647) ≡ true → SFits w32 (toZ w32 n +ℤ pos 1)

@@ -1,26 +1,12 @@
 -- What a column holds where only the mask's groups are lit, from what it holds.
-use mathlib.Core.Path.{_≡_, sym, ap, _∙_}
-use mathlib.Core.Bool.{Bool, true, false}
-use Prim.Native.Nat.{ℕ, _-_, _*_, _<_, _≤_}
-use native.Mathlib.Omega.{arith}
-use borrow.Author.Tests.{eqb-true, le-ltb}
-use Rattle.base.specs.Choice.{pick}
-use Rattle.base.specs.Answer.{accepted, refused}
-use Rattle.base.specs.Steps.{unskip}
-use Rattle.base.proofs.Chain.{same-accepted}
+use Rattle.base.proofs.{Prelude.{_≡_, sym, ap, _∙_, Bool, true, false, ℕ, _-_, _*_, _<_, _≤_, arith, eqb-true, le-ltb}, Chain.same-accepted}
 use Rattle.base.proofs.Test.{cases}
-use Rattle.carriers.specs.declared.Band.{Band}
-use Rattle.carriers.specs.Band.{usedOf, isGuard, isDc}
-use Rattle.carriers.specs.Law.{Whole}
+use Rattle.base.specs.{Choice.pick, Answer.{accepted, refused}, Steps.unskip}
+use Rattle.carriers.specs.{declared.Band.Band, Band.{usedOf, isGuard, isDc}, Law.Whole}
 use Rattle.carriers.proofs.Guards.{used-left, used-lt}
 use Rattle.centre.specs.Centre.{fromDc}
-use Rattle.map.specs.Setup.{Setup}
-use Rattle.map.specs.declared.Located.{Located}
-use Rattle.map.specs.Mode.{symbols, band}
-use Rattle.map.specs.Place.{Content, guard, point, contentOf, located}
-use Rattle.map.specs.Model.{Valid}
-use Rattle.map.proofs.Slot.{band-law, centred}
-use Rattle.map.proofs.Law.{locate-column, placed-where-located}
+use Rattle.map.specs.{Setup.Setup, declared.Located.Located, Mode.{symbols, band}, Place.{Content, guard, point, contentOf, located}, Model.Valid}
+use Rattle.map.proofs.{Slot.{band-law, centred}, Law.{locate-column, placed-where-located}}
 use Rattle.mask.specs.Mask.{isLit, isUsedLit, litContent}
 use Rattle.mask.proofs.Law.{placed-lit}
 

@@ -1,37 +1,21 @@
 -- THE LAW OF THE MASK: it rests on the law of the map, and of PUSC downlink on whose group a point's used number is in.
-use mathlib.Core.Path.{_≡_, refl, sym, ap, _∙_}
-use mathlib.Core.Bool.{true}
-use Prim.Native.Nat.{ℕ, _+_, _*_, _<_, _≤_}
-use native.Mathlib.Omega.{arith}
-use lib.Arith.{digits-div}
+use Rattle.base.proofs.Prelude.{_≡_, refl, sym, ap, _∙_, true, ℕ, _+_, _*_, _<_, _≤_, arith, digits-div, eqb, ltb, eqb-true, eq-eqb, ne-eqb, ltb-true}
+use Rattle.base.proofs.Prelude.{ltb-false}
+use Rattle.base.proofs.{Test.{cases, up-to}, Rank.{rank-law, rank-most, rank-all, rank-as}}
 use lib.IntN.{ℤ}
-use lib.Dec.{eqb, ltb}
-use borrow.Author.Tests.{eqb-true, eq-eqb, ne-eqb, ltb-true, ltb-false}
-use Rattle.base.specs.Choice.{isUpTo}
-use Rattle.base.specs.Rank.{rank, RankLaw}
-use Rattle.base.proofs.Test.{cases, up-to}
-use Rattle.base.proofs.Rank.{rank-law, rank-most, rank-all, rank-as}
+use Rattle.base.specs.{Choice.isUpTo, Rank.{rank, RankLaw}}
 use Rattle.carriers.specs.Band.{carrierOf, usedOf}
 use Rattle.carriers.proofs.Guards.{used-carrier}
 use Rattle.centre.specs.Centre.{onRow}
-use Rattle.clusters.specs.declared.Physical.{Physical}
-use Rattle.clusters.specs.Cluster.{renumber}
-use Rattle.clusters.specs.Group.{clusterStarts, subchannelStarts, groupIn}
+use Rattle.clusters.specs.{declared.Physical.Physical, Cluster.renumber, Group.{clusterStarts, subchannelStarts, groupIn}}
 use Rattle.pusc_dl_lit.specs.Lit.{hasGroup}
 use Rattle.pusc_dl.specs.Map.{logicalOf, usedGroup}
 use Rattle.pusc_dl.proofs.Law.{point-group}
 use Rattle.pusc_dl_lit.proofs.Lit.{all-groups}
-use Rattle.map.specs.Setup.{Setup, setupWith}
-use Rattle.map.specs.Mode.{subchannels, band, spotOf}
-use Rattle.map.specs.Place.{Place, usedCarrier, placeAt, contentOf}
-use Rattle.map.specs.Law.{PlacedAt}
+use Rattle.map.specs.{Setup.{Setup, setupWith}, Mode.{subchannels, band, spotOf}, Place.{Place, usedCarrier, placeAt, contentOf}, Law.PlacedAt}
 use Rattle.map.specs.Model.{Valid, pusc-dl, pusc-ul, ofusc, amc}
-use Rattle.map.proofs.Choice.{amc-not-0}
-use Rattle.map.proofs.ByMode.{few}
-use Rattle.map.proofs.Slot.{slot-law, band-law, centred}
-use Rattle.map.proofs.Law.{placing}
-use Rattle.mask.specs.Mask.{isMask, isLit, isUsedLit, litContent, litSubchannels, litRank, ofLitRank, allLit}
-use Rattle.mask.specs.Law.{MaskLaw}
+use Rattle.map.proofs.{Choice.amc-not-0, ByMode.few, Slot.{slot-law, band-law, centred}, Law.placing}
+use Rattle.mask.specs.{Mask.{isMask, isLit, isUsedLit, litContent, litSubchannels, litRank, ofLitRank, allLit}, Law.MaskLaw}
 
 -- A POINT'S USED NUMBER IS LIT EXACTLY WHEN ITS SUBCHANNEL IS, by its spot.
 pub point-lit : {setup : Setup} → Valid setup → (mask slot s m : ℕ) → s < subchannels setup → m < 48

@@ -1,17 +1,10 @@
 -- Optional FUSC numbers the data carriers of a symbol one for one: the group is a rotation of the index, the place in the group an exclusive or, and both are digits of the data number.
-use mathlib.Core.Path.{_≡_, sym}
-use Prim.Native.Nat.{ℕ, _*_, _/_, _%_, _<_}
-use native.Mathlib.Nat.{mod-lt, div-add-mod', div-lt-iff-lt-mul}
-use native.Mathlib.Omega.{arith}
-use lib.Arith.{digits-div, digits-mod, digits-lt, lt-one}
-use lib.Dec.{lit<}
-use lib.Bits.{bitXor}
-use Rattle.base.proofs.Perm.{rotation}
-use Rattle.base.proofs.Xor.{xor-twice}
-use Rattle.carriers.specs.Bin.{inOnlySymbol}
-use Rattle.carriers.specs.Law.{NumberLaw}
-use Rattle.ofusc.specs.Width.{Width}
-use Rattle.ofusc.specs.Map.{groupOf, cellTerm, dataNumber, addressOf}
+use Rattle.base.proofs.Prelude.{_≡_, sym, ℕ, _*_, _/_, _%_, _<_, mod-lt, div-add-mod', div-lt-iff-lt-mul, arith, digits-div, digits-mod, digits-lt}
+use Rattle.base.proofs.Prelude.{lit<}
+use Rattle.base.proofs.{Perm.rotation, Xor.xor-twice}
+use lib.{Arith.lt-one, Bits.bitXor}
+use Rattle.carriers.specs.{Bin.inOnlySymbol, Law.NumberLaw}
+use Rattle.ofusc.specs.{Width.Width, Map.{groupOf, cellTerm, dataNumber, addressOf}}
 use Rattle.ofusc.proofs.Sequence.{pos, size, sum-lt, cell-term-lt}
 
 pub group-lt : (s m : ℕ) → groupOf s m < 48

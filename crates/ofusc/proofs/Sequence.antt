@@ -1,23 +1,13 @@
 -- What the sequences are made of: document 002's rows, each computed from the rule once; each entry is an element of the field.
-use mathlib.Core.Path.{_≡_, refl, sym, ap, _∙_, subst, subst⁻¹}
-use mathlib.Core.Bool.{Bool}
-use Prim.Native.Nat.{ℕ, _+_, _-_, _*_, _/_, _%_, _^_, _<_, _≤_}
-use native.Mathlib.Nat.{mod-lt, mod-add-mod}
-use native.Mathlib.Omega.{arith}
-use lib.Dec.{T, eqb, ltb, ltb→lt}
-use borrow.Author.Tests.{eq-eqb, ne-eqb}
+use Rattle.base.proofs.Prelude.{_≡_, refl, sym, ap, _∙_, subst, subst⁻¹, Bool, ℕ, _+_, _-_, _*_, _/_, _%_, _<_, _≤_, mod-lt, arith, T, eqb, ltb}
+use Rattle.base.proofs.Prelude.{ltb→lt, eq-eqb, ne-eqb}
+use Rattle.base.proofs.{Test.cases, Table.{all, all-at}, Tabulate.entry-of}
+use native.Mathlib.Nat.{mod-add-mod}
 use lib.Bits.{bitXor, xor-lt}
-use Rattle.base.specs.Choice.{pick}
-use Rattle.base.specs.Steps.{entry}
-use Rattle.base.specs.Tabulate.{tabulate}
-use Rattle.base.proofs.Test.{cases}
-use Rattle.base.proofs.Table.{all, all-at}
-use Rattle.base.proofs.Tabulate.{entry-of}
-use Rattle.ofusc.specs.Width.{Width, n4, n8, n16, n32}
-use Rattle.ofusc.specs.Field.{modulus, coefficient, product, remainder, times, power, p1, p2}
-use Rattle.ofusc.specs.Table.{printed1, printed2}
-use Rattle.ofusc.specs.Map.{term, cellTerm}
-use Rattle.ofusc.specs.Law.{SequenceLaw}
+use Rattle.base.specs.{Choice.pick, Steps.entry, Tabulate.tabulate}
+use Rattle.ofusc.specs.{Width.{Width, n4, n8, n16, n32}, Field.{modulus, coefficient, product, remainder, times, power, p1, p2}}
+use Rattle.ofusc.specs.{Table.{printed1, printed2}, Map.{term, cellTerm}, Law.SequenceLaw}
+use Prim.Native.Nat.{_^_}
 
 -- a test computed at each of the four N
 pub at-width : (f : ℕ → Bool) → T (f 4) × T (f 8) × T (f 16) × T (f 32) → {n : ℕ} → Width n → T (f n)

@@ -1,16 +1,8 @@
 -- The tables of the code hold document 002's rows: a test computed over each table.
-use mathlib.Core.Path.{_≡_, sym, ap₂, _∙_}
-use mathlib.Core.Bool.{Bool}
-use mathlib.Core.List.{List, [], _∷_}
-use Prim.Native.Nat.{ℕ, _+_, _-_, _/_, _%_, _<_}
+use Rattle.base.proofs.{Prelude.{_≡_, sym, ap₂, _∙_, Bool, List, [], _∷_, ℕ, _+_, _-_, _/_, _%_, _<_, T, eqb, eqb→eq}, Table.{all, all-at}}
 use lib.Bits.{bitXor}
-use lib.Dec.{T, eqb, eqb→eq}
 use Rattle.base.specs.Steps.{entry}
-use Rattle.base.proofs.Table.{all, all-at}
-use Rattle.ofusc.specs.Width.{Width}
-use Rattle.ofusc.specs.Field.{p1, p2}
-use Rattle.ofusc.specs.Table.{printed1, printed2}
-use Rattle.ofusc.specs.Map.{term, cellTerm}
+use Rattle.ofusc.specs.{Width.Width, Field.{p1, p2}, Table.{printed1, printed2}, Map.{term, cellTerm}}
 use Rattle.ofusc.proofs.Sequence.{at-width, sequence-law, term-as}
 
 -- the code's tables, in which the row of N starts at place N

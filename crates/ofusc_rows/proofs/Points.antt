@@ -1,20 +1,14 @@
 -- The points of a bin: the subchannel comes back out of the data number by what the cell fixes.
-use mathlib.Core.Path.{_≡_, sym, ap, _∙_, subst⁻¹}
-use mathlib.Core.Bool.{Bool, true, false}
-use Prim.Native.Nat.{ℕ, _+_, _*_, _/_, _%_, _^_, _<_}
-use native.Mathlib.Nat.{mod-lt, div-add-mod', div-lt-iff-lt-mul}
-use native.Mathlib.Omega.{arith}
-use lib.Dec.{ltb}
-use lib.Bits.{bitXor, xor-block, xor-self}
-use borrow.Author.Tests.{ltb-true, ltb-false}
-use Rattle.base.specs.Choice.{pick}
+use Rattle.base.proofs.Prelude.{_≡_, sym, ap, _∙_, subst⁻¹, Bool, true, false, ℕ, _+_, _*_, _/_, _%_, _<_, mod-lt, div-add-mod', div-lt-iff-lt-mul}
+use Rattle.base.proofs.Prelude.{arith, ltb, ltb-true, ltb-false}
 use Rattle.base.proofs.Test.{cases}
+use lib.Bits.{bitXor, xor-block, xor-self}
+use Rattle.base.specs.Choice.{pick}
 use Rattle.carriers.specs.Model.{addressNumber}
-use Rattle.ofusc.specs.Width.{Width, n4, n8, n16, n32}
-use Rattle.ofusc.specs.Map.{cellTerm, addressOf}
+use Rattle.ofusc.specs.{Width.{Width, n4, n8, n16, n32}, Map.{cellTerm, addressOf}}
 use Rattle.ofusc_rows.specs.Model.{cellNumber, pointInGroup}
-use Rattle.ofusc.proofs.Sequence.{pos, size, cell-term-lt}
-use Rattle.ofusc.proofs.Law.{subchannel-lt}
+use Rattle.ofusc.proofs.{Sequence.{pos, size, cell-term-lt}, Law.subchannel-lt}
+use Prim.Native.Nat.{_^_}
 
 -- N is a power of two, so what two numbers of a group share goes out
 xor-group : {n : ℕ} → Width n → (k a b : ℕ) → a < n → b < n → bitXor (k * n + a) (k * n + b) ≡ bitXor a b

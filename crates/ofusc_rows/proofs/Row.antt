@@ -1,16 +1,12 @@
 -- A row of data numbers: the subchannel is added to what the cell fixes.
-use mathlib.Core.Path.{_≡_, refl, ap, ap₂, _∙_, subst⁻¹}
-use Prim.Native.Nat.{ℕ, _+_, _-_, _*_, _/_, _%_, _^_, _<_, _≤_}
+use Rattle.base.proofs.Prelude.{_≡_, refl, ap, ap₂, _∙_, subst⁻¹, ℕ, _+_, _-_, _*_, _/_, _%_, _<_, _≤_, arith, digits-lt}
 use native.Mathlib.Nat.{add-mul, add-mod-right}
-use native.Mathlib.Omega.{arith}
-use lib.Arith.{digits-lt}
 use lib.Bits.{bitXor, xor-block, xor-zero-r, xor-comm}
 use Rattle.base.specs.Steps.{entry}
-use Rattle.ofusc.specs.Width.{Width}
-use Rattle.ofusc.specs.Map.{groupOf, term, cellTerm, dataNumber}
+use Rattle.ofusc.specs.{Width.Width, Map.{groupOf, term, cellTerm, dataNumber}}
 use Rattle.ofusc_rows.specs.Model.{cellNumber, groupNumber}
-use Rattle.ofusc.proofs.Sequence.{size, cell-term-lt, cell-term-as}
-use Rattle.ofusc.proofs.Tables.{rows1, rows2, cell-term-is}
+use Rattle.ofusc.proofs.{Sequence.{size, cell-term-lt, cell-term-as}, Tables.{rows1, rows2, cell-term-is}}
+use Prim.Native.Nat.{_^_}
 
 module _ {n : ℕ} (w : Width n) (cell : ℕ) where
   pub cell-number-lt : (k : ℕ) → k < 48 → cellNumber n cell k < 1536

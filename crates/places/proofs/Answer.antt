@@ -1,21 +1,13 @@
 -- What a row of places comes to, by the numbers of its questions.
-use mathlib.Core.Path.{_≡_, sym, ap, _∙_}
-use mathlib.Core.List.{List}
-use Prim.Native.Nat.{ℕ, _<_}
-use Rattle.base.specs.Answer.{accepted, refused}
-use Rattle.base.specs.Tabulate.{tabulate}
-use Rattle.base.proofs.Tabulate.{tabulated, length-tabulate, getD-tabulate}
-use Rattle.map.specs.Setup.{Setup}
-use Rattle.map.specs.Mode.{subchannels}
-use Rattle.map.specs.Model.{Valid}
+use Rattle.base.proofs.{Prelude.{_≡_, sym, ap, _∙_, List, ℕ, _<_}, Tabulate.{tabulated, length-tabulate, getD-tabulate}}
+use Rattle.base.specs.{Answer.{accepted, refused}, Tabulate.tabulate}
+use Rattle.map.specs.{Setup.Setup, Mode.subchannels, Model.Valid}
 use Rattle.map.proofs.Accept.{passes, slot-yes, subchannel-yes}
 use Rattle.points.specs.Model.{turned}
-use Rattle.rows.specs.declared.CarrierRow.{CarrierRow}
-use Rattle.rows.specs.Model.{RowOf}
+use Rattle.rows.specs.{declared.CarrierRow.CarrierRow, Model.RowOf}
 use Rattle.grid.specs.Grid.{standsAt}
 use Rattle.grid.proofs.Slot.{row-at}
-use Rattle.places.specs.declared.PlaceRow.{PlaceRow}
-use Rattle.places.specs.Places.{askPlaces, placeRow, placesOf}
+use Rattle.places.specs.{declared.PlaceRow.PlaceRow, Places.{askPlaces, placeRow, placesOf}}
 
 module _ (setup : Setup) (slot s : ℕ) where
   -- a refusal, with the zeros that go with it

@@ -1,36 +1,20 @@
 -- THE LAW OF THE PLACES, from the questions of a row and from where a point stands in the grid.
-use mathlib.Core.Path.{_≡_, refl, sym, ap, _∙_}
-use mathlib.Core.List.{List, [], _∷_, _++_}
+use Rattle.base.proofs.Prelude.{_≡_, refl, sym, ap, _∙_, List, [], _∷_, _++_, ℕ, _%_, _<_, length, lt-ltb, ltb-true, eq-eqb}
+use Rattle.base.proofs.{Chain.{Questions, all-numbered, all-yes, number-is}, Tabulate.{length-tabulate, getD-tabulate, tabulated, entry-of}}
 use mathlib.Core.Logic.{_⊎_, ⊎-elim}
-use Prim.Native.Nat.{ℕ, _%_, _<_}
-use lib.ListN.{length}
 use lib.Ieee.{Float}
-use borrow.Author.Tests.{lt-ltb, ltb-true, eq-eqb}
-use Rattle.base.specs.Answer.{Answer, accepted, refused, refusalOf}
-use Rattle.base.specs.Steps.{entry}
-use Rattle.base.proofs.Chain.{Questions, all-numbered, all-yes, number-is}
-use Rattle.base.specs.Tabulate.{tabulate}
-use Rattle.base.proofs.Tabulate.{length-tabulate, getD-tabulate, tabulated, entry-of}
+use Rattle.base.specs.{Answer.{Answer, accepted, refused, refusalOf}, Steps.entry, Tabulate.tabulate}
 use Rattle.carriers.specs.Bin.{binPilotPlace, usedOfData}
-use Rattle.map.specs.Setup.{Setup}
-use Rattle.map.specs.Mode.{subchannels, symbols, spotOf}
-use Rattle.map.specs.Question.{isSlot, isSubchannel, isIndex}
-use Rattle.map.specs.Place.{placeAt, placeOf}
+use Rattle.map.specs.{Setup.Setup, Mode.{subchannels, symbols, spotOf}, Question.{isSlot, isSubchannel, isIndex}, Place.{placeAt, placeOf}}
 use Rattle.map.specs.Model.{Valid}
-use Rattle.map.proofs.Accept.{valid, setupQuestions}
-use Rattle.map.proofs.Alike.{Alike, alike-mod-3, alike-by-threes}
-use Rattle.map.proofs.Law.{placing}
+use Rattle.map.proofs.{Accept.{valid, setupQuestions}, Alike.{Alike, alike-mod-3, alike-by-threes}, Law.placing}
 use Rattle.points.specs.Points.{pointAt}
 use Rattle.lengths.specs.Length.{gridPoints}
-use Rattle.grid.specs.Row.{columnPosition}
-use Rattle.grid.specs.Grid.{standsAt}
+use Rattle.grid.specs.{Row.columnPosition, Grid.{standsAt, Leaves, PlacedIn}}
 use Rattle.lay.specs.Lay.{relaid, layOf}
-use Rattle.grid.specs.Grid.{Leaves, PlacedIn}
 use Rattle.grid.proofs.Slot.{stands-lt, lit-holds, placed-there}
 use Rattle.lay.proofs.Left.{lay-fits, lay-at}
-use Rattle.places.specs.declared.PlaceRow.{PlaceRow}
-use Rattle.places.specs.Places.{askPlaces, placeRow, placesOf}
-use Rattle.places.specs.Law.{PlaceLaw}
+use Rattle.places.specs.{declared.PlaceRow.PlaceRow, Places.{askPlaces, placeRow, placesOf}, Law.PlaceLaw}
 use Rattle.places.proofs.Answer.{row-is}
 
 -- of an answer, whatever it is

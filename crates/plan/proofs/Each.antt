@@ -1,11 +1,8 @@
 -- What a list gives, one behind the other: the first of it and one more, and putting it into a buffer one by one.
-use mathlib.Core.Path.{_≡_, refl, sym, ap, _∙_}
-use mathlib.Core.List.{List, [], _∷_, _++_, append-assoc, append-nil}
-use Prim.Native.Nat.{ℕ, zero, suc, _+_, _<_, _≤_}
-use native.Mathlib.Omega.{arith}
+use Rattle.base.proofs.Prelude.{_≡_, refl, sym, ap, _∙_, List, [], _∷_, _++_, ℕ, zero, suc, _+_, _<_, _≤_, arith, length, take, getD}
+use mathlib.Core.List.{append-assoc, append-nil}
 use native.Mathlib.Numerals.{add-one}
-use lib.ListN.{length, take, getD, length-append}
-use lib.Seq.{take-suc, take-all}
+use lib.{ListN.length-append, Seq.{take-suc, take-all}}
 use Rattle.text.specs.Text.{Put}
 use Rattle.text.proofs.Laws.{put-none, put-then}
 use Rattle.plan.specs.Plan.{each}

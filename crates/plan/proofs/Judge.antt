@@ -1,26 +1,13 @@
 -- The questions put to a plan as a list, what a yes to all of them says, and what they come to by the numbers that functions gave.
-use mathlib.Core.Path.{_≡_, refl, sym, ap, _∙_}
-use mathlib.Core.Bool.{true}
-use mathlib.Core.List.{List, [], _∷_, _++_}
-use Prim.Native.Nat.{ℕ, zero, suc, _+_, _<_, _≤_}
-use lib.Dec.{T}
-use lib.ListN.{length, take, drop, getD}
+use Rattle.base.proofs.Prelude.{_≡_, refl, sym, ap, _∙_, true, List, [], _∷_, _++_, ℕ, zero, suc, _+_, _<_, _≤_, T, length, take, drop, getD}
+use Rattle.base.proofs.{Chain.{Questions, askAll, firstNo, AllYes, counted, all-yes, yes-parts, all-accepted, all-pass, is-refused}, Test.up-to}
 use Rattle.base.specs.Answer.{Answer, accepted, refused, refusalOf}
-use Rattle.base.proofs.Chain.{Questions, askAll, firstNo, AllYes, counted, all-yes, yes-parts, all-accepted, all-pass, is-refused}
-use Rattle.base.proofs.Test.{up-to}
-use Rattle.map.specs.Setup.{setupWith}
-use Rattle.map.specs.Question.{isFourSizes, isSize}
+use Rattle.map.specs.{Setup.setupWith, Question.{isFourSizes, isSize}}
 use Rattle.map.proofs.Accept.{size-most}
-use Rattle.zone.specs.declared.Zone.{Zone}
-use Rattle.zone.specs.declared.Before.{Before}
-use Rattle.zone.specs.declared.Before.the-variants.{First, After}
-use Rattle.zone.specs.Zone.{askZone, unused}
+use Rattle.zone.specs.{declared.Zone.Zone, declared.Before.Before, declared.Before.the-variants.{First, After}, Zone.{askZone, unused}}
 use Rattle.zone.specs.Model.{zoneRefusal, Small}
-use Rattle.zone.proofs.Number.{zoneQuestions, zone-no, zone-passed}
-use Rattle.zone.proofs.Judge.{small, small-unused}
-use Rattle.plan.specs.declared.Plan.{Plan}
-use Rattle.plan.specs.Plan.{isCount, inPlaces, areUnused, usedZones, askZones, askPlan}
-use Rattle.plan.specs.Model.{zonesRefusal, planRefusal}
+use Rattle.zone.proofs.{Number.{zoneQuestions, zone-no, zone-passed}, Judge.{small, small-unused}}
+use Rattle.plan.specs.{declared.Plan.Plan, Plan.{isCount, inPlaces, areUnused, usedZones, askZones, askPlan}, Model.{zonesRefusal, planRefusal}}
 use Rattle.plan.proofs.Places.{used-next, used-none, places-of}
 
 -- ---- the zones one after the other

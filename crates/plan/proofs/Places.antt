@@ -1,15 +1,11 @@
 -- The laws of a plan's places.
-use mathlib.Core.Path.{_≡_, refl, sym, ap, ap₂, _∙_}
-use mathlib.Core.Bool.{true, false}
-use mathlib.Core.List.{List, [], _∷_, _++_, map}
-use Prim.Native.Nat.{ℕ, zero, suc, _+_, _<_, _≤_}
-use native.Mathlib.Omega.{arith}
-use native.Mathlib.Numerals.{add-one}
-use lib.ListN.{length, take, drop, getD, set, length-map, drop-of-length-le}
-use lib.Seq.{drop-cons, getD-take, length-take-le}
+use Rattle.base.proofs.Prelude.{_≡_, refl, sym, ap, ap₂, _∙_, true, false, List, [], _∷_, _++_, ℕ, zero, suc, _+_, _<_, _≤_, arith, length, take}
+use Rattle.base.proofs.Prelude.{drop, getD, set}
 use Rattle.base.proofs.Test.{both-true}
-use Rattle.zone.specs.declared.Zone.{Zone}
-use Rattle.zone.specs.Zone.{unused, isUnused}
+use mathlib.Core.List.{map}
+use native.Mathlib.Numerals.{add-one}
+use lib.{ListN.{length-map, drop-of-length-le}, Seq.{drop-cons, getD-take, length-take-le}}
+use Rattle.zone.specs.{declared.Zone.Zone, Zone.{unused, isUnused}}
 use Rattle.zone.proofs.Judge.{unused-is}
 use Rattle.plan.specs.Plan.{inPlaces, areUnused}
 

@@ -1,27 +1,17 @@
 -- Rows of numbers and places, one after the other, and that the numbers of a plan that was read fit into 32 bits.
-use mathlib.Core.Path.{_≡_, refl, sym, ap, _∙_}
-use mathlib.Core.List.{List, [], _∷_, _++_}
-use Prim.Native.Nat.{ℕ, _+_, _*_, _<_, _≤_}
-use native.Mathlib.Omega.{arith}
+use Rattle.base.proofs.Prelude.{_≡_, refl, sym, ap, _∙_, List, [], _∷_, _++_, ℕ, _+_, _*_, _<_, _≤_, arith, length, take, getD, set, length-set}
+use Rattle.base.proofs.Tabulate.{WrittenAt, at-next, all-written}
 use native.Mathlib.Numerals.{add-one, add-two, add-three}
-use lib.ListN.{length, take, getD, set, length-set}
 use lib.Seq.{take-all, sets-eq}
 use Rattle.base.specs.Answer.{Answer, accepted, refused}
-use Rattle.base.proofs.Tabulate.{WrittenAt, at-next, all-written}
 use Rattle.text.specs.Text.{put}
 use Rattle.text.proofs.Laws.{take-put}
-use Rattle.zone.specs.declared.Zone.{Zone}
-use Rattle.plan.specs.declared.Plan.{Plan}
-use Rattle.plan_read.specs.declared.ReadPlan.{ReadPlan}
-use Rattle.zone.specs.Zone.{valuesOf, unused}
-use Rattle.plan.specs.Plan.{each}
-use Rattle.plan_read.specs.Read.{planWith, planOf, answered}
-use Rattle.zone.specs.Model.{Small}
-use Rattle.plan.proofs.Judge.{none-small, all-small, count-most, size-small}
-use Rattle.plan.proofs.Each.{each-more}
+use Rattle.zone.specs.{declared.Zone.Zone, Zone.{valuesOf, unused}, Model.Small}
+use Rattle.plan.specs.{declared.Plan.Plan, Plan.each}
+use Rattle.plan_read.specs.{declared.ReadPlan.ReadPlan, Read.{planWith, planOf, answered}}
+use Rattle.plan.proofs.{Judge.{none-small, all-small, count-most, size-small}, Each.each-more}
 use Rattle.plan_write.proofs.Round.{plan-of}
-use Rattle.plan_numbers.specs.Numbers.{numbersOf, placeIn, placesIn}
-use Rattle.plan_numbers.specs.Model.{AllSmall}
+use Rattle.plan_numbers.specs.{Numbers.{numbersOf, placeIn, placesIn}, Model.AllSmall}
 
 four : (l : List ℕ) (i a b c d : ℕ) → i + 4 ≤ length l → take (i + 4) (set (set (set (set l i a) (i + 1) b) (i + 2) c) (i + 3) d) ≡ take i l ++ (a ∷ b ∷ c ∷ d ∷ [])
 unfolding put

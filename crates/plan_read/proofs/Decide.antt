@@ -1,21 +1,11 @@
 -- The first bytes decide: each value looks at three bytes at most, and the last question at whether there is one more.
-use mathlib.Core.Path.{_≡_, refl, ap, _∙_}
-use mathlib.Core.List.{List, [], _∷_}
-use Prim.Native.Nat.{ℕ, zero, suc, _+_, _-_, _*_, _≤_}
-use native.Mathlib.Omega.{arith}
-use lib.ListN.{length, take, drop, length-append, length-drop}
-use lib.Seq.{drop-at, take-add, length-take-le}
-use borrow.Author.Tests.{ne-eqb}
-use Rattle.base.specs.Choice.{pick}
-use Rattle.base.specs.Answer.{Answer, accepted, refused, ask}
-use Rattle.base.proofs.Test.{cases}
+use Rattle.base.proofs.{Prelude.{_≡_, refl, ap, _∙_, List, [], _∷_, ℕ, zero, suc, _+_, _-_, _*_, _≤_, arith, length, take, drop, ne-eqb}, Test.cases}
+use lib.{ListN.{length-append, length-drop}, Seq.{drop-at, take-add, length-take-le}}
+use Rattle.base.specs.{Choice.pick, Answer.{Answer, accepted, refused, ask}}
 use Rattle.map.specs.Question.{isFourSizes}
 use Rattle.value.specs.Value.{Value, valueOf, encodeIn}
 use Rattle.value.proofs.Laws.{no-longer, bytes-within, again, first-decide, at-most-three}
-use Rattle.zone.specs.declared.Zone.{Zone}
-use Rattle.zone.specs.declared.Before.{Before}
-use Rattle.zone.specs.declared.Before.the-variants.{First, After}
-use Rattle.zone.specs.Zone.{zoneOf, askZone}
+use Rattle.zone.specs.{declared.Zone.Zone, declared.Before.Before, declared.Before.the-variants.{First, After}, Zone.{zoneOf, askZone}}
 use Rattle.plan.specs.Plan.{isCount}
 use Rattle.plan.proofs.Judge.{count-most}
 use Rattle.plan_read.specs.Read.{handOn, readValue, readValues, readZones, finish, planOf}

@@ -1,20 +1,12 @@
 -- The plans that documents 01 and 02 name, and others that show which question comes first.
-use mathlib.Core.Path.{_≡_, refl}
-use mathlib.Core.List.{[], _∷_}
-use Prim.Native.Nat.{ℕ, _<_, _≤_}
-use native.Mathlib.Omega.{arith}
-use borrow.Author.Tests.{lt-ltb, ne-eqb}
-use Rattle.base.specs.Choice.{isUpTo}
-use Rattle.base.specs.Answer.{Answer, accepted, refused}
-use Rattle.map.specs.Question.{isSize, isCell, isFourSizes}
-use Rattle.map.specs.Mode.{cells, width}
+use Rattle.base.proofs.Prelude.{_≡_, refl, [], _∷_, ℕ, _<_, _≤_, arith, lt-ltb, ne-eqb}
+use Rattle.base.specs.{Choice.isUpTo, Answer.{Answer, accepted, refused}}
+use Rattle.map.specs.{Question.{isSize, isCell, isFourSizes}, Mode.{cells, width}}
 use Rattle.mask.specs.Mask.{isMask}
 use Rattle.value.specs.Value.{valueIn}
-use Rattle.zone.specs.declared.Zone.{Zone}
-use Rattle.zone.specs.Zone.{isZoneMode, isOpening, isAmc, isFollowing}
+use Rattle.zone.specs.{declared.Zone.Zone, Zone.{isZoneMode, isOpening, isAmc, isFollowing}}
 use Rattle.zone.proofs.Points.{by-mode, by-amc}
-use Rattle.plan.specs.declared.Plan.{Plan}
-use Rattle.plan.specs.Plan.{inPlaces}
+use Rattle.plan.specs.{declared.Plan.Plan, Plan.inPlaces}
 use Rattle.plan_read.specs.Read.{planWith, planOf, readZones, readValues}
 
 abbrev zone : ℕ → ℕ → ℕ → ℕ → Zone

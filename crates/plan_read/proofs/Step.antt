@@ -1,30 +1,18 @@
 -- Reading from a place on, value by value and zone by zone.
-use mathlib.Core.Path.{_≡_, refl, sym, ap, _∙_}
-use mathlib.Core.List.{List, [], _∷_, _++_, append-nil}
-use Prim.Native.Nat.{ℕ, suc, _+_, _-_, _<_, _≤_}
-use native.Mathlib.Omega.{arith}
+use Rattle.base.proofs.Prelude.{_≡_, refl, sym, ap, _∙_, List, [], _∷_, _++_, ℕ, suc, _+_, _-_, _<_, _≤_, arith, length, take, drop, set, length-set}
+use Rattle.base.proofs.Prelude.{eq-eqb, ne-eqb}
+use mathlib.Core.List.{append-nil}
 use native.Mathlib.Numerals.{add-one}
-use lib.ListN.{length, take, drop, set, length-append, length-drop, length-set}
-use lib.Seq.{append-snoc, drop-drop, take-all, take-suc-set}
-use borrow.Author.Tests.{eq-eqb, ne-eqb}
+use lib.{ListN.{length-append, length-drop}, Seq.{append-snoc, drop-drop, take-all, take-suc-set}}
 use Rattle.base.specs.Answer.{Answer, accepted, refused}
-use Rattle.value.specs.declared.Found.{Found as ValueFound}
-use Rattle.value.specs.declared.Found.the-variants.{Value, Refused as NoValue}
-use Rattle.value.specs.Value.{found, valueOf}
+use Rattle.value.specs.{declared.Found.Found as ValueFound, declared.Found.the-variants.{Value, Refused as NoValue}, Value.{found, valueOf}}
 use Rattle.value.proofs.Laws.{bytes-within}
-use Rattle.zone.specs.declared.Zone.{Zone}
-use Rattle.zone.specs.declared.Before.{Before}
-use Rattle.zone.specs.declared.Before.the-variants.{First, After}
-use Rattle.zone.specs.Zone.{askZone}
-use Rattle.zone.specs.Model.{zoneRefusal}
+use Rattle.zone.specs.{declared.Zone.Zone, declared.Before.Before, declared.Before.the-variants.{First, After}, Zone.askZone, Model.zoneRefusal}
 use Rattle.zone.proofs.Number.{zone-no, zone-passed}
-use Rattle.plan.specs.declared.Plan.{Plan}
-use Rattle.plan.specs.Plan.{inPlaces}
+use Rattle.plan.specs.{declared.Plan.Plan, Plan.inPlaces}
 use Rattle.plan.proofs.Places.{set-places}
-use Rattle.plan_read.specs.declared.ZoneFound.{ZoneFound}
-use Rattle.plan_read.specs.declared.ZoneFound.the-variants.{Found, Refused}
-use Rattle.plan_read.specs.Read.{handOn, readValues, readZones, finish}
-use Rattle.plan_read.specs.Model.{zoneFound, ZoneAt}
+use Rattle.plan_read.specs.{declared.ZoneFound.ZoneFound, declared.ZoneFound.the-variants.{Found, Refused}}
+use Rattle.plan_read.specs.{Read.{handOn, readValues, readZones, finish}, Model.{zoneFound, ZoneAt}}
 
 -- what `value::read` found lies within the bytes
 pub value-within : (s : List ℕ) {r : ValueFound} {x n : ℕ} → found r ≡ valueOf s → r ≡ Value x n → n ≤ length s

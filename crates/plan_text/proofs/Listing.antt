@@ -1,10 +1,6 @@
 -- The text of what reading a plan answers.
-use mathlib.Core.Path.{_≡_, ap, _∙_}
-use mathlib.Core.List.{List}
-use Prim.Native.Nat.{ℕ, _+_, _≤_}
-use native.Mathlib.Omega.{arith}
-use lib.ListN.{length, drop, length-append}
-use borrow.Author.Tests.{eq-eqb, ne-eqb}
+use Rattle.base.proofs.Prelude.{_≡_, ap, _∙_, List, ℕ, _+_, _≤_, arith, length, drop, eq-eqb, ne-eqb}
+use lib.ListN.{length-append}
 use Rattle.text.specs.Text.{put, Put}
 use Rattle.plan_read.specs.declared.ReadPlan.{ReadPlan}
 use Rattle.plan.specs.Plan.{usedZones}

@@ -1,23 +1,15 @@
 -- How many bytes zones and plans take, and the answers of writing.
-use mathlib.Core.Path.{_≡_, ap}
-use mathlib.Core.List.{List, [], _∷_}
-use Prim.Native.Nat.{ℕ, zero, suc, _+_, _*_, _<_, _≤_}
+use Rattle.base.proofs.Prelude.{_≡_, ap, List, [], _∷_, ℕ, zero, suc, _+_, _*_, _<_, _≤_, arith, leb, length, take, getD}
 use native.Mathlib.Nat.{zero-add}
-use native.Mathlib.Omega.{arith}
-use lib.Dec.{leb}
-use lib.ListN.{length, take, getD, length-append, length-take}
+use lib.ListN.{length-append, length-take}
 use borrow.Author.Tests.{le-leb, lt-leb}
 use Rattle.base.specs.Answer.{accepted, refused, ask}
 use Rattle.text.specs.Text.{put, Put}
 use Rattle.text.proofs.Laws.{take-put}
 use Rattle.value.specs.Value.{encodeIn, encode}
 use Rattle.value.proofs.Laws.{no-longer}
-use Rattle.zone.specs.declared.Zone.{Zone}
-use Rattle.zone.specs.Zone.{valuesOf, unused}
-use Rattle.zone.specs.Model.{Small}
-use Rattle.plan.specs.declared.Plan.{Plan}
-use Rattle.plan.specs.Plan.{usedZones, each}
-use Rattle.plan.specs.Model.{planRefusal}
+use Rattle.zone.specs.{declared.Zone.Zone, Zone.{valuesOf, unused}, Model.Small}
+use Rattle.plan.specs.{declared.Plan.Plan, Plan.{usedZones, each}, Model.planRefusal}
 use Rattle.plan.proofs.Judge.{Fit, plan-no, plan-passes, count-most, size-small, fit-small}
 use Rattle.plan_write.specs.Write.{zoneBytes, planBytes, afterWrite, writeOf}
 

@@ -1,7 +1,5 @@
 -- Everything that specs/Law.antt states.
-use mathlib.Core.Path.{sym, ap, _∙_}
-use native.Mathlib.Omega.{arith}
-use Rattle.base.proofs.Chain.{same-accepted}
+use Rattle.base.proofs.{Prelude.{sym, ap, _∙_, arith}, Chain.same-accepted}
 use Rattle.plan_read.specs.Read.{planOf}
 use Rattle.plan_write.specs.Law.{PlanLaw}
 use Rattle.plan_write.proofs.Round.{plan-of, same-bytes, same-plan, read-51}

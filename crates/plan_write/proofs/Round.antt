@@ -1,33 +1,20 @@
 -- Reading and writing undo each other.
-use mathlib.Core.Path.{_≡_, refl, sym, ap, _∙_}
-use mathlib.Core.Bool.{true}
-use mathlib.Core.List.{List, [], _∷_, _++_, append-assoc, append-nil}
-use Prim.Native.Nat.{ℕ, zero, suc, _<_, _≤_}
-use native.Mathlib.Omega.{arith}
-use lib.Dec.{eqb, leb}
-use lib.ListN.{length, take, drop, getD}
+use Rattle.base.proofs.Prelude.{_≡_, refl, sym, ap, _∙_, true, List, [], _∷_, _++_, ℕ, zero, suc, _<_, _≤_, arith, eqb, leb, length, take, drop, getD}
+use Rattle.base.proofs.Prelude.{eqb-true}
+use Rattle.base.proofs.{Chain.{AllYes, ask-yes, same-accepted, yes-parts, yes-both, all-accepted, all-pass}, Tabulate.tabulated}
+use mathlib.Core.List.{append-assoc, append-nil}
 use lib.Seq.{drop-append-seam, take-append-seam, take-all, length-take-le}
-use borrow.Author.Tests.{eqb-true, le-leb}
-use Rattle.base.specs.Answer.{Answer, accepted, refused, ask}
-use Rattle.base.specs.Tabulate.{tabulate}
-use Rattle.base.proofs.Chain.{AllYes, ask-yes, same-accepted, yes-parts, yes-both, all-accepted, all-pass}
-use Rattle.base.proofs.Tabulate.{tabulated}
+use borrow.Author.Tests.{le-leb}
+use Rattle.base.specs.{Answer.{Answer, accepted, refused, ask}, Tabulate.tabulate}
 use Rattle.map.specs.Question.{isFourSizes}
 use Rattle.value.specs.Value.{Bytes, Value, valueOf, encode}
 use Rattle.value.proofs.Laws.{read-written, Again, again, again-then}
-use Rattle.zone.specs.declared.Zone.{Zone}
-use Rattle.zone.specs.declared.Before.{Before}
-use Rattle.zone.specs.declared.Before.the-variants.{First, After}
-use Rattle.zone.specs.Zone.{zoneOf}
-use Rattle.zone.proofs.Number.{zoneQuestions}
-use Rattle.zone.proofs.Judge.{small}
-use Rattle.plan.specs.declared.Plan.{Plan}
-use Rattle.plan.specs.Plan.{isCount, inPlaces, usedZones, askPlan, each}
-use Rattle.plan.proofs.Places.{places-are, places-of, places-length}
-use Rattle.plan.proofs.Judge.{zonesQuestions, Fit, plan-yes, count-most, size-small}
+use Rattle.zone.specs.{declared.Zone.Zone, declared.Before.Before, declared.Before.the-variants.{First, After}, Zone.zoneOf}
+use Rattle.zone.proofs.{Number.zoneQuestions, Judge.small}
+use Rattle.plan.specs.{declared.Plan.Plan, Plan.{isCount, inPlaces, usedZones, askPlan, each}}
+use Rattle.plan.proofs.{Places.{places-are, places-of, places-length}, Judge.{zonesQuestions, Fit, plan-yes, count-most, size-small}}
 use Rattle.plan_read.specs.Read.{handOn, readValue, readValues, readZones, planWith, finish, planOf}
-use Rattle.plan_write.specs.Write.{zoneBytes, planBytes, AfterWrite, over, afterWrite, writeOf}
-use Rattle.plan_write.specs.Law.{Eight}
+use Rattle.plan_write.specs.{Write.{zoneBytes, planBytes, AfterWrite, over, afterWrite, writeOf}, Law.Eight}
 use Rattle.plan_write.proofs.Bytes.{Within, all, also, within, plan-51, write-fit}
 
 -- What was read at the head of bytes and fulfils something, with the bytes after it: written again they are the bytes, and reading went on with both.

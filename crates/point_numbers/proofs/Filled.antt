@@ -1,23 +1,11 @@
 -- A row's table of numbers, filled run after run.
-use mathlib.Core.Path.{_≡_, refl, sym, ap, _∙_}
-use mathlib.Core.Bool.{true}
-use mathlib.Core.List.{List}
-use Prim.Native.Nat.{ℕ, _+_, _*_, _<_, _≤_}
-use native.Mathlib.Omega.{arith}
-use lib.Arith.{digits-lt}
-use lib.Dec.{eqb}
-use lib.ListN.{length, replicate, length-replicate}
-use borrow.Author.Tests.{eqb-true, eqb-false}
-use Rattle.base.specs.Steps.{entry}
-use Rattle.base.specs.Model.{Starts}
-use Rattle.base.proofs.Test.{cases}
-use Rattle.base.proofs.Tabulate.{WrittenOver}
+use Rattle.base.proofs.Prelude.{_≡_, refl, sym, ap, _∙_, true, List, ℕ, _+_, _*_, _<_, _≤_, arith, digits-lt, eqb, length, replicate}
+use Rattle.base.proofs.Prelude.{length-replicate, eqb-true, eqb-false}
+use Rattle.base.proofs.{Test.cases, Tabulate.WrittenOver}
+use Rattle.base.specs.{Steps.entry, Model.Starts}
 use Rattle.ofusc.proofs.Sequence.{size}
-use Rattle.map.specs.Setup.{Setup}
-use Rattle.map.specs.Mode.{width}
-use Rattle.map.specs.Model.{OverBins, Valid, pusc-dl, pusc-ul, ofusc, amc}
-use Rattle.map.proofs.Choice.{at-1, at-bins, by-mode}
-use Rattle.map.proofs.ByMode.{bin-width}
+use Rattle.map.specs.{Setup.Setup, Mode.width, Model.{OverBins, Valid, pusc-dl, pusc-ul, ofusc, amc}}
+use Rattle.map.proofs.{Choice.{at-1, at-bins, by-mode}, ByMode.bin-width}
 use Rattle.mask.specs.Mask.{isUsedLit}
 use Rattle.clusters.specs.Cluster.{firstPilot, secondPilot}
 use Rattle.runs.specs.Model.{runStep, runCount, tileRuns, runFirst, runSecond, runsOf, runPoints}

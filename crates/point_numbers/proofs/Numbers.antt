@@ -1,41 +1,25 @@
 -- The numbers of a run's points, from the tables and the runs of its mode.
-use mathlib.Core.Path.{_≡_, sym, ap, ap₂, _∙_}
-use mathlib.Core.Bool.{true}
-use mathlib.Core.List.{List}
-use Prim.Native.Nat.{ℕ, _+_, _*_, _/_, _%_, _<_}
-use native.Mathlib.Omega.{arith}
-use lib.Arith.{digits-mod}
-use lib.Dec.{eqb}
-use borrow.Author.Tests.{ne-eqb}
-use Rattle.base.specs.Steps.{skip, entry}
-use Rattle.base.specs.Model.{Starts}
-use Rattle.base.proofs.Test.{cases}
-use Rattle.base.proofs.Tabulate.{starts-as}
-use Rattle.base.proofs.Rank.{rank-all}
-use Rattle.base.proofs.LeaveOut.{skip-below, skip-above, skip-lt}
-use Rattle.carriers.specs.declared.Address.{Address}
-use Rattle.carriers.specs.Bin.{binPilotPlace, usedOfData, dataOfUsed}
-use Rattle.carriers.specs.Model.{addressNumber}
+use Rattle.base.proofs.{Prelude.{_≡_, sym, ap, ap₂, _∙_, true, List, ℕ, _+_, _*_, _/_, _%_, _<_, arith, digits-mod, eqb, ne-eqb}, Test.cases}
+use Rattle.base.proofs.{Tabulate.starts-as, Rank.rank-all, LeaveOut.{skip-below, skip-above, skip-lt}}
+use Rattle.base.specs.{Steps.{skip, entry}, Model.Starts}
+use Rattle.carriers.specs.{declared.Address.Address, Bin.{binPilotPlace, usedOfData, dataOfUsed}, Model.addressNumber}
 use Rattle.carriers.proofs.Bin.{data-used}
 use Rattle.ofusc.specs.Width.{Width}
 use Rattle.ofusc.proofs.Sequence.{size}
-use Rattle.amc.specs.declared.Shape.{Shape}
-use Rattle.amc.specs.Model.{IsShape}
-use Rattle.map.specs.Setup.{Setup, setupLent}
-use Rattle.map.specs.Mode.{shapeOf, width, symbols, addressOf}
+use Rattle.amc.specs.{declared.Shape.Shape, Model.IsShape}
+use Rattle.map.specs.{Setup.{Setup, setupLent}, Mode.{shapeOf, width, symbols, addressOf}}
 use Rattle.map.specs.Model.{OverBins, IsAmc, Valid, pusc-dl, pusc-ul, ofusc, amc}
-use Rattle.map.proofs.Choice.{amc-shape, at-0, at-1, at-2, at-amc, at-bins, by-mode}
-use Rattle.map.proofs.ByMode.{shape-symbols, in-pusc-ul, bin-width}
+use Rattle.map.proofs.{Choice.{amc-shape, at-0, at-1, at-2, at-amc, at-bins, by-mode}, ByMode.{shape-symbols, in-pusc-ul, bin-width}}
 use Rattle.mask.specs.Mask.{isLit, isUsedLit}
 use Rattle.clusters.specs.Cluster.{firstPilot, secondPilot, clusterPlace}
 use Rattle.pusc_dl_lit.specs.Lit.{hasGroup}
 use Rattle.pusc_dl.specs.Map.{usedGroup}
-use Rattle.runs.specs.declared.Runs.{Runs}
-use Rattle.runs.specs.Model.{runStep, runCount, tileRuns, runFirst, runSecond, runsOf, runPlace, runPoints}
-use Rattle.point_numbers.specs.Model.{numberAt, runNumber, runStride, pointStride, RowNumbers, runEntries, runEntry, RunTable, placeEntries, placeEntry, PlaceTable}
+use Rattle.runs.specs.{declared.Runs.Runs, Model.{runStep, runCount, tileRuns, runFirst, runSecond, runsOf, runPlace, runPoints}}
+use Rattle.point_numbers.specs.Model.{numberAt, runNumber, runStride, pointStride, RowNumbers, runEntries, runEntry, RunTable, placeEntries}
+use Rattle.point_numbers.specs.Model.{placeEntry, PlaceTable}
 use Rattle.runs.proofs.Law.{bin-runs, bin-apart, runs-bins, two-points, one-point, all-points, cluster-apart}
-use Rattle.pusc_dl_points.specs.Model as dl
 use Rattle.pusc_ul.specs.Tile.{tileSubchannel}
+use Rattle.pusc_dl_points.specs.Model as dl
 use Rattle.pusc_ul_rows.specs.Model as ul
 use Rattle.pusc_ul.specs.Map as ul-map
 use Rattle.ofusc_rows.specs.Model as spread

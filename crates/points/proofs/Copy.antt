@@ -1,15 +1,9 @@
 -- Loops that put points: a run by a row of places, to a buffer or from one.
-use mathlib.Core.Path.{_≡_, refl, ap, ap₂, _∙_}
-use mathlib.Core.List.{List}
-use Prim.Native.Nat.{ℕ, _+_, _-_, _*_, _<_, _≤_}
+use Rattle.base.proofs.Prelude.{_≡_, refl, ap, ap₂, _∙_, List, ℕ, _+_, _-_, _*_, _<_, _≤_, arith, length}
 use native.Mathlib.Numerals.{add-one}
-use native.Mathlib.Omega.{arith}
-use lib.ListN.{length}
 use lib.Ieee.{Float}
 use Rattle.base.specs.Steps.{entry}
-use Rattle.points.specs.declared.Point.{Point}
-use Rattle.points.specs.Points.{pointAt}
-use Rattle.points.specs.Model.{putPoint, puts, turned, Within}
+use Rattle.points.specs.{declared.Point.Point, Points.pointAt, Model.{putPoint, puts, turned, Within}}
 use Rattle.points.proofs.Points.{length-puts, puts-as, puts-more}
 
 -- what holds before each turn of a loop that puts n points: the first m of them are put

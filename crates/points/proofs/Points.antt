@@ -1,21 +1,11 @@
 -- Points in buffers: what is put is there, and nothing else changes.
-use mathlib.Core.Path.{_≡_, refl, sym, ap, ap₂, _∙_}
-use mathlib.Core.List.{List}
-use Prim.Native.Nat.{ℕ, zero, suc, _+_, _*_, _/_, _%_, _<_}
+use Rattle.base.proofs.Prelude.{_≡_, refl, sym, ap, ap₂, _∙_, List, ℕ, zero, suc, _+_, _*_, _/_, _%_, _<_, arith, eqb, length, getD, set, length-set}
+use Rattle.base.proofs.Prelude.{replicate, length-replicate, eqb-true, eqb-false}
+use Rattle.base.proofs.{Test.cases, Tabulate.{length-tabulate, getD-tabulate, tabulated}}
 use native.Mathlib.Nat.{add-zero, add-suc}
-use native.Mathlib.Omega.{arith}
-use lib.Dec.{eqb}
-use lib.ListN.{length, getD, set, length-set, replicate, length-replicate, getD-replicate}
-use lib.Seq.{getD-set-same, getD-set-other}
-use lib.Ieee.{Float, nan}
-use borrow.Author.Tests.{eqb-true, eqb-false}
-use Rattle.base.specs.Choice.{pick}
-use Rattle.base.specs.Tabulate.{tabulate}
-use Rattle.base.proofs.Test.{cases}
-use Rattle.base.proofs.Tabulate.{length-tabulate, getD-tabulate, tabulated}
-use Rattle.points.specs.declared.Point.{Point}
-use Rattle.points.specs.Points.{zero32, zeroPoint, pointAt, floatsOf}
-use Rattle.points.specs.Model.{putPoint, puts}
+use lib.{ListN.getD-replicate, Seq.{getD-set-same, getD-set-other}, Ieee.{Float, nan}}
+use Rattle.base.specs.{Choice.pick, Tabulate.tabulate}
+use Rattle.points.specs.{declared.Point.Point, Points.{zero32, zeroPoint, pointAt, floatsOf}, Model.{putPoint, puts}}
 
 -- ---- a buffer by its points
 

@@ -1,12 +1,8 @@
 -- The inner permutation: the points and the data numbers of a group are the same, one for one.
-use mathlib.Core.Path.{_≡_, ap₂, _∙_}
-use Prim.Native.Nat.{ℕ, _+_, _*_, _/_, _%_, _<_}
-use native.Mathlib.Nat.{div-add-mod', mod-lt, div-lt-iff-lt-mul}
-use native.Mathlib.Omega.{arith}
-use lib.Arith.{digits-div, digits-mod, digits-lt}
-use lib.Dec.{lit<}
-use Rattle.base.specs.Steps.{rotate, unrotate}
+use Rattle.base.proofs.Prelude.{_≡_, ap₂, _∙_, ℕ, _+_, _*_, _/_, _%_, _<_, div-add-mod', mod-lt, div-lt-iff-lt-mul, arith, digits-div, digits-mod}
+use Rattle.base.proofs.Prelude.{digits-lt, lit<}
 use Rattle.base.proofs.Perm.{Perm, rotation, compose}
+use Rattle.base.specs.Steps.{rotate, unrotate}
 use Rattle.clusters.specs.Group.{groupSize, baseOf, baseInverse}
 use Rattle.clusters.proofs.Group.{size-pos, base-perm}
 use Rattle.pusc_dl.specs.Inner.{groupData, groupSubchannel, groupIndex}

@@ -1,21 +1,12 @@
 -- The law of PUSC downlink: from the points of a group to its data numbers, and from these to the used numbers of a symbol.
-use mathlib.Core.Path.{_≡_}
-use mathlib.Core.Bool.{false}
-use Prim.Native.Nat.{ℕ, _+_, _-_, _*_, _/_, _%_, _<_}
-use native.Mathlib.Nat.{div-add-mod', add-sub-cancel-left}
-use native.Mathlib.Omega.{arith}
-use lib.Arith.{digits-div, digits-mod, digits-lt}
+use Rattle.base.proofs.Prelude.{_≡_, false, ℕ, _+_, _-_, _*_, _/_, _%_, _<_, div-add-mod', arith, digits-div, digits-mod, digits-lt}
+use native.Mathlib.Nat.{add-sub-cancel-left}
 use Rattle.base.specs.Steps.{entry}
 use Rattle.carriers.specs.Law.{SlotLaw, DataSpot, PointOf}
-use Rattle.clusters.specs.Cluster.{unrenumber, isClusterPilot, clusterPlace}
-use Rattle.clusters.specs.Group.{clusterStarts, subchannelStarts, groupIn, groupSize}
-use Rattle.pusc_dl.specs.Inner.{groupData, groupSubchannel}
-use Rattle.pusc_dl.specs.Map.{spotOf, addressOf, groupUsed, logicalOf, usedGroup, usedData}
-use Rattle.clusters.specs.declared.Physical.{Physical}
-use Rattle.clusters.specs.declared.Logical.{Logical}
-use Rattle.clusters.proofs.Cluster.{OnPlace, on-place, OnData, on-data, pilot-place}
-use Rattle.clusters.proofs.Group.{subchannel-runs, cluster-runs}
-use Rattle.clusters.proofs.Law.{renumbering}
+use Rattle.clusters.specs.{Cluster.{unrenumber, isClusterPilot, clusterPlace}, Group.{clusterStarts, subchannelStarts, groupIn, groupSize}}
+use Rattle.clusters.specs.{declared.Physical.Physical, declared.Logical.Logical}
+use Rattle.pusc_dl.specs.{Inner.{groupData, groupSubchannel}, Map.{spotOf, addressOf, groupUsed, logicalOf, usedGroup, usedData}}
+use Rattle.clusters.proofs.{Cluster.{OnPlace, on-place, OnData, on-data, pilot-place}, Group.{subchannel-runs, cluster-runs}, Law.renumbering}
 use Rattle.pusc_dl.proofs.Inner as inner
 
 module _ (cell : ℕ) where

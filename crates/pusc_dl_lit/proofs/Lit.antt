@@ -1,28 +1,15 @@
 -- What a mask lights, by computed tests over all 64 masks.
-use mathlib.Core.Path.{_≡_, refl, ap, _∙_}
-use mathlib.Core.Bool.{Bool, true, false, not}
-use mathlib.Core.List.{List}
-use Prim.Native.Nat.{ℕ, _+_, _*_, _/_, _%_, _^_, _<_}
-use native.Mathlib.Omega.{arith}
-use lib.Dec.{eqb, ltb, eqb→eq}
+use Rattle.base.proofs.{Prelude.{_≡_, refl, ap, _∙_, Bool, true, false, List, ℕ, _+_, _*_, _/_, _%_, _<_, arith, eqb, ltb, eqb→eq}, Table.all-at}
+use Rattle.base.proofs.Tabulate.{entry-of}
+use mathlib.Core.Bool.{not}
 use lib.Bits.{bitAnd}
 use mir.Val.{boolByte}
-use Rattle.base.specs.Choice.{pick}
-use Rattle.base.specs.Steps.{entry}
-use Rattle.base.specs.Tabulate.{tabulate}
-use Rattle.base.specs.Rank.{rank}
-use Rattle.base.proofs.Table.{all-at}
-use Rattle.base.proofs.Tabulate.{entry-of}
-use Rattle.clusters.specs.Cluster.{renumber}
-use Rattle.clusters.specs.Group.{clusterStarts, subchannelStarts, groupIn}
-use Rattle.pusc_dl_lit.specs.Lit.{hasGroup}
+use Rattle.base.specs.{Choice.pick, Steps.entry, Tabulate.tabulate, Rank.rank}
+use Rattle.clusters.specs.{Cluster.renumber, Group.{clusterStarts, subchannelStarts, groupIn}, declared.Physical.Physical, declared.Logical.Logical}
+use Rattle.pusc_dl_lit.specs.{Lit.hasGroup, Model.{groupBit, clusterLit}}
 use Rattle.pusc_dl.specs.Map.{logicalOf, usedGroup}
-use Rattle.pusc_dl_lit.specs.Model.{groupBit, clusterLit}
-use Rattle.clusters.specs.declared.Physical.{Physical}
-use Rattle.clusters.specs.declared.Logical.{Logical}
-use Rattle.clusters.proofs.Tables.{all-pairs}
-use Rattle.clusters.proofs.Group.{cluster-runs}
-use Rattle.clusters.proofs.Law.{renumbering}
+use Rattle.clusters.proofs.{Tables.all-pairs, Group.cluster-runs, Law.renumbering}
+use Prim.Native.Nat.{_^_}
 
 -- the lit subchannels: 12 for each even group, 8 for each odd one
 abbrev counted : ℕ → ℕ

@@ -1,33 +1,18 @@
 -- The points of a cluster, by the reverse: from the inverses of the bases and what is noted of the cluster.
-use mathlib.Core.Path.{_≡_, refl, sym, ap, _∙_}
-use mathlib.Core.Bool.{true}
-use mathlib.Core.List.{List, [], _∷_}
-use Prim.Native.Nat.{ℕ, _+_, _-_, _*_, _/_, _%_, _<_, _≤_}
-use native.Mathlib.Omega.{arith}
-use lib.Arith.{digits-div, digits-mod}
+use Rattle.base.proofs.Prelude.{_≡_, refl, sym, ap, _∙_, true, List, [], _∷_, ℕ, _+_, _-_, _*_, _/_, _%_, _<_, _≤_, arith, digits-div, digits-mod}
+use Rattle.base.proofs.Prelude.{eqb, ltb, eqb→eq, ltb→lt, eq-eqb, ne-eqb, lt-ltb, le-ltb}
+use Rattle.base.proofs.{Table.all-at, Tabulate.entry-of, Rank.{rank-run, rank-most}}
 use lib.Bits.{bitAnd}
-use lib.Dec.{eqb, ltb, eqb→eq, ltb→lt}
-use borrow.Author.Tests.{eq-eqb, ne-eqb, lt-ltb, le-ltb}
-use Rattle.base.specs.Steps.{entry, unrotate}
-use Rattle.base.specs.Rank.{rank}
-use Rattle.base.specs.Tabulate.{tabulate}
-use Rattle.base.specs.Model.{Starts}
-use Rattle.base.proofs.Table.{all-at}
-use Rattle.base.proofs.Tabulate.{entry-of}
-use Rattle.base.proofs.Rank.{rank-run, rank-most}
-use Rattle.clusters.specs.Cluster.{renumber, clusterPlace}
-use Rattle.clusters.specs.Group.{clusterStarts, subchannelStarts, groupIn, groupSize, ofSize, baseInverse}
-use Rattle.pusc_dl.specs.Inner.{groupSubchannel, groupIndex}
+use Rattle.base.specs.{Steps.{entry, unrotate}, Rank.rank, Tabulate.tabulate, Model.Starts}
+use Rattle.clusters.specs.{Cluster.{renumber, clusterPlace}, Group.{clusterStarts, subchannelStarts, groupIn, groupSize, ofSize, baseInverse}}
+use Rattle.clusters.specs.{declared.Physical.Physical, declared.Logical.Logical}
+use Rattle.pusc_dl.specs.{Inner.{groupSubchannel, groupIndex}, Map.{addressOf, logicalOf, usedGroup, usedData}}
 use Rattle.pusc_dl_lit.specs.Lit.{hasGroup}
-use Rattle.pusc_dl.specs.Map.{addressOf, logicalOf, usedGroup, usedData}
-use Rattle.pusc_dl_points.specs.Model.{turnedInverse, inverseEntry, pointOfData, subchannelRank, groupRank, logicalEntry, clusterEntry, clusterNumber}
-use Rattle.clusters.specs.declared.Physical.{Physical}
-use Rattle.clusters.specs.declared.Logical.{Logical}
-use Rattle.clusters.proofs.Tables.{b12-perm, b8-perm, all-pairs}
-use Rattle.clusters.proofs.Cluster.{OnPlace, on-place}
-use Rattle.clusters.proofs.Group.{size-most, cluster-runs, subchannel-runs}
-use Rattle.pusc_dl.proofs.Inner.{subchannel-lt}
+use Rattle.pusc_dl_points.specs.Model.{turnedInverse, inverseEntry, pointOfData, subchannelRank, groupRank, logicalEntry, clusterEntry}
+use Rattle.pusc_dl_points.specs.Model.{clusterNumber}
+use Rattle.clusters.proofs.{Tables.{b12-perm, b8-perm, all-pairs}, Cluster.{OnPlace, on-place}, Group.{size-most, cluster-runs, subchannel-runs}}
 use Rattle.clusters.proofs.Law.{renumbering}
+use Rattle.pusc_dl.proofs.Inner.{subchannel-lt}
 
 -- ---- the inverses of the bases
 

@@ -1,21 +1,11 @@
 -- The spots of a subchannel from the clusters of its group and its bases.
-use mathlib.Core.Path.{_≡_}
-use mathlib.Core.List.{List}
-use Prim.Native.Nat.{ℕ, _+_, _*_, _/_, _%_, _<_}
-use native.Mathlib.Omega.{arith}
-use Rattle.base.specs.Steps.{rotate, entry}
-use Rattle.base.specs.Tabulate.{tabulate}
-use Rattle.base.specs.Model.{Starts}
-use Rattle.base.proofs.Tabulate.{entry-of}
-use Rattle.clusters.specs.Cluster.{clusterPlace}
-use Rattle.clusters.specs.Group.{clusterStarts, groupSize}
-use Rattle.pusc_dl.specs.Inner.{groupData}
-use Rattle.pusc_dl.specs.Map.{groupUsed}
-use Rattle.clusters.specs.Model.{turnedBase}
+use Rattle.base.proofs.{Prelude.{_≡_, List, ℕ, _+_, _*_, _/_, _%_, _<_, arith}, Tabulate.entry-of}
+use Rattle.base.specs.{Steps.{rotate, entry}, Tabulate.tabulate, Model.Starts}
+use Rattle.clusters.specs.{Cluster.clusterPlace, Group.{clusterStarts, groupSize}, Model.turnedBase}
+use Rattle.pusc_dl.specs.{Inner.groupData, Map.groupUsed}
 use Rattle.pusc_dl_rows.specs.Model.{groupCluster, groupSpot}
 use Rattle.pusc_dl.proofs.Inner.{data-lt}
-use Rattle.clusters.proofs.Group.{cluster-runs}
-use Rattle.clusters.proofs.Law.{renumbering}
+use Rattle.clusters.proofs.{Group.cluster-runs, Law.renumbering}
 
 -- a turn of the loop over k: what is known of subchannel s, counted in group g, of the group's clusters, and of the bases
 pub record Turn (cell : ℕ) (clusters bases : List ℕ) (g s k n : ℕ) : Type 0 where

@@ -1,19 +1,11 @@
 -- The law of PUSC uplink. A tile's turn is a rotation, Q and a rotation; an index goes to its data place by a rotation; the rest is digits.
-use mathlib.Core.Path.{_≡_, ap₂, _∙_}
-use mathlib.Core.Bool.{false}
-use Prim.Native.Nat.{ℕ, _+_, _*_, _/_, _%_, _<_}
-use native.Mathlib.Nat.{div-add-mod'}
-use native.Mathlib.Omega.{arith}
-use lib.Arith.{digits-div, digits-mod, digits-lt}
-use lib.Dec.{lit<}
-use Rattle.base.specs.Steps.{rotate, unrotate, entry}
+use Rattle.base.proofs.Prelude.{_≡_, ap₂, _∙_, false, ℕ, _+_, _*_, _/_, _%_, _<_, div-add-mod', arith, digits-div, digits-mod, digits-lt, lit<}
 use Rattle.base.proofs.Perm.{Perm, rotation, compose}
+use Rattle.base.specs.Steps.{rotate, unrotate, entry}
 use Rattle.carriers.specs.Law.{SlotLaw, DataSpot, PointOf}
-use Rattle.pusc_ul.specs.Table.{tilePermutation, tilePermutationInverse}
-use Rattle.pusc_ul.specs.Tile.{tileOf, tileSubchannel, isTilePilot, placeTile, placeCarrier}
+use Rattle.pusc_ul.specs.{Table.{tilePermutation, tilePermutationInverse}, Tile.{tileOf, tileSubchannel, isTilePilot, placeTile, placeCarrier}}
 use Rattle.pusc_ul.specs.Map.{spotOf, addressOf}
-use Rattle.pusc_ul.proofs.Tables.{q-perm}
-use Rattle.pusc_ul.proofs.Place.{OnCarrier, on-carrier, OnPlace, on-place}
+use Rattle.pusc_ul.proofs.{Tables.q-perm, Place.{OnCarrier, on-carrier, OnPlace, on-place}}
 
 -- a pilot is known by the carrier in its tile
 pub pilot-carrier : (o u : ℕ) → isTilePilot o u ≡ isTilePilot o (u % 4)

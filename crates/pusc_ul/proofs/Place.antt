@@ -1,11 +1,7 @@
 -- The data places of a slot and the data carriers of a subchannel's six tiles are the same, one for one: tests over all 48 places, and over all carriers of six tiles.
-use mathlib.Core.Path.{_≡_}
-use mathlib.Core.Bool.{Bool, true, false, not}
-use Prim.Native.Nat.{ℕ, _<_}
-use lib.Dec.{T, eqb, ltb, eqb→eq, ltb→lt}
+use Rattle.base.proofs.{Prelude.{_≡_, Bool, true, false, ℕ, _<_, T, eqb, ltb, eqb→eq, ltb→lt}, Test.failed, Table.{all, all-at}}
+use mathlib.Core.Bool.{not}
 use Rattle.base.specs.Choice.{pick}
-use Rattle.base.proofs.Test.{failed}
-use Rattle.base.proofs.Table.{all, all-at}
 use Rattle.pusc_ul.specs.Tile.{isTilePilot, placeSymbol, placeTile, placeCarrier, dataPlace}
 
 -- data place q lies on a data carrier of a tile, which is known by q alone

@@ -1,10 +1,7 @@
 -- Q is a permutation of 0..69: one computed test for each direction.
-use mathlib.Core.Path.{refl}
+use Rattle.base.proofs.{Prelude.refl, Perm.Perm, Table.{table-perm, permutation}}
 use Rattle.base.specs.Steps.{entry}
-use Rattle.base.proofs.Perm.{Perm}
-use Rattle.base.proofs.Table.{table-perm, permutation}
-use Rattle.pusc_ul.specs.Table.{tilePermutation, tilePermutationInverse}
-use Rattle.pusc_ul.specs.Law.{TableRules}
+use Rattle.pusc_ul.specs.{Table.{tilePermutation, tilePermutationInverse}, Law.TableRules}
 
 pub q-perm : Perm 70 (entry tilePermutation) (entry tilePermutationInverse)
 q-perm = table-perm 70 tilePermutation tilePermutationInverse refl refl tt tt

@@ -1,18 +1,10 @@
 -- The points of a symbol: of each seventy tiles the indices go up with the data places.
-use mathlib.Core.Path.{_≡_, refl, _∙_}
-use mathlib.Core.Bool.{true, false, not}
-use mathlib.Core.List.{List}
-use Prim.Native.Nat.{ℕ, zero, suc, _+_, _-_, _*_, _/_, _%_, _<_}
-use native.Mathlib.Omega.{arith}
-use lib.Dec.{eqb, lit<}
+use Rattle.base.proofs.{Prelude.{_≡_, refl, _∙_, true, false, List, ℕ, zero, suc, _+_, _-_, _*_, _/_, _%_, _<_, arith, eqb, lit<}, Test.cases}
+use mathlib.Core.Bool.{not}
 use mir.Val.{boolByte}
-use Rattle.base.specs.Choice.{pick}
-use Rattle.base.specs.Model.{Starts}
-use Rattle.base.specs.Steps.{unrotate}
-use Rattle.base.proofs.Test.{cases}
+use Rattle.base.specs.{Choice.pick, Model.Starts, Steps.unrotate}
 use Rattle.carriers.specs.Model.{addressNumber}
-use Rattle.pusc_ul.specs.Tile.{tileSubchannel, isTilePilot, dataPlace}
-use Rattle.pusc_ul.specs.Map.{addressOf}
+use Rattle.pusc_ul.specs.{Tile.{tileSubchannel, isTilePilot, dataPlace}, Map.addressOf}
 use Rattle.pusc_ul_rows.specs.Model.{tilePlace, tilePoints, rowNumber, TileRow}
 
 -- the subchannel of tile k of the seventy from 70t on, from that of tile k

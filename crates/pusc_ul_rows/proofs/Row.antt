@@ -1,24 +1,11 @@
 -- The carriers of a subchannel, eight for each tile.
-use mathlib.Core.Path.{_≡_, ap, _∙_}
-use mathlib.Core.Bool.{false}
-use mathlib.Core.List.{List}
-use Prim.Native.Nat.{ℕ, _+_, _*_, _/_, _%_, _<_, _≤_}
-use native.Mathlib.Omega.{arith}
-use lib.Dec.{eqb, ltb}
-use lib.ListN.{length, set, replicate, length-set, length-replicate}
+use Rattle.base.proofs.Prelude.{_≡_, ap, _∙_, false, List, ℕ, _+_, _*_, _/_, _%_, _<_, _≤_, arith, eqb, ltb, length, set, replicate, length-set}
+use Rattle.base.proofs.Prelude.{length-replicate, eqb-true, eqb-false, ltb-true, ltb-false}
+use Rattle.base.proofs.{Test.cases, Tabulate.tabulated, LeaveOut.{skip-below, skip-above, skip-le}}
 use lib.Seq.{getD-set-same, getD-set-other}
-use borrow.Author.Tests.{eqb-true, eqb-false, ltb-true, ltb-false}
-use Rattle.base.specs.Steps.{entry}
-use Rattle.base.specs.Tabulate.{tabulate}
-use Rattle.base.proofs.Test.{cases}
-use Rattle.base.proofs.Tabulate.{tabulated}
-use Rattle.base.proofs.LeaveOut.{skip-below, skip-above, skip-le}
-use Rattle.carriers.specs.Band.{puscBand, carrierOf}
-use Rattle.carriers.specs.Model.{carrierNumber}
-use Rattle.pusc_ul.specs.Table.{tilePermutation}
-use Rattle.pusc_ul.specs.Tile.{tileOf, isTilePilot, placeTile, dataPlace}
-use Rattle.pusc_ul.specs.Map.{spotOf}
-use Rattle.pusc_ul.specs.Model.{tileOfSeventy}
+use Rattle.base.specs.{Steps.entry, Tabulate.tabulate}
+use Rattle.carriers.specs.{Band.{puscBand, carrierOf}, Model.carrierNumber}
+use Rattle.pusc_ul.specs.{Table.tilePermutation, Tile.{tileOf, isTilePilot, placeTile, dataPlace}, Map.spotOf, Model.tileOfSeventy}
 use Rattle.pusc_ul_rows.specs.Model.{placeNumber, tileStart, putTwo}
 use Rattle.pusc_ul.proofs.Place.{on-carrier, on-place}
 

@@ -1,26 +1,14 @@
 -- One run dropped: what the copy asks, and what it comes to.
-use mathlib.Core.Path.{_≡_, ap, ap₂, _∙_}
-use mathlib.Core.Bool.{true}
-use mathlib.Core.List.{List}
-use Prim.Native.Nat.{ℕ, _+_, _-_, _*_, _<_, _≤_}
-use native.Mathlib.Omega.{arith}
-use lib.ListN.{length}
-use mir.Syntax.{w64}
-use mir.Val.{Fits}
+use Rattle.base.proofs.{Prelude.{_≡_, ap, ap₂, _∙_, true, List, ℕ, _+_, _-_, _*_, _<_, _≤_, arith, length}, Tabulate.entry-of}
+use mir.{Syntax.w64, Val.Fits}
 use lib.Ieee.{Float}
-use Rattle.base.specs.Steps.{entry}
-use Rattle.base.specs.Tabulate.{tabulate}
-use Rattle.base.proofs.Tabulate.{entry-of}
+use Rattle.base.specs.{Steps.entry, Tabulate.tabulate}
 use Rattle.carriers.specs.Band.{carrierOf}
-use Rattle.map.specs.Setup.{Setup}
-use Rattle.map.specs.Mode.{symbols, band}
-use Rattle.map.specs.Model.{Valid}
+use Rattle.map.specs.{Setup.Setup, Mode.{symbols, band}, Model.Valid}
 use Rattle.mask.specs.Mask.{isUsedLit, litSubchannels}
-use Rattle.points.specs.Points.{pointAt}
-use Rattle.points.specs.Model.{puts, RunWithin}
+use Rattle.points.specs.{Points.pointAt, Model.{puts, RunWithin}}
 use Rattle.points.proofs.Points.{puts-as}
-use Rattle.runs.specs.declared.Runs.{Runs}
-use Rattle.runs.specs.Model.{runStep, runCount, runsOf, runPlace, runPoints, pointsWithin}
+use Rattle.runs.specs.{declared.Runs.Runs, Model.{runStep, runCount, runsOf, runPlace, runPoints, pointsWithin}}
 use Rattle.point_numbers.specs.Model.{runNumber, runStride, pointStride, RowNumbers}
 use Rattle.runs.proofs.Law.{run-law, within-place, within-few}
 use Rattle.point_numbers.proofs.Filled.{in-table, from-below}

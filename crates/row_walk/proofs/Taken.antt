@@ -1,40 +1,23 @@
 -- The walk of empty by carrier: over the runs of a row one after another, each point dropped at its number.
-use mathlib.Core.Path.{_≡_, refl, sym, ap, ap₂, _∙_}
-use mathlib.Core.Bool.{true, false}
-use mathlib.Core.List.{List}
-use Prim.Native.Nat.{ℕ, _+_, _-_, _*_, _/_, _%_, _<_, _≤_}
+use Rattle.base.proofs.Prelude.{_≡_, refl, sym, ap, ap₂, _∙_, true, false, List, ℕ, _+_, _-_, _*_, _/_, _%_, _<_, _≤_, arith, digits-lt, digits-div}
+use Rattle.base.proofs.Prelude.{ltb, length, ltb-true, ltb-false}
+use Rattle.base.proofs.{Test.{cases, true-false}, LeaveOut.{skip-below, skip-above, skip-le, unskip-skip, before-skip}}
 use native.Mathlib.Nat.{mul-le-mul-right}
-use native.Mathlib.Omega.{arith}
-use lib.Arith.{digits-lt, digits-div}
-use lib.Dec.{ltb}
-use lib.ListN.{length}
 use lib.Ieee.{Float}
-use borrow.Author.Tests.{ltb-true, ltb-false}
 use Rattle.base.specs.Steps.{skip}
-use Rattle.base.proofs.Test.{cases, true-false}
-use Rattle.base.proofs.LeaveOut.{skip-below, skip-above, skip-le, unskip-skip, before-skip}
-use Rattle.carriers.specs.declared.Spot.{Spot}
-use Rattle.carriers.specs.declared.Address.{Address}
-use Rattle.carriers.specs.Band.{carrierOf}
-use Rattle.carriers.specs.Law.{DataSpot, PointOf}
+use Rattle.carriers.specs.{declared.Spot.Spot, declared.Address.Address, Band.carrierOf, Law.{DataSpot, PointOf}}
 use Rattle.carriers.proofs.Guards.{carrier-lt}
-use Rattle.map.specs.Setup.{Setup}
-use Rattle.map.specs.Mode.{subchannels, symbols, band, isPilot, spotOf, addressOf}
-use Rattle.map.specs.Model.{Valid}
+use Rattle.map.specs.{Setup.Setup, Mode.{subchannels, symbols, band, isPilot, spotOf, addressOf}, Model.Valid}
 use Rattle.map.proofs.Slot.{slot-law, band-law}
 use Rattle.mask.specs.Mask.{isLit, isUsedLit, litSubchannels, litRank, ofLitRank}
 use Rattle.mask.proofs.Law.{mask-law, point-lit}
-use Rattle.points.specs.declared.Point.{Point}
-use Rattle.points.specs.Points.{pointAt}
-use Rattle.points.specs.Model.{puts}
+use Rattle.points.specs.{declared.Point.Point, Points.pointAt, Model.puts}
 use Rattle.points.proofs.Points.{length-puts, puts-miss, puts-hit}
-use Rattle.runs.specs.declared.Runs.{Runs}
-use Rattle.runs.specs.Model.{runStep, runCount, runsOf, runPlace, pointsBelow, runPoints, pointsWithin}
+use Rattle.runs.specs.{declared.Runs.Runs, Model.{runStep, runCount, runsOf, runPlace, pointsBelow, runPoints, pointsWithin}}
 use Rattle.point_numbers.specs.Model.{numberAt, runNumber}
 use Rattle.runs.proofs.Law.{RunLaw, run-law, no-pilot, back, place-below, below-place, within-place, place-within}
 use Rattle.lengths.specs.Length.{gridPoints}
-use Rattle.grid.specs.Row.{columnPosition, usedPosition}
-use Rattle.grid.specs.Grid.{standsAt}
+use Rattle.grid.specs.{Row.{columnPosition, usedPosition}, Grid.standsAt}
 use Rattle.grid.proofs.Slot.{stands-lt}
 use Rattle.row_walk.specs.Model.{pointStands, Took, runStart}
 

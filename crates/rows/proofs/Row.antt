@@ -1,36 +1,22 @@
 -- A subchannel's row of carriers, from the table and the rows of its mode.
-use mathlib.Core.Path.{_≡_, refl, sym, ap, ap₂, _∙_}
-use mathlib.Core.List.{List}
-use Prim.Native.Nat.{ℕ, _+_, _*_, _%_, _<_, _≤_}
-use lib.Arith.{digits-lt}
-use lib.Dec.{lit<, eqb}
-use Rattle.base.proofs.Test.{cases}
-use native.Mathlib.Omega.{arith}
-use Rattle.base.specs.Steps.{entry}
-use Rattle.base.specs.Tabulate.{tabulate}
-use Rattle.base.specs.Model.{Starts, Below, Turned}
+use Rattle.base.proofs.{Prelude.{_≡_, refl, sym, ap, ap₂, _∙_, List, ℕ, _+_, _*_, _%_, _<_, _≤_, digits-lt, lit<, eqb, arith}, Test.cases}
 use Rattle.base.proofs.Tabulate.{entry-of, turned-row, turned-by, turned-below}
-use Rattle.carriers.specs.declared.Spot.{Spot}
+use Rattle.base.specs.{Steps.entry, Tabulate.tabulate, Model.{Starts, Below, Turned}}
+use Rattle.carriers.specs.{declared.Spot.Spot, Band.{binBand, carrierOf}, Bin.usedOfData, Law.DataSpot}
+use Rattle.carriers.specs.Model.{spotNumber, carrierNumber, carrierStep}
 use Rattle.ofusc.specs.Width.{Width, n4, n8, n16, n32}
 use Rattle.ofusc.proofs.Sequence.{size, sum-lt, cell-term-lt}
 use Rattle.ofusc_rows.proofs.Row.{number-in-group}
-use Rattle.amc.specs.declared.Shape.{Shape}
-use Rattle.amc.specs.Model.{IsShape}
+use Rattle.amc.specs.{declared.Shape.Shape, Model.IsShape}
 use Rattle.amc_rows.specs.Model.{EvenWidth}
 use Rattle.amc_rows.proofs.Row.{carrier-at}
 use Rattle.pusc_ul_rows.proofs.Row.{number-on-place}
-use Rattle.carriers.specs.Band.{binBand, carrierOf}
-use Rattle.carriers.specs.Bin.{usedOfData}
-use Rattle.carriers.specs.Law.{DataSpot}
-use Rattle.carriers.specs.Model.{spotNumber, carrierNumber, carrierStep}
 use Rattle.carriers.proofs.Row.{step-carrier}
-use Rattle.map.specs.Setup.{Setup}
-use Rattle.map.specs.Mode.{isAmc, shapeOf, width, subchannels, symbols, band, isPilot, spotOf}
+use Rattle.map.specs.{Setup.Setup, Mode.{isAmc, shapeOf, width, subchannels, symbols, band, isPilot, spotOf}}
 use Rattle.map.specs.Model.{IsAmc, Valid, pusc-dl, pusc-ul, ofusc, amc}
 use Rattle.rows.specs.Model.{shiftOf, pointPlace}
 use Rattle.map.proofs.Choice.{amc-shape, at-0, at-1, at-2, at-amc, by-mode}
-use Rattle.map.proofs.ByMode.{in-pusc-dl, in-pusc-ul, in-ofusc, in-amc, bin-width, amc-width, amc-spot, shape-symbols, few}
-use Rattle.map.proofs.Slot.{slot-law}
+use Rattle.map.proofs.{ByMode.{in-pusc-dl, in-pusc-ul, in-ofusc, in-amc, bin-width, amc-width, amc-spot, shape-symbols, few}, Slot.slot-law}
 use Rattle.pusc_ul_rows.specs.Model as pusc-ul
 use Rattle.ofusc_rows.specs.Model as ofusc
 use Rattle.amc_rows.specs.Model as amc

@@ -48,7 +48,10 @@ fn spots(setup: Setup, slot: usize, subchannel: usize) -> [u16; 48]
     }
     let width = map::width(setup);
     let table = ofusc_rows::table(width, setup.cell);
-    carriers::used_numbers(slot, ofusc_rows::numbers(width, setup.cell, subchannel, &table))
+    carriers::used_numbers(
+        slot,
+        ofusc_rows::numbers(width, setup.cell, subchannel, &table),
+    )
 }
 
 // The carriers of a subchannel's points, index 0 at place `shift`.

@@ -1,32 +1,24 @@
 -- The runs of a symbol, mode by mode: their pilots, and their points from one lemma over the two pilots.
-use mathlib.Core.Path.{_≡_, refl, sym, ap, _∙_}
-use mathlib.Core.Bool.{Bool, true, false}
-use mathlib.Core.List.{List}
-use mathlib.Core.Logic.{_⊎_, inl, inr}
-use Prim.Native.Nat.{ℕ, _+_, _-_, _*_, _/_, _%_, _<_, _≤_}
-use native.Mathlib.Omega.{arith}
-use lib.Arith.{digits-mod, digits-div}
-use lib.Dec.{eqb, ltb, leb}
-use borrow.Author.Tests.{eq-eqb, eqb-true, eqb-false, ne-eqb, ltb-true, ltb-false, leb-true, leb-false}
-use Rattle.base.specs.Choice.{pick}
-use Rattle.base.specs.Steps.{skip, unskip}
-use Rattle.base.proofs.Test.{cases, true-false}
-use Rattle.base.proofs.Tabulate.{entry-of}
+use Rattle.base.proofs.Prelude.{_≡_, refl, sym, ap, _∙_, Bool, true, false, List, ℕ, _+_, _-_, _*_, _/_, _%_, _<_, _≤_, arith, digits-mod, digits-div}
+use Rattle.base.proofs.Prelude.{eqb, ltb, leb, eq-eqb, eqb-true, eqb-false, ne-eqb, ltb-true, ltb-false}
+use Rattle.base.proofs.{Test.{cases, true-false}, Tabulate.entry-of}
 use Rattle.base.proofs.LeaveOut.{split, skip-unskip, skip-ne, skip-below, skip-above, unskip-below, unskip-above, unskip-le, skip-before, before-skip}
+use mathlib.Core.Logic.{_⊎_, inl, inr}
+use borrow.Author.Tests.{leb-true, leb-false}
+use Rattle.base.specs.{Choice.pick, Steps.{skip, unskip}}
 use Rattle.carriers.specs.Bin.{binPilotPlace, isBinPilot}
 use Rattle.carriers.proofs.Bin.{pilot-place-le}
 use Rattle.clusters.specs.Cluster.{isClusterPilot, firstPilot, secondPilot}
 use Rattle.pusc_dl.specs.Map.{usedGroup, logicalOf}
 use Rattle.pusc_dl_lit.specs.Model.{clusterLit}
 use Rattle.pusc_ul.specs.Tile.{isTilePilot}
-use Rattle.map.specs.Setup.{Setup, setupLent, setupWith}
-use Rattle.map.specs.Mode.{width, band, isPilot}
+use Rattle.map.specs.{Setup.{Setup, setupLent, setupWith}, Mode.{width, band, isPilot}}
 use Rattle.map.specs.Model.{IsListed, OverBins, Valid, pusc-dl, pusc-ul, ofusc, amc}
-use Rattle.map.proofs.Choice.{amc-not-0, amc-column, bins-column, none-column}
-use Rattle.map.proofs.Accept.{width-is}
+use Rattle.map.proofs.{Choice.{amc-not-0, amc-column, bins-column, none-column}, Accept.width-is}
 use Rattle.mask.specs.Mask.{isUsedLit}
+use Rattle.runs.specs.Model.{runStep, runCount, tileRuns, runFirst, runSecond, runsOf, runPlace, pointsBelow, runPoints, pointsWithin, LitRuns}
+use Rattle.runs.specs.Model.{IsRun, runLit}
 use Rattle.runs.specs.declared.Runs.{Runs}
-use Rattle.runs.specs.Model.{runStep, runCount, tileRuns, runFirst, runSecond, runsOf, runPlace, pointsBelow, runPoints, pointsWithin, LitRuns, IsRun, runLit}
 
 -- the runs by the mode
 module _ (c : Setup) (y : ℕ) where

@@ -1,17 +1,12 @@
 -- Laws of text in a buffer and of decimal digits.
-use Prim.Native.Nat.{ℕ, zero, suc, _+_, _^_, _/_, _%_, _<_, _≤_}
-use native.Mathlib.Nat.{add-zero, add-assoc}
-use native.Mathlib.Numerals.{add-one}
-use native.Mathlib.Omega.{arith}
-use mathlib.Core.Logic.{_⊎_, inl, inr, ⊎-elim}
-use mathlib.Core.Path.{_≡_, refl, sym, ap, _∙_}
-use mathlib.Core.Bool.{Bool, true, false}
+use native.Mathlib.{Nat.{add-zero, add-assoc}, Numerals.add-one, Omega.arith}
+use mathlib.Core.{Logic.{_⊎_, inl, inr, ⊎-elim}, Path.{_≡_, refl, sym, ap, _∙_}, Bool.{Bool, true, false}}
 use mathlib.Core.List.{List, [], _∷_, _++_, append-assoc, append-nil}
-use lib.Dec.{ltb}
-use lib.ListN.{length, getD, take, drop, set, length-append, take-append-drop}
+use lib.{Dec.ltb, ListN.{length, getD, take, drop, set, length-append, take-append-drop}}
 use lib.Seq.{take-length, take-suc, set-split, drop-cons, set-at, append-snoc, take-at, drop-at, drop-drop, length-take-le}
 use borrow.Author.Tests.{ltb-true, ltb-false, lt-ltb, le-ltb}
 use Rattle.text.specs.Text.{digits, decimal, put, Put}
+use Prim.Native.Nat.{ℕ, zero, suc, _+_, _^_, _/_, _%_, _<_, _≤_}
 
 -- ---- digits
 

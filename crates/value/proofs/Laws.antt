@@ -1,16 +1,11 @@
 -- The laws of the values of a plan file.
-use mathlib.Core.Path.{_≡_, refl, sym, ap, _∙_}
-use mathlib.Core.List.{List, [], _∷_, _++_}
-use Prim.Native.Nat.{ℕ, zero, suc, _+_, _*_, _^_, _/_, _%_, _<_, _≤_}
-use native.Mathlib.Omega.{arith}
-use lib.Dec.{ltb}
-use lib.ListN.{length, take, drop, length-append, length-take}
-use lib.Seq.{getD-append-add}
-use borrow.Author.Tests.{ltb-true, ltb-false, lt-ltb, le-ltb}
+use Rattle.base.proofs.Prelude.{_≡_, refl, sym, ap, _∙_, List, [], _∷_, _++_, ℕ, zero, suc, _+_, _*_, _/_, _%_, _<_, _≤_, arith, ltb, length, take}
+use Rattle.base.proofs.Prelude.{drop, ltb-true, ltb-false, lt-ltb, le-ltb}
+use Rattle.base.proofs.{Chain.{ask-yes, same-accepted}, Test.cases}
+use lib.{ListN.{length-append, length-take}, Seq.getD-append-add}
 use Rattle.base.specs.Answer.{Answer, accepted, refused}
-use Rattle.base.proofs.Chain.{ask-yes, same-accepted}
-use Rattle.base.proofs.Test.{cases}
 use Rattle.value.specs.Value.{Bytes, Value, more, valueIn, valueOf, encodeIn, encode}
+use Prim.Native.Nat.{_^_}
 
 -- A first byte that is the last one, and one that more follow, whose further groups are worth something or nothing.
 module _ (g a : ℕ) (s : List ℕ) where

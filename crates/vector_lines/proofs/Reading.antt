@@ -1,17 +1,11 @@
 -- Laws of numbers read from text.
-use Prim.Native.Nat.{ℕ, suc, _+_, _-_, _<_, _≤_}
-use native.Mathlib.Numerals.{add-one}
-use native.Mathlib.Omega.{arith}
-use mathlib.Core.Logic.{⊎-elim}
-use mathlib.Core.Path.{_≡_, refl, ap, _∙_}
-use mathlib.Core.Bool.{true, false}
-use mathlib.Core.List.{List, [], _∷_}
-use lib.ListN.{length, getD, drop, drop-of-length-le, List·getD-eq-default}
-use lib.Seq.{drop-cons}
-use lib.Dec.{eqb}
+use native.Mathlib.{Numerals.add-one, Omega.arith}
+use mathlib.Core.{Logic.⊎-elim, Path.{_≡_, refl, ap, _∙_}, Bool.{true, false}, List.{List, [], _∷_}}
+use lib.{ListN.{length, getD, drop, drop-of-length-le, List·getD-eq-default}, Seq.drop-cons, Dec.eqb}
 use borrow.Author.Tests.{lt-ltb, le-ltb}
 use Rattle.text.proofs.Laws.{below}
 use Rattle.vector_lines.specs.Model.{numeral, digitOf, withDigit, readOn, pastSpaces}
+use Prim.Native.Nat.{ℕ, suc, _+_, _-_, _<_, _≤_}
 
 pub digit-low : (byte : ℕ) → byte < 48 → digitOf byte ≡ 10
 unfolding digitOf

@@ -1,24 +1,11 @@
 -- What a yes to all of a zone's questions says: its setup is valid, its values are small.
-use mathlib.Core.Path.{_≡_}
-use mathlib.Core.Bool.{true, false}
-use mathlib.Core.List.{[], _∷_}
-use Prim.Native.Nat.{ℕ, _<_, _≤_}
-use native.Mathlib.Nat.{mul-le-mul}
-use native.Mathlib.Omega.{arith}
-use lib.Dec.{eqb, ltb}
-use borrow.Author.Tests.{eqb-true, lt-ltb}
+use Rattle.base.proofs.Prelude.{_≡_, true, false, [], _∷_, ℕ, _<_, _≤_, mul-le-mul, arith, eqb, ltb, eqb-true, lt-ltb}
+use Rattle.base.proofs.{Chain.{AllYes, all-yes, yes-parts}, Test.{cases, both-true, up-to}}
 use Rattle.base.specs.Choice.{pick}
-use Rattle.base.proofs.Chain.{AllYes, all-yes, yes-parts}
-use Rattle.base.proofs.Test.{cases, both-true, up-to}
-use Rattle.map.specs.Setup.{Setup}
-use Rattle.map.specs.Question.{isMode}
-use Rattle.map.specs.Model.{Valid, pusc-dl, pusc-ul, ofusc, amc}
-use Rattle.map.proofs.Accept.{valid}
-use Rattle.map.proofs.ByMode.{few}
+use Rattle.map.specs.{Setup.Setup, Question.isMode, Model.{Valid, pusc-dl, pusc-ul, ofusc, amc}}
+use Rattle.map.proofs.{Accept.valid, ByMode.few}
 use Rattle.mask.proofs.Law.{mask-small}
-use Rattle.zone.specs.declared.Zone.{Zone}
-use Rattle.zone.specs.declared.Before.{Before}
-use Rattle.zone.specs.Zone.{isZoneMode, setupOf, isOrder, fieldsRefusal, unused, isUnused}
+use Rattle.zone.specs.{declared.Zone.Zone, declared.Before.Before, Zone.{isZoneMode, setupOf, isOrder, fieldsRefusal, unused, isUnused}}
 use Rattle.zone.specs.Model.{Small}
 use Rattle.zone.proofs.Number.{fieldQuestions, zoneQuestions}
 

@@ -1,16 +1,10 @@
 -- The questions put to a zone as lists, and what they come to by the numbers that functions gave.
-use mathlib.Core.Path.{_≡_, _∙_}
-use mathlib.Core.List.{[], _∷_, _++_}
-use Prim.Native.Nat.{ℕ}
-use borrow.Author.Tests.{ne-eqb}
+use Rattle.base.proofs.{Prelude.{_≡_, _∙_, [], _∷_, _++_, ℕ, ne-eqb}, Chain.{Questions, is-refused, has-passed}}
 use Rattle.base.specs.Answer.{Answer, accepted, refused, ask, refusalOf}
-use Rattle.base.proofs.Chain.{Questions, is-refused, has-passed}
 use Rattle.map.specs.Question.{isMode, isSize, isCell, askSetup}
 use Rattle.mask.specs.Mask.{isMask}
-use Rattle.zone.specs.declared.Zone.{Zone}
-use Rattle.zone.specs.declared.Before.{Before}
-use Rattle.zone.specs.Zone.{isZoneMode, setupOf, isSlots, isOrder, askFields, fieldsRefusal, askZone}
-use Rattle.zone.specs.Model.{zoneRefusal}
+use Rattle.zone.specs.{declared.Zone.Zone, declared.Before.Before}
+use Rattle.zone.specs.{Zone.{isZoneMode, setupOf, isSlots, isOrder, askFields, fieldsRefusal, askZone}, Model.zoneRefusal}
 
 -- the questions put to a zone's own values
 module _ (size : ℕ) (z : Zone) where

@@ -1,8 +1,5 @@
 -- The modes of AMC as document 02 lists them.
-use mathlib.Core.Path.{_≡_, refl}
-use mathlib.Core.Bool.{true}
-use Prim.Native.Nat.{ℕ, zero, suc, _≤_}
-use native.Mathlib.Omega.{arith}
+use Rattle.base.proofs.Prelude.{_≡_, refl, true, ℕ, zero, suc, _≤_, arith}
 use Rattle.zone.specs.Zone.{isAmc}
 
 -- a mode from 2 to 6, and one of AMC's, by cases

@@ -1,10 +1,7 @@
 -- `amc::address` meets its contract.
-use Prim.Native.Nat.{_+_, _-_, _*_, _/_, _%_, _<_}
-use native.Mathlib.Omega.{arith}
+use Rattle.base.proofs.Prelude.{_+_, _-_, _*_, _/_, _%_, _<_, arith}
 use Rattle.amc.specs.Map.{addressOf}
-use Rattle.amc.proofs.Law.{index-below}
-use Rattle.amc.proofs.Parts.{product-few, by-six, rest-six, taken-le}
-use Rattle.amc.proofs.address.Statement.{statement}
+use Rattle.amc.proofs.{Law.index-below, Parts.{product-few, by-six, rest-six, taken-le}, address.Statement.statement}
 use Rattle.amc.proofs.address.Tie as tie
 
 mul-subchannel : tie.Need-mul-subchannel

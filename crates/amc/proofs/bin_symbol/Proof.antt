@@ -1,7 +1,6 @@
 -- `amc::bin_symbol` meets its contract.
-use native.Mathlib.Omega.{arith}
-use Rattle.amc.proofs.Parts.{symbols-few, product-few, by-six, quotient-few}
-use Rattle.amc.proofs.bin_symbol.Statement.{statement}
+use Rattle.base.proofs.Prelude.{arith}
+use Rattle.amc.proofs.{Parts.{symbols-few, product-few, by-six, quotient-few}, bin_symbol.Statement.statement}
 use Rattle.amc.proofs.bin_symbol.Tie as tie
 
 cast-result : tie.Need-cast-result

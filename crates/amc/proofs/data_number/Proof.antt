@@ -1,12 +1,7 @@
 -- `amc::data_number` meets its contract.
-use mathlib.Core.Path.{_≡_, _∙_}
-use Prim.Native.Nat.{_*_, _/_, _≤_}
-use native.Mathlib.Omega.{arith}
-use borrow.Author.Needs.{needs}
+use Rattle.base.proofs.Prelude.{_≡_, _∙_, _*_, _/_, _≤_, arith, needs}
 use Rattle.amc.specs.Map.{trafficNumber, dataNumber}
-use Rattle.amc.proofs.Law.{traffic-lt}
-use Rattle.amc.proofs.Parts.{before-few, rest-six, taken-le}
-use Rattle.amc.proofs.data_number.Statement.{statement}
+use Rattle.amc.proofs.{Law.traffic-lt, Parts.{before-few, rest-six, taken-le}, data_number.Statement.statement}
 use Rattle.amc.proofs.data_number.Tie as tie
 
 bin-symbol-requires : tie.Need-bin-symbol-requires

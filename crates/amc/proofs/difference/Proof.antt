@@ -1,6 +1,5 @@
 -- `amc::difference` meets its contract.
-use native.Mathlib.Omega.{arith}
-use borrow.Author.Needs.{needs}
+use Rattle.base.proofs.Prelude.{arith, needs}
 use Rattle.amc.specs.Element.{subtract}
 use Rattle.amc.proofs.difference.Statement.{statement}
 use Rattle.amc.proofs.difference.Tie as tie

@@ -1,11 +1,7 @@
 -- `amc::entry_of` meets its contract.
-use mathlib.Core.Path.{sym, ap, _∙_}
-use Prim.Native.Nat.{ℕ}
-use borrow.Author.Needs.{needs}
+use Rattle.base.proofs.Prelude.{sym, ap, _∙_, ℕ, needs}
 use Rattle.amc.specs.Element.{baseSeven, twoDigits}
-use Rattle.amc.proofs.Digit.{number-digits}
-use Rattle.amc.proofs.ZeroRule.{sum-off, sum-other}
-use Rattle.amc.proofs.entry_of.Statement.{statement}
+use Rattle.amc.proofs.{Digit.number-digits, ZeroRule.{sum-off, sum-other}, entry_of.Statement.statement}
 use Rattle.amc.proofs.entry_of.Tie as tie
 
 pub entry-of-spec : {M : Type 1} → statement M

@@ -1,5 +1,5 @@
 -- `amc::index` meets its contract.
-use borrow.Author.Needs.{needs}
+use Rattle.base.proofs.Prelude.{needs}
 use Rattle.amc.specs.Map.{off, indexOf}
 use Rattle.amc.proofs.index.Statement.{statement}
 use Rattle.amc.proofs.index.Tie as tie

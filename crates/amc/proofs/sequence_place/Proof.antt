@@ -1,12 +1,7 @@
 -- `amc::sequence_place` meets its contract.
-use mathlib.Core.Path.{ap, _∙_}
-use native.Mathlib.Omega.{arith}
-use borrow.Author.Needs.{needs}
-use Rattle.amc.specs.Map.{off}
-use Rattle.amc.specs.Model.{sumPlace, sequencePlace}
-use Rattle.amc.proofs.Tables.{powers}
-use Rattle.amc.proofs.Sequence.{entry-digits}
-use Rattle.amc.proofs.sequence_place.Statement.{statement}
+use Rattle.base.proofs.Prelude.{ap, _∙_, arith, needs}
+use Rattle.amc.specs.{Map.off, Model.{sumPlace, sequencePlace}}
+use Rattle.amc.proofs.{Tables.powers, Sequence.entry-digits, sequence_place.Statement.statement}
 use Rattle.amc.proofs.sequence_place.Tie as tie
 
 sum-place-requires : tie.Need-sum-place-requires

@@ -1,11 +1,7 @@
 -- `amc::sum_place` meets its contract.
-use borrow.Author.Needs.{needs}
-use borrow.Author.Tests.{eq-eqb, ne-eqb}
-use Rattle.amc.specs.Element.{add}
-use Rattle.amc.specs.Map.{zeroRule}
-use Rattle.amc.specs.Model.{sumPlace}
-use Rattle.amc.proofs.Sequence.{offset-above}
-use Rattle.amc.proofs.sum_place.Statement.{statement}
+use Rattle.base.proofs.Prelude.{needs, eq-eqb, ne-eqb}
+use Rattle.amc.specs.{Element.add, Map.zeroRule, Model.sumPlace}
+use Rattle.amc.proofs.{Sequence.offset-above, sum_place.Statement.statement}
 use Rattle.amc.proofs.sum_place.Tie as tie
 
 sub-result : tie.Need-sub-result

@@ -1,8 +1,6 @@
 -- `amc::traffic` meets its contract.
-use mathlib.Core.Path.{refl, _∙_}
-use borrow.Author.Needs.{needs}
-use Rattle.amc.proofs.Sequence.{traffic-at}
-use Rattle.amc.proofs.traffic.Statement.{statement}
+use Rattle.base.proofs.Prelude.{refl, _∙_, needs}
+use Rattle.amc.proofs.{Sequence.traffic-at, traffic.Statement.statement}
 use Rattle.amc.proofs.traffic.Tie as tie
 
 pub traffic-spec : {M : Type 1} → statement M

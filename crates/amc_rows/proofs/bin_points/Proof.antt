@@ -1,14 +1,8 @@
 -- `amc_rows::bin_points` meets its contract.
-use mathlib.Core.Path.{refl, _∙_}
-use Prim.Native.Nat.{_+_, _-_, _*_, _/_, _<_, _≤_}
-use native.Mathlib.Omega.{arith}
-use borrow.Author.Needs.{needs}
+use Rattle.base.proofs.{Prelude.{refl, _∙_, _+_, _-_, _*_, _/_, _<_, _≤_, arith, needs}, Tabulate.{Written, written-none, written-next}}
 use Rattle.base.specs.Steps.{entry}
-use Rattle.base.proofs.Tabulate.{Written, written-none, written-next}
-use Rattle.amc.proofs.Parts.{product-few, by-six, taken-le}
-use Rattle.amc.proofs.Law.{index-lt}
-use Rattle.amc_rows.proofs.Points.{firstPlace, subchannel-le, places-lt, point-number}
-use Rattle.amc_rows.proofs.bin_points.Statement.{statement}
+use Rattle.amc.proofs.{Parts.{product-few, by-six, taken-le}, Law.index-lt}
+use Rattle.amc_rows.proofs.{Points.{firstPlace, subchannel-le, places-lt, point-number}, bin_points.Statement.statement}
 use Rattle.amc_rows.proofs.bin_points.Tie as tie
 
 abbrev Inv-loop : tie.InvT-loop

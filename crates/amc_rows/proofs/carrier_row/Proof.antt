@@ -1,12 +1,7 @@
 -- `amc_rows::carrier_row` meets its contract.
-use mathlib.Core.Path.{refl, _∙_}
-use Prim.Native.Nat.{_+_, _-_}
-use native.Mathlib.Omega.{arith}
-use borrow.Author.Needs.{needs}
+use Rattle.base.proofs.{Prelude.{refl, _∙_, _+_, _-_, arith, needs}, Tabulate.{Written, written-none, written-next}}
 use Rattle.base.specs.Steps.{entry}
-use Rattle.base.proofs.Tabulate.{Written, written-none, written-next}
-use Rattle.amc_rows.proofs.Row.{entry-few, row-entry}
-use Rattle.amc_rows.proofs.carrier_row.Statement.{statement}
+use Rattle.amc_rows.proofs.{Row.{entry-few, row-entry}, carrier_row.Statement.statement}
 use Rattle.amc_rows.proofs.carrier_row.Tie as tie
 
 abbrev Inv-loop : tie.InvT-loop

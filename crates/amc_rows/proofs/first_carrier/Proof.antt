@@ -1,12 +1,7 @@
 -- `amc_rows::first_carrier` meets its contract.
-use Prim.Native.Nat.{_+_, _-_, _*_, _%_, _≤_}
-use native.Mathlib.Omega.{arith}
-use lib.Dec.{leb}
-use borrow.Author.Needs.{needs}
-use Rattle.base.proofs.LeaveOut.{step-fits}
+use Rattle.base.proofs.{Prelude.{_+_, _-_, _*_, _%_, _≤_, arith, leb, needs}, LeaveOut.step-fits}
 use Rattle.amc.proofs.Parts.{bins-few}
-use Rattle.amc_rows.proofs.Row.{first-is, rows-few}
-use Rattle.amc_rows.proofs.first_carrier.Statement.{statement}
+use Rattle.amc_rows.proofs.{Row.{first-is, rows-few}, first_carrier.Statement.statement}
 use Rattle.amc_rows.proofs.first_carrier.Tie as tie
 
 -- nine used numbers a bin

@@ -1,12 +1,8 @@
 -- `amc_rows::indices` meets its contract.
-use mathlib.Core.Path.{_≡_, _∙_}
-use Prim.Native.Nat.{_-_}
-use native.Mathlib.Omega.{arith}
-use borrow.Author.Needs.{needs}
+use Rattle.base.proofs.Prelude.{_≡_, _∙_, _-_, arith, needs}
 use Rattle.amc.specs.Model.{sequencePlace}
 use Rattle.amc.proofs.Sequence.{sequence-place-lt}
-use Rattle.amc_rows.proofs.Points.{Indexed, indexed-none, indexed-next, indexed-all}
-use Rattle.amc_rows.proofs.indices.Statement.{statement}
+use Rattle.amc_rows.proofs.{Points.{Indexed, indexed-none, indexed-next, indexed-all}, indices.Statement.statement}
 use Rattle.amc_rows.proofs.indices.Tie as tie
 
 abbrev Inv-loop : tie.InvT-loop

@@ -1,8 +1,5 @@
 -- `amc_rows::places` meets its contract.
-use Prim.Native.Nat.{_-_}
-use native.Mathlib.Omega.{arith}
-use borrow.Author.Needs.{needs}
-use Rattle.base.proofs.Tabulate.{Written, written-none, written-next, written-starts}
+use Rattle.base.proofs.{Prelude.{_-_, arith, needs}, Tabulate.{Written, written-none, written-next, written-starts}}
 use Rattle.amc.specs.Model.{sequencePlace}
 use Rattle.amc_rows.proofs.places.Statement.{statement}
 use Rattle.amc_rows.proofs.places.Tie as tie

@@ -1,14 +1,8 @@
 -- `amc_rows::subchannel_step` meets its contract.
-use mathlib.Core.Path.{_≡_, ap}
-use Prim.Native.Nat.{ℕ, _+_, _*_}
-use native.Mathlib.Omega.{arith}
-use lib.Dec.{leb}
+use Rattle.base.proofs.{Prelude.{_≡_, ap, ℕ, _+_, _*_, arith, leb, needs}, LeaveOut.step-is}
 use mir.Val.{boolByte}
-use borrow.Author.Needs.{needs}
-use Rattle.base.proofs.LeaveOut.{step-is}
 use Rattle.amc_rows.specs.Model.{subchannelStep}
-use Rattle.amc_rows.proofs.Row.{used-few, step-few}
-use Rattle.amc_rows.proofs.subchannel_step.Statement.{statement}
+use Rattle.amc_rows.proofs.{Row.{used-few, step-few}, subchannel_step.Statement.statement}
 use Rattle.amc_rows.proofs.subchannel_step.Tie as tie
 
 -- the sum as the definition has it

@@ -1,14 +1,8 @@
 -- `amc_rows::table` meets its contract.
-use mathlib.Core.Path.{refl, _∙_}
-use Prim.Native.Nat.{_-_, _*_, _%_}
-use native.Mathlib.Omega.{arith}
-use borrow.Author.Needs.{needs}
-use Rattle.base.proofs.Tabulate.{Written, written-none, written-next, written-starts}
+use Rattle.base.proofs.{Prelude.{refl, _∙_, _-_, _*_, _%_, arith, needs}, Tabulate.{Written, written-none, written-next, written-starts}}
 use Rattle.amc_rows.specs.Model.{sequenceCarrier}
-use Rattle.amc.proofs.Parts.{product-few}
-use Rattle.amc.proofs.Sequence.{sequence-place-lt}
-use Rattle.amc_rows.proofs.Row.{table-entry}
-use Rattle.amc_rows.proofs.table.Statement.{statement}
+use Rattle.amc.proofs.{Parts.product-few, Sequence.sequence-place-lt}
+use Rattle.amc_rows.proofs.{Row.table-entry, table.Statement.statement}
 use Rattle.amc_rows.proofs.table.Tie as tie
 
 abbrev Inv-loop : tie.InvT-loop

@@ -1,8 +1,6 @@
 -- `base::is_up_to` meets its contract.
-use native.Mathlib.Omega.{arith}
-use borrow.Author.Tests.{lt-ltb, le-ltb}
+use Rattle.base.proofs.{Prelude.{arith, lt-ltb, le-ltb}, is_up_to.Statement.statement}
 use Rattle.base.specs.Choice.{isUpTo}
-use Rattle.base.proofs.is_up_to.Statement.{statement}
 use Rattle.base.proofs.is_up_to.Tie as tie
 
 pub is-up-to-spec : {M : Type 1} → statement M

@@ -1,8 +1,6 @@
 -- `base::reduce` meets its contract.
-use mathlib.Core.Path.{sym}
+use Rattle.base.proofs.{Prelude.sym, Perm.reduced, reduce.Statement.statement}
 use native.Mathlib.Nat.{mod-eq-of-lt}
-use Rattle.base.proofs.Perm.{reduced}
-use Rattle.base.proofs.reduce.Statement.{statement}
 use Rattle.base.proofs.reduce.Tie as tie
 
 pub reduce-spec : {M : Type 1} → statement M

@@ -1,8 +1,6 @@
 -- `base::reduce16` meets its contract.
-use mathlib.Core.Path.{sym}
+use Rattle.base.proofs.{Prelude.sym, Perm.reduced, reduce16.Statement.statement}
 use native.Mathlib.Nat.{mod-eq-of-lt}
-use Rattle.base.proofs.Perm.{reduced}
-use Rattle.base.proofs.reduce16.Statement.{statement}
 use Rattle.base.proofs.reduce16.Tie as tie
 
 pub reduce16-spec : {M : Type 1} → statement M

@@ -1,8 +1,5 @@
 -- `base::rotate` meets its contract.
-use mathlib.Core.Path.{refl}
-use native.Mathlib.Nat.{mod-lt}
-use borrow.Author.Needs.{needs}
-use Rattle.base.proofs.rotate.Statement.{statement}
+use Rattle.base.proofs.{Prelude.{refl, mod-lt, needs}, rotate.Statement.statement}
 use Rattle.base.proofs.rotate.Tie as tie
 
 returns : tie.Need-returns

@@ -1,9 +1,5 @@
 -- `base::skip` meets its contract.
-use native.Mathlib.Omega.{arith}
-use mathlib.Core.Path.{sym}
-use Rattle.base.proofs.LeaveOut.{skip-below, skip-above}
-use borrow.Author.Needs.{needs}
-use Rattle.base.proofs.skip.Statement.{statement}
+use Rattle.base.proofs.{Prelude.{arith, sym, needs}, LeaveOut.{skip-below, skip-above}, skip.Statement.statement}
 use Rattle.base.proofs.skip.Tie as tie
 
 returns : tie.Need-returns

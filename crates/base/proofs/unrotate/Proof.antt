@@ -1,9 +1,5 @@
 -- `base::unrotate` meets its contract.
-use mathlib.Core.Path.{refl}
-use native.Mathlib.Omega.{arith}
-use native.Mathlib.Nat.{mod-lt}
-use borrow.Author.Needs.{needs}
-use Rattle.base.proofs.unrotate.Statement.{statement}
+use Rattle.base.proofs.{Prelude.{refl, arith, mod-lt, needs}, unrotate.Statement.statement}
 use Rattle.base.proofs.unrotate.Tie as tie
 
 sub-result : tie.Need-sub-result

@@ -1,9 +1,5 @@
 -- `base::unskip` meets its contract.
-use native.Mathlib.Omega.{arith}
-use mathlib.Core.Path.{sym}
-use Rattle.base.proofs.LeaveOut.{unskip-below, unskip-above}
-use borrow.Author.Needs.{needs}
-use Rattle.base.proofs.unskip.Statement.{statement}
+use Rattle.base.proofs.{Prelude.{arith, sym, needs}, LeaveOut.{unskip-below, unskip-above}, unskip.Statement.statement}
 use Rattle.base.proofs.unskip.Tie as tie
 
 returns : tie.Need-returns

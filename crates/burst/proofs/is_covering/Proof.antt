@@ -1,6 +1,5 @@
 -- `burst::is_covering` meets its contract.
-use borrow.Author.Needs.{needs}
-use Rattle.base.proofs.Test.{and-of}
+use Rattle.base.proofs.{Prelude.needs, Test.and-of}
 use Rattle.burst.specs.Burst.{isCovering}
 use Rattle.burst.proofs.is_covering.Statement.{statement}
 use Rattle.burst.proofs.is_covering.Tie as tie

@@ -1,6 +1,5 @@
 -- `burst::is_inside` meets its contract.
-use borrow.Author.Needs.{needs}
-use Rattle.base.proofs.Test.{and-of}
+use Rattle.base.proofs.{Prelude.needs, Test.and-of}
 use Rattle.burst.specs.Burst.{isInside}
 use Rattle.burst.proofs.is_inside.Statement.{statement}
 use Rattle.burst.proofs.is_inside.Tie as tie

@@ -1,6 +1,5 @@
 -- `burst::is_of` meets its contract.
-use borrow.Author.Needs.{needs}
-use Rattle.base.proofs.Test.{and-is}
+use Rattle.base.proofs.{Prelude.needs, Test.and-is}
 use Rattle.burst.specs.Burst.{isOf}
 use Rattle.burst.proofs.is_of.Statement.{statement}
 use Rattle.burst.proofs.is_of.Tie as tie

@@ -1,7 +1,6 @@
 -- `burst::is_overlap` meets its contract.
-use borrow.Author.Needs.{needs}
+use Rattle.base.proofs.{Prelude.needs, Test.and-of}
 use Rattle.burst.specs.Model.{edgesOverlap}
-use Rattle.base.proofs.Test.{and-of}
 use Rattle.burst.proofs.is_overlap.Statement.{statement}
 use Rattle.burst.proofs.is_overlap.Tie as tie
 

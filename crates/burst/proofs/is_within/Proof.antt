@@ -1,6 +1,5 @@
 -- `burst::is_within` meets its contract.
-use borrow.Author.Needs.{needs}
-use Rattle.base.proofs.Test.{and-is}
+use Rattle.base.proofs.{Prelude.needs, Test.and-is}
 use Rattle.burst.specs.Burst.{isWithin}
 use Rattle.burst.proofs.is_within.Statement.{statement}
 use Rattle.burst.proofs.is_within.Tie as tie

@@ -1,10 +1,6 @@
 -- `burst_list::is_apart` meets its contract.
-use mathlib.Core.Path.{ap, _∙_}
-use Prim.Native.Nat.{_-_}
-use borrow.Author.Needs.{needs}
-use Rattle.base.proofs.First.{Asking, asking, asking-next, asked}
-use Rattle.burst.specs.declared.Edges.{Edges}
-use Rattle.burst.specs.Model.{edgesOverlap}
+use Rattle.base.proofs.{Prelude.{ap, _∙_, _-_, needs}, First.{Asking, asking, asking-next, asked}}
+use Rattle.burst.specs.{declared.Edges.Edges, Model.edgesOverlap}
 use Rattle.burst_list.specs.Model.{edgesAt}
 use Rattle.burst_list.proofs.is_apart.Statement.{statement}
 use Rattle.burst_list.proofs.is_apart.Tie as tie

@@ -1,7 +1,6 @@
 -- `burst_list::keep` meets its contract.
-use borrow.Author.Needs.{needs}
-use Rattle.burst_list.proofs.Columns.{kept-edges}
-use Rattle.burst_list.proofs.keep.Statement.{statement}
+use Rattle.base.proofs.Prelude.{needs}
+use Rattle.burst_list.proofs.{Columns.kept-edges, keep.Statement.statement}
 use Rattle.burst_list.proofs.keep.Tie as tie
 
 pub keep-spec : {M : Type 1} → statement M

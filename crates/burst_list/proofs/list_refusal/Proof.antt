@@ -1,22 +1,11 @@
 -- `burst_list::list_refusal` meets its contract: the bursts before the i-th have passed, and their edges stand in the columns.
-use mathlib.Core.Path.{_≡_, ap, _∙_}
-use mathlib.Core.Bool.{true}
-use Prim.Native.Nat.{_+_, _-_, _<_}
-use native.Mathlib.Omega.{arith}
-use borrow.Author.Needs.{needs}
-use borrow.Author.Tests.{lt-leb}
-use borrow.Author.Count.{below-none, below-more}
-use Rattle.base.proofs.Test.{told-no, told-yes}
-use Rattle.base.proofs.Chain.{by-number}
-use Rattle.burst.specs.declared.Edges.{Edges}
-use Rattle.burst.specs.Burst.{burstAt, isInside}
-use Rattle.burst.specs.Model.{edgesOf}
+use Rattle.base.proofs.{Prelude.{_≡_, ap, _∙_, true, _+_, _-_, _<_, arith, needs}, Test.{told-no, told-yes}, Chain.by-number}
+use borrow.Author.{Tests.lt-leb, Count.{below-none, below-more}}
+use Rattle.burst.specs.{declared.Edges.Edges, Burst.{burstAt, isInside}, Model.edgesOf}
 use Rattle.burst.proofs.Cover.{inside}
-use Rattle.burst_list.specs.List.{isList, isApart}
-use Rattle.burst_list.specs.Model.{listRefusal}
+use Rattle.burst_list.specs.{List.{isList, isApart}, Model.listRefusal}
 use Rattle.burst_list.proofs.Each.{Passes, list-is, list-of, is-outside, is-overlapping, all-pass}
-use Rattle.burst_list.proofs.Columns.{Held, held-none, held-next, held-apart}
-use Rattle.burst_list.proofs.list_refusal.Statement.{statement}
+use Rattle.burst_list.proofs.{Columns.{Held, held-none, held-next, held-apart}, list_refusal.Statement.statement}
 use Rattle.burst_list.proofs.list_refusal.Tie as tie
 
 abbrev Inv-loop : tie.InvT-loop

@@ -1,7 +1,6 @@
 -- `burst_owner::first_owner` meets its contract.
-use borrow.Author.Needs.{needs}
-use Rattle.burst_owner.proofs.Row.{owner-some, owner-none}
-use Rattle.burst_owner.proofs.first_owner.Statement.{statement}
+use Rattle.base.proofs.Prelude.{needs}
+use Rattle.burst_owner.proofs.{Row.{owner-some, owner-none}, first_owner.Statement.statement}
 use Rattle.burst_owner.proofs.first_owner.Tie as tie
 
 pub first-owner-spec : {M : Type 1} → statement M

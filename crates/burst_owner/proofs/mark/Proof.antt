@@ -1,11 +1,6 @@
 -- `burst_owner::mark` meets its contract.
-use mathlib.Core.Path.{refl}
-use Prim.Native.Nat.{_+_, _-_, _≤_}
-use native.Mathlib.Omega.{arith}
-use borrow.Author.Needs.{needs}
-use Rattle.base.proofs.Tabulate.{over-none, over-next}
-use Rattle.burst_owner.proofs.Row.{Marking, marking-all}
-use Rattle.burst_owner.proofs.mark.Statement.{statement}
+use Rattle.base.proofs.{Prelude.{refl, _+_, _-_, _≤_, arith, needs}, Tabulate.{over-none, over-next}}
+use Rattle.burst_owner.proofs.{Row.{Marking, marking-all}, mark.Statement.statement}
 use Rattle.burst_owner.proofs.mark.Tie as tie
 
 abbrev Inv-loop : tie.InvT-loop

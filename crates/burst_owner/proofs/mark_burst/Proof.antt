@@ -1,7 +1,5 @@
 -- `burst_owner::mark_burst` meets its contract.
-use mathlib.Core.Path.{sym, _∙_}
-use borrow.Author.Needs.{needs}
-use borrow.Author.Tests.{not-true, not-false}
+use Rattle.base.proofs.Prelude.{sym, _∙_, needs, not-true, not-false}
 use Rattle.burst_owner.proofs.mark_burst.Statement.{statement}
 use Rattle.burst_owner.proofs.mark_burst.Tie as tie
 

@@ -1,13 +1,9 @@
 -- `burst_owner::marked_row` meets its contract.
-use mathlib.Core.Path.{refl}
-use Prim.Native.Nat.{_-_, _<_, _≤_}
-use native.Mathlib.Omega.{arith}
-use borrow.Author.Needs.{needs}
+use Rattle.base.proofs.Prelude.{refl, _-_, _<_, _≤_, arith, needs}
 use Rattle.burst_list.specs.List.{burstCount}
 use Rattle.burst.proofs.Cover.{inside}
 use Rattle.burst_list.proofs.Each.{list-yes, list-most}
-use Rattle.burst_owner.proofs.Row.{RowMarked, row-none, row-next, row-all}
-use Rattle.burst_owner.proofs.marked_row.Statement.{statement}
+use Rattle.burst_owner.proofs.{Row.{RowMarked, row-none, row-next, row-all}, marked_row.Statement.statement}
 use Rattle.burst_owner.proofs.marked_row.Tie as tie
 
 abbrev Inv-loop : tie.InvT-loop

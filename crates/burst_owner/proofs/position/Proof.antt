@@ -1,12 +1,7 @@
 -- `burst_owner::position` meets its contract.
-use mathlib.Core.Path.{_≡_, sym, ap, _∙_}
-use Prim.Native.Nat.{_-_}
-use native.Mathlib.Omega.{arith}
-use borrow.Author.Needs.{needs}
+use Rattle.base.proofs.{Prelude.{_≡_, sym, ap, _∙_, _-_, arith, needs}, First.{None, none-more, first-is, first-none}}
 use borrow.Author.Count.{below-none}
-use Rattle.burst.specs.declared.Burst.{Burst}
-use Rattle.burst.specs.Burst.{burstAt, isCovering}
-use Rattle.base.proofs.First.{None, none-more, first-is, first-none}
+use Rattle.burst.specs.{declared.Burst.Burst, Burst.{burstAt, isCovering}}
 use Rattle.burst_owner.proofs.position.Statement.{statement}
 use Rattle.burst_owner.proofs.position.Tie as tie
 

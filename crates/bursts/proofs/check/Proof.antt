@@ -1,12 +1,10 @@
 -- `bursts::check` meets its contract.
-use mathlib.Core.Path.{refl, ap, _∙_}
-use borrow.Author.Needs.{needs}
+use Rattle.base.proofs.Prelude.{refl, ap, _∙_, needs}
 use Rattle.base.specs.Answer.{refusalOf}
 use Rattle.burst_list.specs.Model.{listRefusal}
 use Rattle.bursts.specs.Burst.{checkOf}
 use Rattle.zone.proofs.Number.{fields-no, fields-then}
-use Rattle.bursts.proofs.Answer.{list-asks}
-use Rattle.bursts.proofs.check.Statement.{statement}
+use Rattle.bursts.proofs.{Answer.list-asks, check.Statement.statement}
 use Rattle.bursts.proofs.check.Tie as tie
 
 pub check-spec : {M : Type 1} → statement M

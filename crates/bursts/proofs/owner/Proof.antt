@@ -1,13 +1,10 @@
 -- `bursts::owner` meets its contract.
-use Prim.Native.Nat.{_<_}
-use borrow.Author.Needs.{needs}
-use Rattle.base.proofs.Chain.{by-answer}
+use Rattle.base.proofs.{Prelude.{_<_, needs}, Chain.by-answer}
 use Rattle.map.specs.Question.{isSlot, isSubchannel}
 use Rattle.burst_list.proofs.Each.{list-most}
 use Rattle.bursts.specs.Owner.{ownerOf}
 use Rattle.zone.proofs.Number.{fields-no, fields-then}
-use Rattle.bursts.proofs.Answer.{list-asks, bursts-no, bursts-then, owned-no, owned-yes}
-use Rattle.bursts.proofs.owner.Statement.{statement}
+use Rattle.bursts.proofs.{Answer.{list-asks, bursts-no, bursts-then, owned-no, owned-yes}, owner.Statement.statement}
 use Rattle.bursts.proofs.owner.Tie as tie
 
 -- a subchannel that is let pass is one of the mode's

@@ -1,11 +1,9 @@
 -- `bursts::owners` meets its contract.
-use borrow.Author.Needs.{needs}
-use Rattle.base.proofs.Chain.{by-answer}
+use Rattle.base.proofs.{Prelude.needs, Chain.by-answer}
 use Rattle.map.specs.Question.{isSlot}
 use Rattle.bursts.specs.Owner.{ownersOf}
 use Rattle.zone.proofs.Number.{fields-no, fields-then}
-use Rattle.bursts.proofs.Answer.{list-asks, bursts-no, bursts-then, zone-accepted, row-no, row-yes}
-use Rattle.bursts.proofs.owners.Statement.{statement}
+use Rattle.bursts.proofs.{Answer.{list-asks, bursts-no, bursts-then, zone-accepted, row-no, row-yes}, owners.Statement.statement}
 use Rattle.bursts.proofs.owners.Tie as tie
 
 pub owners-spec : {M : Type 1} → statement M

@@ -1,5 +1,5 @@
 -- `bursts::refused_row` meets its contract.
-use mathlib.Core.Path.{refl}
+use Rattle.base.proofs.Prelude.{refl}
 use Rattle.base.specs.Tabulate.{tabulate}
 use Rattle.bursts.proofs.refused_row.Statement.{statement}
 use Rattle.bursts.proofs.refused_row.Tie as tie

@@ -1,10 +1,7 @@
 -- `capi_bursts::bp_burst_owner` meets its contract.
-use mathlib.Core.Path.{_≡_}
-use native.Mathlib.Omega.{arith}
-use borrow.Author.Needs.{needs}
+use Rattle.base.proofs.Prelude.{_≡_, arith, needs}
 use Rattle.bursts.specs.Owner.{ownerOf}
-use Rattle.capi_bursts.proofs.Burst.{owner-small, owner-no, owner-yes}
-use Rattle.capi_bursts.proofs.bp_burst_owner.Statement.{statement}
+use Rattle.capi_bursts.proofs.{Burst.{owner-small, owner-no, owner-yes}, bp_burst_owner.Statement.statement}
 use Rattle.capi_bursts.proofs.bp_burst_owner.Tie as tie
 
 asked : (c : tie.After-owner) → let a = c .before .before .before .args in

@@ -1,6 +1,5 @@
 -- `capi_bursts::bp_burst_owners` meets its contract.
-use mathlib.Core.Path.{_≡_}
-use borrow.Author.Needs.{needs}
+use Rattle.base.proofs.Prelude.{_≡_, needs}
 use Rattle.bursts.specs.Owner.{ownersOf}
 use Rattle.c_boundary.proofs.Row.{row-no, row-yes}
 use Rattle.capi_bursts.proofs.bp_burst_owners.Statement.{statement}

@@ -1,5 +1,5 @@
 -- `capi_bursts::bp_bursts_check` meets its contract.
-use borrow.Author.Needs.{needs}
+use Rattle.base.proofs.Prelude.{needs}
 use Rattle.capi_bursts.proofs.bp_bursts_check.Statement.{statement}
 use Rattle.capi_bursts.proofs.bp_bursts_check.Tie as tie
 

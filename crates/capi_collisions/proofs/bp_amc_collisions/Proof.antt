@@ -1,7 +1,6 @@
 -- `capi_collisions::bp_amc_collisions` meets its contract.
-use borrow.Author.Needs.{needs}
-use Rattle.capi_collisions.proofs.Collision.{amc-whole}
-use Rattle.capi_collisions.proofs.bp_amc_collisions.Statement.{statement}
+use Rattle.base.proofs.Prelude.{needs}
+use Rattle.capi_collisions.proofs.{Collision.amc-whole, bp_amc_collisions.Statement.statement}
 use Rattle.capi_collisions.proofs.bp_amc_collisions.Tie as tie
 
 pub bp-amc-collisions-spec : {M : Type 1} → statement M

@@ -1,7 +1,6 @@
 -- `capi_collisions::bp_ofusc_collisions` meets its contract.
-use borrow.Author.Needs.{needs}
-use Rattle.capi_collisions.proofs.Collision.{ofusc-whole}
-use Rattle.capi_collisions.proofs.bp_ofusc_collisions.Statement.{statement}
+use Rattle.base.proofs.Prelude.{needs}
+use Rattle.capi_collisions.proofs.{Collision.ofusc-whole, bp_ofusc_collisions.Statement.statement}
 use Rattle.capi_collisions.proofs.bp_ofusc_collisions.Tie as tie
 
 pub bp-ofusc-collisions-spec : {M : Type 1} → statement M

@@ -1,11 +1,7 @@
 -- `capi_collisions::hand_over` meets its contract: the marks below k are written.
-use Prim.Native.Nat.{_-_}
-use borrow.Author.Tests.{ne-eqb}
-use borrow.Author.Needs.{needs}
+use Rattle.base.proofs.{Prelude.{_-_, ne-eqb, needs}, Tabulate.{written-none, written-next}}
 use Rattle.capi_collisions.specs.Collision.{collisionOut}
-use Rattle.base.proofs.Tabulate.{written-none, written-next}
-use Rattle.capi_collisions.proofs.Collision.{byte-is, MarksWritten, handed}
-use Rattle.capi_collisions.proofs.hand_over.Statement.{statement}
+use Rattle.capi_collisions.proofs.{Collision.{byte-is, MarksWritten, handed}, hand_over.Statement.statement}
 use Rattle.capi_collisions.proofs.hand_over.Tie as tie
 
 abbrev Inv-loop : tie.InvT-loop

@@ -1,6 +1,6 @@
 -- `capi_grid::bp_ground` meets its contract.
+use Rattle.base.proofs.Prelude.{needs}
 use Rattle.points.specs.Points.{pointAt}
-use borrow.Author.Needs.{needs}
 use Rattle.capi_grid.proofs.bp_ground.Statement.{statement}
 use Rattle.capi_grid.proofs.bp_ground.Tie as tie
 

@@ -1,5 +1,5 @@
 -- `capi_grid::bp_lay` meets its contract.
-use borrow.Author.Needs.{needs}
+use Rattle.base.proofs.Prelude.{needs}
 use Rattle.capi_grid.proofs.bp_lay.Statement.{statement}
 use Rattle.capi_grid.proofs.bp_lay.Tie as tie
 

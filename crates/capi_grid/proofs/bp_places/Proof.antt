@@ -1,6 +1,5 @@
 -- `capi_grid::bp_places` meets its contract.
-use mathlib.Core.Path.{_≡_}
-use borrow.Author.Needs.{needs}
+use Rattle.base.proofs.Prelude.{_≡_, needs}
 use Rattle.map.specs.Setup.{setupWith}
 use Rattle.places.specs.Places.{placesOf}
 use Rattle.c_boundary.proofs.Row.{row-no, row-yes}

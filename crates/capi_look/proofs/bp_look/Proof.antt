@@ -1,15 +1,11 @@
 -- `capi_look::bp_look` meets its contract.
-use mathlib.Core.Path.{_≡_}
-use native.Mathlib.Omega.{arith}
+use Rattle.base.proofs.Prelude.{_≡_, arith, needs}
 use denote.Ref.{now}
 use Rattle.map.specs.Setup.{setupWith}
 use Rattle.look.specs.Look.{lookOf, seen}
 use Rattle.capi_look.specs.Look.{lookOut}
-use Rattle.capi_look.proofs.Look.{seen-small, seen-out}
-use mir.Syntax.{w32}
-use mir.ValLaws.{toZ-ofZ}
-use borrow.Author.Needs.{needs}
-use Rattle.capi_look.proofs.bp_look.Statement.{statement}
+use Rattle.capi_look.proofs.{Look.{seen-small, seen-out}, bp_look.Statement.statement}
+use mir.{Syntax.w32, ValLaws.toZ-ofZ}
 use Rattle.capi_look.proofs.bp_look.Tie as tie
 
 cast-slot : tie.Need-cast-slot

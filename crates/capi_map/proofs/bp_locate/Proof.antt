@@ -1,14 +1,9 @@
 -- `capi_map::bp_locate` meets its contract.
-use mathlib.Core.Path.{_≡_}
-use native.Mathlib.Omega.{arith}
-use mir.Syntax.{w32}
-use mir.ValLaws.{toZ-ofZ}
-use borrow.Author.Needs.{needs}
-use Rattle.map.specs.Setup.{setupWith}
-use Rattle.map.specs.Place.{located, locateOf}
+use Rattle.base.proofs.Prelude.{_≡_, arith, needs}
+use mir.{Syntax.w32, ValLaws.toZ-ofZ}
+use Rattle.map.specs.{Setup.setupWith, Place.{located, locateOf}}
 use Rattle.capi_map.specs.Map.{locateOut}
-use Rattle.capi_map.proofs.Map.{data-small, located-out}
-use Rattle.capi_map.proofs.bp_locate.Statement.{statement}
+use Rattle.capi_map.proofs.{Map.{data-small, located-out}, bp_locate.Statement.statement}
 use Rattle.capi_map.proofs.bp_locate.Tie as tie
 
 -- what `locate` says of the fields as C has them

@@ -1,11 +1,8 @@
 -- `capi_map::bp_place` meets its contract.
-use native.Mathlib.Omega.{arith}
-use mir.Syntax.{w32}
-use mir.ValLaws.{toZ-ofZ}
-use borrow.Author.Needs.{needs}
+use Rattle.base.proofs.Prelude.{arith, needs}
+use mir.{Syntax.w32, ValLaws.toZ-ofZ}
 use Rattle.capi_map.specs.Map.{placeOut}
-use Rattle.capi_map.proofs.Map.{placed-out, at-small}
-use Rattle.capi_map.proofs.bp_place.Statement.{statement}
+use Rattle.capi_map.proofs.{Map.{placed-out, at-small}, bp_place.Statement.statement}
 use Rattle.capi_map.proofs.bp_place.Tie as tie
 
 cast-symbol : tie.Need-cast-symbol

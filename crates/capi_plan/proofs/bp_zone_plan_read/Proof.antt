@@ -1,9 +1,7 @@
 -- `capi_plan::bp_zone_plan_read` meets its contract: what was read is small enough for 32 bits.
-use native.Mathlib.Omega.{arith}
-use borrow.Author.Needs.{needs}
+use Rattle.base.proofs.Prelude.{arith, needs}
 use Rattle.plan_numbers.proofs.Laws.{read-small}
-use Rattle.capi_plan.proofs.Plan.{read-no, read-yes}
-use Rattle.capi_plan.proofs.bp_zone_plan_read.Statement.{statement}
+use Rattle.capi_plan.proofs.{Plan.{read-no, read-yes}, bp_zone_plan_read.Statement.statement}
 use Rattle.capi_plan.proofs.bp_zone_plan_read.Tie as tie
 
 pub bp-zone-plan-read-spec : {M : Type 1} → statement M

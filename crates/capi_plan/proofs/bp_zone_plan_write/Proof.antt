@@ -1,9 +1,7 @@
 -- `capi_plan::bp_zone_plan_write` meets its contract.
-use native.Mathlib.Omega.{arith}
-use borrow.Author.Needs.{needs}
+use Rattle.base.proofs.Prelude.{arith, needs}
 use Rattle.capi_plan.specs.Plan.{writeOut}
-use Rattle.capi_plan.proofs.Plan.{few-bytes, write-out}
-use Rattle.capi_plan.proofs.bp_zone_plan_write.Statement.{statement}
+use Rattle.capi_plan.proofs.{Plan.{few-bytes, write-out}, bp_zone_plan_write.Statement.statement}
 use Rattle.capi_plan.proofs.bp_zone_plan_write.Tie as tie
 
 pub bp-zone-plan-write-spec : {M : Type 1} → statement M

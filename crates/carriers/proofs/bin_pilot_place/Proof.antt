@@ -1,6 +1,6 @@
 -- `carriers::bin_pilot_place` meets its contract.
+use Rattle.base.proofs.Prelude.{needs}
 use Rattle.carriers.specs.Bin.{binPilotPlace}
-use borrow.Author.Needs.{needs}
 use Rattle.carriers.proofs.bin_pilot_place.Statement.{statement}
 use Rattle.carriers.proofs.bin_pilot_place.Tie as tie
 

@@ -1,8 +1,6 @@
 -- `carriers::carrier` meets its contract.
-use Rattle.base.proofs.LeaveOut.{skip-le}
-use native.Mathlib.Omega.{arith}
+use Rattle.base.proofs.{Prelude.{arith, needs}, LeaveOut.skip-le}
 use Rattle.carriers.specs.Band.{carrierOf}
-use borrow.Author.Needs.{needs}
 use Rattle.carriers.proofs.carrier.Statement.{statement}
 use Rattle.carriers.proofs.carrier.Tie as tie
 

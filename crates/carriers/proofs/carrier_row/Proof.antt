@@ -1,14 +1,7 @@
 -- `carriers::carrier_row` meets its contract.
-use mathlib.Core.Path.{ap}
-use mathlib.Core.Bool.{Bool}
-use Prim.Native.Nat.{ℕ, _+_, _-_, _%_, _<_}
-use native.Mathlib.Omega.{arith}
-use lib.Dec.{leb}
-use borrow.Author.Needs.{needs}
-use Rattle.base.specs.Choice.{pick}
-use Rattle.base.specs.Steps.{entry}
-use Rattle.base.proofs.LeaveOut.{step-is, step-fits}
+use Rattle.base.proofs.{Prelude.{ap, Bool, ℕ, _+_, _-_, _%_, _<_, arith, leb, needs}, LeaveOut.{step-is, step-fits}}
 use Rattle.base.proofs.Tabulate.{Written, written-none, written-next, written-all}
+use Rattle.base.specs.{Choice.pick, Steps.entry}
 use Rattle.carriers.specs.Model.{carrierStep}
 use Rattle.carriers.proofs.carrier_row.Statement.{statement}
 use Rattle.carriers.proofs.carrier_row.Tie as tie

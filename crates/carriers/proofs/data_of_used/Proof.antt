@@ -1,9 +1,6 @@
 -- `carriers::data_of_used` meets its contract.
-use Rattle.base.proofs.LeaveOut.{unskip-le}
-use native.Mathlib.Omega.{arith}
-use Prim.Native.Nat.{_%_}
+use Rattle.base.proofs.{Prelude.{arith, _%_, needs}, LeaveOut.unskip-le}
 use Rattle.carriers.specs.Bin.{dataOfUsed}
-use borrow.Author.Needs.{needs}
 use Rattle.carriers.proofs.data_of_used.Statement.{statement}
 use Rattle.carriers.proofs.data_of_used.Tie as tie
 

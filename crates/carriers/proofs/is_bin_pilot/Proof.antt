@@ -1,6 +1,6 @@
 -- `carriers::is_bin_pilot` meets its contract.
+use Rattle.base.proofs.Prelude.{needs}
 use Rattle.carriers.specs.Bin.{isBinPilot}
-use borrow.Author.Needs.{needs}
 use Rattle.carriers.proofs.is_bin_pilot.Statement.{statement}
 use Rattle.carriers.proofs.is_bin_pilot.Tie as tie
 

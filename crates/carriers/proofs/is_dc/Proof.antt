@@ -1,5 +1,5 @@
 -- `carriers::is_dc` meets its contract.
-use borrow.Author.Needs.{needs}
+use Rattle.base.proofs.Prelude.{needs}
 use Rattle.carriers.specs.Band.{isDc}
 use Rattle.carriers.proofs.is_dc.Statement.{statement}
 use Rattle.carriers.proofs.is_dc.Tie as tie

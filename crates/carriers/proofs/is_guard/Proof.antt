@@ -1,7 +1,6 @@
 -- `carriers::is_guard` meets its contract.
-use borrow.Author.Tests.{lt-ltb, le-ltb}
+use Rattle.base.proofs.Prelude.{lt-ltb, le-ltb, needs}
 use Rattle.carriers.specs.Band.{isGuard}
-use borrow.Author.Needs.{needs}
 use Rattle.carriers.proofs.is_guard.Statement.{statement}
 use Rattle.carriers.proofs.is_guard.Tie as tie
 

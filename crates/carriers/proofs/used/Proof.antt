@@ -1,6 +1,6 @@
 -- `carriers::used` meets its contract.
+use Rattle.base.proofs.Prelude.{needs}
 use Rattle.carriers.specs.Band.{usedOf}
-use borrow.Author.Needs.{needs}
 use Rattle.carriers.proofs.used.Statement.{statement}
 use Rattle.carriers.proofs.used.Tie as tie
 

@@ -1,14 +1,8 @@
 -- `carriers::used_numbers` meets its contract.
-use Prim.Native.Nat.{_-_, _%_}
-use lib.Dec.{leb}
-use native.Mathlib.Omega.{arith}
-use borrow.Author.Needs.{needs}
+use Rattle.base.proofs.{Prelude.{_-_, _%_, leb, arith, needs}, LeaveOut.step-fits, Tabulate.{Written, written-none, written-next, written-all}}
 use Rattle.base.specs.Steps.{entry}
-use Rattle.base.proofs.LeaveOut.{step-fits}
-use Rattle.base.proofs.Tabulate.{Written, written-none, written-next, written-all}
 use Rattle.carriers.specs.Bin.{usedOfData}
-use Rattle.carriers.proofs.Bin.{used-by-steps, pilot-place-le}
-use Rattle.carriers.proofs.used_numbers.Statement.{statement}
+use Rattle.carriers.proofs.{Bin.{used-by-steps, pilot-place-le}, used_numbers.Statement.statement}
 use Rattle.carriers.proofs.used_numbers.Tie as tie
 
 abbrev Inv-loop : tie.InvT-loop

@@ -1,9 +1,6 @@
 -- `carriers::used_of_data` meets its contract.
-use Rattle.base.proofs.LeaveOut.{skip-le}
-use native.Mathlib.Omega.{arith}
-use Prim.Native.Nat.{_%_}
+use Rattle.base.proofs.{Prelude.{arith, _%_, needs}, LeaveOut.skip-le}
 use Rattle.carriers.specs.Bin.{usedOfData}
-use borrow.Author.Needs.{needs}
 use Rattle.carriers.proofs.used_of_data.Statement.{statement}
 use Rattle.carriers.proofs.used_of_data.Tie as tie
 

@@ -1,16 +1,9 @@
 -- `centre::column` meets its contract.
-use mathlib.Core.Path.{_≡_}
-use Prim.Native.Nat.{_/_, _<_}
-use native.Mathlib.Omega.{arith}
-use lib.IntN.{pos, _+ℤ_}
-use lib.Signed.{mag}
-use mir.Syntax.{w32}
-use mir.Val.{toZ, ofZ}
-use mir.ValLaws.{toZ-pos, toZ-ofZ}
-use borrow.Author.Needs.{needs}
+use Rattle.base.proofs.Prelude.{_≡_, _/_, _<_, arith, needs}
+use lib.{IntN.{pos, _+ℤ_}, Signed.mag}
+use mir.{Syntax.w32, Val.{toZ, ofZ}, ValLaws.{toZ-pos, toZ-ofZ}}
 use Rattle.centre.specs.Centre.{onRow}
-use Rattle.centre.proofs.Law.{in-range-mag, sum-mag, sum-nonNeg}
-use Rattle.centre.proofs.column.Statement.{statement}
+use Rattle.centre.proofs.{Law.{in-range-mag, sum-mag, sum-nonNeg}, column.Statement.statement}
 use Rattle.centre.proofs.column.Tie as tie
 
 -- what the machine adds are the numbers themselves

@@ -1,10 +1,7 @@
 -- `centre::from_dc` meets its contract.
-use Prim.Native.Nat.{_/_, _≤_}
-use native.Mathlib.Omega.{arith}
-use borrow.Author.Needs.{needs}
+use Rattle.base.proofs.Prelude.{_/_, _≤_, arith, needs}
 use Rattle.centre.specs.Centre.{fromDc}
-use Rattle.centre.proofs.Law.{difference-fits, difference-is}
-use Rattle.centre.proofs.from_dc.Statement.{statement}
+use Rattle.centre.proofs.{Law.{difference-fits, difference-is}, from_dc.Statement.statement}
 use Rattle.centre.proofs.from_dc.Tie as tie
 
 sub-result : tie.Need-sub-result

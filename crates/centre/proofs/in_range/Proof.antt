@@ -1,17 +1,9 @@
 -- `centre::in_range` meets its contract.
-use mathlib.Core.Path.{_≡_, sym, _∙_}
-use mathlib.Core.Bool.{Bool}
-use Prim.Native.Nat.{_/_, _≤_}
-use native.Mathlib.Omega.{arith}
-use lib.IntN.{pos, negℤ, _-ℤ_, +ℤ-idl}
-use lib.Signed.{ltZ}
-use mir.Syntax.{w32}
-use mir.Val.{toZ, ofZ}
-use mir.ValLaws.{toZ-pos, toZ-ofZ}
-use borrow.Author.Needs.{needs}
+use Rattle.base.proofs.Prelude.{_≡_, sym, _∙_, Bool, _/_, _≤_, arith, needs}
+use lib.{IntN.{pos, negℤ, _-ℤ_, +ℤ-idl}, Signed.ltZ}
+use mir.{Syntax.w32, Val.{toZ, ofZ}, ValLaws.{toZ-pos, toZ-ofZ}}
 use Rattle.centre.specs.Centre.{inRange}
-use Rattle.centre.proofs.Law.{difference-is, literal-fits}
-use Rattle.centre.proofs.in_range.Statement.{statement}
+use Rattle.centre.proofs.{Law.{difference-is, literal-fits}, in_range.Statement.statement}
 use Rattle.centre.proofs.in_range.Tie as tie
 
 sub-if1 : tie.Need-sub-if1

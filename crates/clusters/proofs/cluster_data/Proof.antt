@@ -1,9 +1,7 @@
 -- `clusters::cluster_data` meets its contract.
-use mathlib.Core.Path.{refl}
-use borrow.Author.Needs.{needs}
+use Rattle.base.proofs.Prelude.{refl, needs}
 use Rattle.clusters.specs.Cluster.{clusterData}
-use Rattle.clusters.proofs.Cluster.{on-data}
-use Rattle.clusters.proofs.cluster_data.Statement.{statement}
+use Rattle.clusters.proofs.{Cluster.on-data, cluster_data.Statement.statement}
 use Rattle.clusters.proofs.cluster_data.Tie as tie
 
 returns : tie.Need-returns

@@ -1,5 +1,5 @@
 -- `clusters::cluster_place` meets its contract.
-use borrow.Author.Needs.{needs}
+use Rattle.base.proofs.Prelude.{needs}
 use Rattle.clusters.specs.Cluster.{clusterPlace}
 use Rattle.clusters.proofs.cluster_place.Statement.{statement}
 use Rattle.clusters.proofs.cluster_place.Tie as tie

@@ -1,8 +1,7 @@
 -- `clusters::cluster_start` meets its contract.
-use borrow.Author.Needs.{needs}
+use Rattle.base.proofs.Prelude.{needs}
 use Rattle.clusters.specs.Group.{clusterStarts}
-use Rattle.clusters.proofs.Tables.{start-is}
-use Rattle.clusters.proofs.cluster_start.Statement.{statement}
+use Rattle.clusters.proofs.{Tables.start-is, cluster_start.Statement.statement}
 use Rattle.clusters.proofs.cluster_start.Tie as tie
 
 pub cluster-start-spec : {M : Type 1} → statement M

@@ -1,7 +1,5 @@
 -- `clusters::group_in` meets its contract: in each arm the tests of the definition are those that led there.
-use mathlib.Core.Path.{refl}
-use lib.Dec.{lit<}
-use borrow.Author.Tests.{lt-ltb, le-ltb}
+use Rattle.base.proofs.Prelude.{refl, lit<, lt-ltb, le-ltb}
 use Rattle.clusters.specs.Group.{groupIn}
 use Rattle.clusters.proofs.group_in.Statement.{statement}
 use Rattle.clusters.proofs.group_in.Tie as tie

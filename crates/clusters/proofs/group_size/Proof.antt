@@ -1,6 +1,5 @@
 -- `clusters::group_size` meets its contract.
-use borrow.Author.Needs.{needs}
-use borrow.Author.Tests.{eq-eqb, ne-eqb}
+use Rattle.base.proofs.Prelude.{needs, eq-eqb, ne-eqb}
 use Rattle.clusters.specs.Group.{groupSize}
 use Rattle.clusters.proofs.group_size.Statement.{statement}
 use Rattle.clusters.proofs.group_size.Tie as tie

@@ -1,6 +1,5 @@
 -- `clusters::is_pilot` meets its contract.
-use borrow.Author.Needs.{needs}
-use borrow.Author.Tests.{eq-eqb, ne-eqb}
+use Rattle.base.proofs.Prelude.{needs, eq-eqb, ne-eqb}
 use Rattle.clusters.specs.Cluster.{isClusterPilot}
 use Rattle.clusters.proofs.is_pilot.Statement.{statement}
 use Rattle.clusters.proofs.is_pilot.Tie as tie

@@ -1,8 +1,5 @@
 -- `clusters::pilots` meets its contract.
-use mathlib.Core.Path.{_≡_}
-use Prim.Native.Nat.{ℕ, _%_}
-use borrow.Author.Needs.{needs}
-use borrow.Author.Tests.{eq-eqb, ne-eqb}
+use Rattle.base.proofs.Prelude.{_≡_, ℕ, _%_, needs, eq-eqb, ne-eqb}
 use Rattle.clusters.specs.Cluster.{firstPilot, secondPilot}
 use Rattle.clusters.proofs.pilots.Statement.{statement}
 use Rattle.clusters.proofs.pilots.Tie as tie

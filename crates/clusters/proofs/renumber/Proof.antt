@@ -1,11 +1,7 @@
 -- `clusters::renumber` meets its contract.
-use mathlib.Core.Path.{_≡_}
-use Prim.Native.Nat.{ℕ, _+_, _*_, _%_}
-use native.Mathlib.Omega.{arith}
-use borrow.Author.Needs.{needs}
+use Rattle.base.proofs.Prelude.{_≡_, ℕ, _+_, _*_, _%_, arith, needs}
 use Rattle.clusters.specs.Cluster.{renumber}
-use Rattle.clusters.proofs.Tables.{r-perm}
-use Rattle.clusters.proofs.renumber.Statement.{statement}
+use Rattle.clusters.proofs.{Tables.r-perm, renumber.Statement.statement}
 use Rattle.clusters.proofs.renumber.Tie as tie
 
 -- the cell's turn is reduced before it is added

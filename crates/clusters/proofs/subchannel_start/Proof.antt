@@ -1,8 +1,7 @@
 -- `clusters::subchannel_start` meets its contract.
-use borrow.Author.Needs.{needs}
+use Rattle.base.proofs.Prelude.{needs}
 use Rattle.clusters.specs.Group.{subchannelStarts}
-use Rattle.clusters.proofs.Tables.{start-is}
-use Rattle.clusters.proofs.subchannel_start.Statement.{statement}
+use Rattle.clusters.proofs.{Tables.start-is, subchannel_start.Statement.statement}
 use Rattle.clusters.proofs.subchannel_start.Tie as tie
 
 pub subchannel-start-spec : {M : Type 1} → statement M

@@ -1,16 +1,9 @@
 -- `clusters::turned_base` meets its contract.
-use mathlib.Core.Path.{_≡_, sym, _∙_}
-use Prim.Native.Nat.{ℕ, _+_, _%_, _<_}
+use Rattle.base.proofs.Prelude.{_≡_, sym, _∙_, ℕ, _+_, _%_, _<_, arith, needs}
 use native.Mathlib.Nat.{add-mod-mod}
-use native.Mathlib.Omega.{arith}
-use borrow.Author.Needs.{needs}
 use Rattle.base.specs.Steps.{entry}
-use Rattle.clusters.specs.Table.{base12, base8}
-use Rattle.clusters.specs.Group.{groupSize, ofSize, baseOf}
-use Rattle.clusters.specs.Model.{base12Thrice, base8FourTimes, turnedBase}
-use Rattle.clusters.proofs.Tables.{goes-on}
-use Rattle.clusters.proofs.Group.{size-8}
-use Rattle.clusters.proofs.turned_base.Statement.{statement}
+use Rattle.clusters.specs.{Table.{base12, base8}, Group.{groupSize, ofSize, baseOf}, Model.{base12Thrice, base8FourTimes, turnedBase}}
+use Rattle.clusters.proofs.{Tables.goes-on, Group.size-8, turned_base.Statement.statement}
 use Rattle.clusters.proofs.turned_base.Tie as tie
 
 -- an entry of B, turned by the cell

@@ -1,11 +1,8 @@
 -- `clusters::unrenumber` meets its contract.
-use Prim.Native.Nat.{_<_}
-use native.Mathlib.Omega.{arith}
-use borrow.Author.Needs.{needs}
+use Rattle.base.proofs.Prelude.{_<_, arith, needs}
 use Rattle.base.specs.Steps.{entry}
 use Rattle.clusters.specs.Cluster.{unrenumber}
-use Rattle.clusters.proofs.Tables.{r-perm}
-use Rattle.clusters.proofs.unrenumber.Statement.{statement}
+use Rattle.clusters.proofs.{Tables.r-perm, unrenumber.Statement.statement}
 use Rattle.clusters.proofs.unrenumber.Tie as tie
 
 -- the table's entry

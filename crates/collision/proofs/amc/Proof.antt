@@ -1,11 +1,8 @@
 -- `collision::amc` meets its contract.
-use borrow.Author.Needs.{needs}
-use Rattle.base.proofs.Chain.{by-answer}
-use Rattle.map.specs.Mode.{cells}
-use Rattle.map.specs.Question.{isCell}
+use Rattle.base.proofs.{Prelude.needs, Chain.by-answer}
+use Rattle.map.specs.{Mode.cells, Question.isCell}
 use Rattle.collision.specs.Collision.{amcOf}
-use Rattle.collision.proofs.Outcome.{gives}
-use Rattle.collision.proofs.amc.Statement.{statement}
+use Rattle.collision.proofs.{Outcome.gives, amc.Statement.statement}
 use Rattle.collision.proofs.amc.Tie as tie
 
 pub amc-spec : {M : Type 1} → statement M

@@ -1,13 +1,8 @@
 -- `collision::amc_hits` meets its contract.
-use mathlib.Core.Path.{ap₂, _∙_}
-use Prim.Native.Nat.{_+_, _-_, _%_}
-use native.Mathlib.Omega.{arith}
-use lib.Dec.{eqb}
-use borrow.Author.Needs.{needs}
+use Rattle.base.proofs.Prelude.{ap₂, _∙_, _+_, _-_, _%_, arith, eqb, needs}
 use Rattle.amc.proofs.Sequence.{traffic-at}
 use Rattle.collision.specs.Collision.{amcHit}
-use Rattle.collision.proofs.Pass.{Passed, start, fits, step, answer}
-use Rattle.collision.proofs.amc_hits.Statement.{statement}
+use Rattle.collision.proofs.{Pass.{Passed, start, fits, step, answer}, amc_hits.Statement.statement}
 use Rattle.collision.proofs.amc_hits.Tie as tie
 
 abbrev Inv-loop : tie.InvT-loop

@@ -1,15 +1,8 @@
 -- `collision::ofusc` meets its contract.
-use mathlib.Core.Path.{_≡_}
-use mathlib.Core.Bool.{true}
-use native.Mathlib.Omega.{arith}
-use borrow.Author.Needs.{needs}
-use Rattle.base.proofs.Test.{told-yes}
-use Rattle.base.proofs.Chain.{by-answer}
-use Rattle.map.specs.Mode.{width, cells, subchannels}
-use Rattle.map.specs.Question.{isFourSizes, isCell, isSubchannel}
+use Rattle.base.proofs.{Prelude.{_≡_, true, arith, needs}, Test.told-yes, Chain.by-answer}
+use Rattle.map.specs.{Mode.{width, cells, subchannels}, Question.{isFourSizes, isCell, isSubchannel}}
 use Rattle.collision.specs.Collision.{ofuscOf}
-use Rattle.collision.proofs.Outcome.{wide, gives, same-size}
-use Rattle.collision.proofs.ofusc.Statement.{statement}
+use Rattle.collision.proofs.{Outcome.{wide, gives, same-size}, ofusc.Statement.statement}
 use Rattle.collision.proofs.ofusc.Tie as tie
 
 four : (c : tie.Else1) → isFourSizes (c .before .before .args .size) ≡ true

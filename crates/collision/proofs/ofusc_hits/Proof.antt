@@ -1,12 +1,8 @@
 -- `collision::ofusc_hits` meets its contract.
-use Prim.Native.Nat.{_*_, _-_}
-use native.Mathlib.Omega.{arith}
-use borrow.Author.Needs.{needs}
+use Rattle.base.proofs.Prelude.{_*_, _-_, arith, needs}
 use Rattle.ofusc.proofs.Sequence.{size}
 use Rattle.collision.specs.Collision.{ofuscHit}
-use Rattle.collision.proofs.Group.{number-hit}
-use Rattle.collision.proofs.Pass.{Passed, start, fits, step, answer}
-use Rattle.collision.proofs.ofusc_hits.Statement.{statement}
+use Rattle.collision.proofs.{Group.number-hit, Pass.{Passed, start, fits, step, answer}, ofusc_hits.Statement.statement}
 use Rattle.collision.proofs.ofusc_hits.Tie as tie
 
 abbrev Inv-loop : tie.InvT-loop

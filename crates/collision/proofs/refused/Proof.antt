@@ -1,5 +1,5 @@
 -- `collision::refused` meets its contract.
-use mathlib.Core.Path.{refl}
+use Rattle.base.proofs.Prelude.{refl}
 use Rattle.base.specs.Tabulate.{tabulate}
 use Rattle.collision.specs.Collision.{answerOf}
 use Rattle.collision.proofs.refused.Statement.{statement}

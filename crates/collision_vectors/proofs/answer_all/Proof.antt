@@ -1,8 +1,8 @@
 -- `collision_vectors::answer_all` is safe and ends. The measure is what is left of the input.
 use borrow.Author.Needs.{needs}
-use Prim.Native.Nat.{_-_}
 use lib.ListN.{length}
 use Rattle.collision_vectors.proofs.answer_all.Statement.{statement}
+use Prim.Native.Nat.{_-_}
 use Rattle.collision_vectors.proofs.answer_all.Tie as tie
 
 abbrev Inv-loop : tie.InvT-loop

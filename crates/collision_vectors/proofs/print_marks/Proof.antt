@@ -1,13 +1,11 @@
 -- `collision_vectors::print_marks` is safe and ends. The measure is the number of marks that are left.
 use borrow.Author.Needs.{needs}
-use Prim.Native.Nat.{_+_, _-_}
 use native.Mathlib.Omega.{arith}
-use mathlib.Core.Bool.{Bool, true, false}
-use mir.Syntax.{w8}
-use mir.Val.{Fits, boolByte}
-use mathlib.Core.Path.{_≡_}
+use mathlib.Core.{Bool.{Bool, true, false}, Path._≡_}
+use mir.{Syntax.w8, Val.{Fits, boolByte}}
 use lib.ListN.{length}
 use Rattle.collision_vectors.proofs.print_marks.Statement.{statement}
+use Prim.Native.Nat.{_+_, _-_}
 use Rattle.collision_vectors.proofs.print_marks.Tie as tie
 
 abbrev Inv-loop : tie.InvT-loop

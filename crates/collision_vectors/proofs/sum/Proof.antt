@@ -1,7 +1,7 @@
 -- `collision_vectors::sum` is safe and ends. The measure is the number of subchannels that are left.
 use borrow.Author.Needs.{needs}
-use Prim.Native.Nat.{_-_}
 use Rattle.collision_vectors.proofs.sum.Statement.{statement}
+use Prim.Native.Nat.{_-_}
 use Rattle.collision_vectors.proofs.sum.Tie as tie
 
 abbrev Inv-loop : tie.InvT-loop

@@ -1,12 +1,9 @@
 -- `empty::empty` meets its contract.
-use mathlib.Core.Path.{sym, _∙_}
-use native.Mathlib.Omega.{arith}
-use borrow.Author.Needs.{needs}
+use Rattle.base.proofs.Prelude.{sym, _∙_, arith, needs}
 use Rattle.lengths.proofs.Refusal.{mask-few, empty-numbered, empty-accepted}
 use Rattle.empty.specs.Empty.{emptyOf}
 use Rattle.grid.proofs.Outcome.{refused-leaves, accepted-anew}
-use Rattle.empty.proofs.Rows.{first-all}
-use Rattle.empty.proofs.empty.Statement.{statement}
+use Rattle.empty.proofs.{Rows.first-all, empty.Statement.statement}
 use Rattle.empty.proofs.empty.Tie as tie
 
 returns : tie.Need-returns

@@ -1,6 +1,5 @@
 -- `empty::empty_first` meets its contract.
-use mathlib.Core.Path.{sym, _∙_}
-use borrow.Author.Needs.{needs}
+use Rattle.base.proofs.Prelude.{sym, _∙_, needs}
 use Rattle.lengths.proofs.Refusal.{mask-few, empty-numbered, empty-accepted}
 use Rattle.empty.specs.Empty.{emptyFirstOf}
 use Rattle.grid.proofs.Outcome.{refused-leaves, accepted-anew}

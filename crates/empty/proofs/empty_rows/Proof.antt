@@ -1,10 +1,7 @@
 -- `empty::empty_rows` meets its contract.
-use mathlib.Core.Path.{_∙_}
-use Prim.Native.Nat.{_-_}
-use borrow.Author.Needs.{needs}
+use Rattle.base.proofs.Prelude.{_∙_, _-_, needs}
 use Rattle.map.specs.Setup.{alone}
-use Rattle.empty.proofs.Rows.{SlotTurn, slot-start, slot-next, slot-done}
-use Rattle.empty.proofs.empty_rows.Statement.{statement}
+use Rattle.empty.proofs.{Rows.{SlotTurn, slot-start, slot-next, slot-done}, empty_rows.Statement.statement}
 use Rattle.empty.proofs.empty_rows.Tie as tie
 
 abbrev Inv-loop : tie.InvT-loop

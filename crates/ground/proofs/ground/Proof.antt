@@ -1,11 +1,8 @@
 -- `ground::ground` meets its contract.
-use mathlib.Core.Path.{sym, ap, _∙_}
-use lib.ListN.{length}
-use borrow.Author.Needs.{needs}
+use Rattle.base.proofs.Prelude.{sym, ap, _∙_, length, needs}
 use Rattle.lengths.proofs.Refusal.{mask-few, ground-numbered, ground-accepted}
 use Rattle.ground.specs.Ground.{grounded, groundOf}
-use Rattle.grid.proofs.Outcome.{refused-leaves, accepted-anew}
-use Rattle.grid.proofs.Slot.{floats-long}
+use Rattle.grid.proofs.{Outcome.{refused-leaves, accepted-anew}, Slot.floats-long}
 use Rattle.ground.proofs.ground.Statement.{statement}
 use Rattle.ground.proofs.ground.Tie as tie
 

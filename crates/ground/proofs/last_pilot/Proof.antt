@@ -1,5 +1,5 @@
 -- `ground::last_pilot` meets its contract.
-use borrow.Author.Tests.{lt-ltb, le-ltb}
+use Rattle.base.proofs.Prelude.{lt-ltb, le-ltb}
 use Rattle.ground.specs.Model.{lastPilot}
 use Rattle.ground.proofs.last_pilot.Statement.{statement}
 use Rattle.ground.proofs.last_pilot.Tie as tie

@@ -1,19 +1,12 @@
 -- `ground::pilot_row` meets its contract.
-use mathlib.Core.Path.{_≡_, ap, _∙_}
-use Prim.Native.Nat.{ℕ, _+_, _-_, _*_, _<_}
-use native.Mathlib.Omega.{arith}
-use lib.ListN.{getD}
-use borrow.Author.Needs.{needs}
-use Rattle.map.specs.Setup.{alone}
-use Rattle.map.specs.Mode.{symbols}
+use Rattle.base.proofs.Prelude.{_≡_, ap, _∙_, ℕ, _+_, _-_, _*_, _<_, arith, getD, needs}
+use Rattle.map.specs.{Setup.alone, Mode.symbols}
 use Rattle.map.proofs.ByMode.{slot-few, few}
 use Rattle.points.specs.Points.{zeroPoint}
-use Rattle.runs.specs.declared.Runs.{Runs}
-use Rattle.runs.specs.Model.{runStep, runCount, runsOf}
+use Rattle.runs.specs.{declared.Runs.Runs, Model.{runStep, runCount, runsOf}}
 use Rattle.runs.proofs.Law.{run-is}
 use Rattle.ground.specs.Model.{PilotsBelow}
-use Rattle.ground.proofs.Pilots.{lit-two, none-row, row-start, last-in, long-1, run-next, row-done}
-use Rattle.ground.proofs.pilot_row.Statement.{statement}
+use Rattle.ground.proofs.{Pilots.{lit-two, none-row, row-start, last-in, long-1, run-next, row-done}, pilot_row.Statement.statement}
 use Rattle.ground.proofs.pilot_row.Tie as tie
 
 abbrev Inv-loop : tie.InvT-loop

@@ -1,18 +1,13 @@
 -- `ground::put_pilot` meets its contract.
-use mathlib.Core.Path.{_≡_, ap, _∙_}
-use Prim.Native.Nat.{ℕ, _+_, _*_, _<_}
-use native.Mathlib.Omega.{arith}
-use borrow.Author.Needs.{needs}
-use Rattle.map.specs.Setup.{alone}
-use Rattle.map.specs.Mode.{band}
+use Rattle.base.proofs.Prelude.{_≡_, ap, _∙_, ℕ, _+_, _*_, _<_, arith, needs}
+use Rattle.map.specs.{Setup.alone, Mode.band}
 use Rattle.map.proofs.ByMode.{row-few, few}
 use Rattle.points.specs.Model.{putPoint}
 use Rattle.lengths.specs.Length.{gridPoints}
 use Rattle.lengths.proofs.Refusal.{grid-few}
 use Rattle.grid.specs.Row.{usedPosition}
 use Rattle.grid.proofs.Slot.{used-position-is}
-use Rattle.ground.proofs.Pilots.{run-used}
-use Rattle.ground.proofs.put_pilot.Statement.{statement}
+use Rattle.ground.proofs.{Pilots.run-used, put_pilot.Statement.statement}
 use Rattle.ground.proofs.put_pilot.Tie as tie
 
 -- the place is a used number, and stands where it is worked out to

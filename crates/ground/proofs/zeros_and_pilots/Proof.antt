@@ -1,13 +1,8 @@
 -- `ground::zeros_and_pilots` meets its contract.
-use mathlib.Core.Path.{sym, _∙_}
-use Prim.Native.Nat.{_-_, _<_}
-use native.Mathlib.Omega.{arith}
-use borrow.Author.Needs.{needs}
-use Rattle.map.specs.Setup.{alone}
-use Rattle.map.specs.Mode.{symbols}
+use Rattle.base.proofs.Prelude.{sym, _∙_, _-_, _<_, arith, needs}
+use Rattle.map.specs.{Setup.alone, Mode.symbols}
 use Rattle.map.proofs.ByMode.{few}
-use Rattle.ground.proofs.Pilots.{GroundTurn, ground-start, ground-next, ground-done}
-use Rattle.ground.proofs.zeros_and_pilots.Statement.{statement}
+use Rattle.ground.proofs.{Pilots.{GroundTurn, ground-start, ground-next, ground-done}, zeros_and_pilots.Statement.statement}
 use Rattle.ground.proofs.zeros_and_pilots.Tie as tie
 
 abbrev Inv-loop : tie.InvT-loop

@@ -1,13 +1,9 @@
 -- `lay::lay` meets its contract.
-use mathlib.Core.Path.{sym, _∙_}
-use native.Mathlib.Omega.{arith}
-use borrow.Author.Needs.{needs}
+use Rattle.base.proofs.Prelude.{sym, _∙_, arith, needs}
 use Rattle.lengths.proofs.Refusal.{lay-numbered, lay-accepted}
 use Rattle.lay.specs.Lay.{layOf}
-use Rattle.grid.proofs.Outcome.{refused-leaves, accepted-anew}
-use Rattle.grid.proofs.Slot.{row-within, row-laid}
-use Rattle.lay.proofs.Laid.{laid-is}
-use Rattle.lay.proofs.lay.Statement.{statement}
+use Rattle.grid.proofs.{Outcome.{refused-leaves, accepted-anew}, Slot.{row-within, row-laid}}
+use Rattle.lay.proofs.{Laid.laid-is, lay.Statement.statement}
 use Rattle.lay.proofs.lay.Tie as tie
 
 returns : tie.Need-returns

@@ -1,12 +1,8 @@
 -- `lengths::empty_refusal` meets its contract.
-use native.Mathlib.Omega.{arith}
-use borrow.Author.Needs.{needs}
-use Rattle.base.proofs.Chain.{by-number}
+use Rattle.base.proofs.{Prelude.{arith, needs}, Chain.by-number}
 use Rattle.mask.proofs.Law.{lit-few}
-use Rattle.lengths.specs.Question.{arePoints}
-use Rattle.lengths.specs.Model.{gridRefusal, emptyRefusal}
-use Rattle.lengths.proofs.Refusal.{slot-no, slot-then, slot-accepted, slot-valid, mask-few}
-use Rattle.lengths.proofs.empty_refusal.Statement.{statement}
+use Rattle.lengths.specs.{Question.arePoints, Model.{gridRefusal, emptyRefusal}}
+use Rattle.lengths.proofs.{Refusal.{slot-no, slot-then, slot-accepted, slot-valid, mask-few}, empty_refusal.Statement.statement}
 use Rattle.lengths.proofs.empty_refusal.Tie as tie
 
 mul-if2 : tie.Need-mul-if2

@@ -1,11 +1,8 @@
 -- `lengths::grid_length` meets its contract.
-use mathlib.Core.Path.{ap}
-use Prim.Native.Nat.{ℕ, _*_}
-use borrow.Author.Needs.{needs}
+use Rattle.base.proofs.Prelude.{ap, ℕ, _*_, needs}
 use Rattle.map.proofs.Outcome.{now-valid}
 use Rattle.lengths.specs.Length.{gridLength}
-use Rattle.lengths.proofs.Length.{unlisted, listed}
-use Rattle.lengths.proofs.grid_length.Statement.{statement}
+use Rattle.lengths.proofs.{Length.{unlisted, listed}, grid_length.Statement.statement}
 use Rattle.lengths.proofs.grid_length.Tie as tie
 
 pub grid-length-spec : {M : Type 1} → statement M

@@ -1,8 +1,6 @@
 -- `lengths::grid_points` meets its contract.
-use native.Mathlib.Omega.{arith}
-use borrow.Author.Needs.{needs}
-use Rattle.lengths.proofs.Refusal.{grid-is}
-use Rattle.lengths.proofs.grid_points.Statement.{statement}
+use Rattle.base.proofs.Prelude.{arith, needs}
+use Rattle.lengths.proofs.{Refusal.grid-is, grid_points.Statement.statement}
 use Rattle.lengths.proofs.grid_points.Tie as tie
 
 pub grid-points-spec : {M : Type 1} → statement M

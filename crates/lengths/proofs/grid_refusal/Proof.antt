@@ -1,8 +1,6 @@
 -- `lengths::grid_refusal` meets its contract.
-use borrow.Author.Needs.{needs}
-use Rattle.base.proofs.Chain.{by-number}
-use Rattle.lengths.specs.Question.{isGrid}
-use Rattle.lengths.specs.Model.{gridRefusal}
+use Rattle.base.proofs.{Prelude.needs, Chain.by-number}
+use Rattle.lengths.specs.{Question.isGrid, Model.gridRefusal}
 use Rattle.lengths.proofs.grid_refusal.Statement.{statement}
 use Rattle.lengths.proofs.grid_refusal.Tie as tie
 

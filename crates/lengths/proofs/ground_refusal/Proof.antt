@@ -1,8 +1,7 @@
 -- `lengths::ground_refusal` meets its contract.
-use borrow.Author.Needs.{needs}
+use Rattle.base.proofs.Prelude.{needs}
 use Rattle.lengths.specs.Model.{gridRefusal, groundRefusal}
-use Rattle.lengths.proofs.Refusal.{slot-no, slot-then, slot-valid}
-use Rattle.lengths.proofs.ground_refusal.Statement.{statement}
+use Rattle.lengths.proofs.{Refusal.{slot-no, slot-then, slot-valid}, ground_refusal.Statement.statement}
 use Rattle.lengths.proofs.ground_refusal.Tie as tie
 
 pub ground-refusal-spec : {M : Type 1} → statement M

@@ -1,11 +1,8 @@
 -- `lengths::lay_refusal` meets its contract.
-use borrow.Author.Needs.{needs}
-use Rattle.base.proofs.Chain.{by-number}
+use Rattle.base.proofs.{Prelude.needs, Chain.by-number}
 use Rattle.map.specs.Question.{isSubchannel}
-use Rattle.lengths.specs.Question.{isLitSubchannel, areLaidPoints}
-use Rattle.lengths.specs.Model.{layRefusal, gridRefusal}
-use Rattle.lengths.proofs.Refusal.{slot-no, slot-then, slot-valid}
-use Rattle.lengths.proofs.lay_refusal.Statement.{statement}
+use Rattle.lengths.specs.{Question.{isLitSubchannel, areLaidPoints}, Model.{layRefusal, gridRefusal}}
+use Rattle.lengths.proofs.{Refusal.{slot-no, slot-then, slot-valid}, lay_refusal.Statement.statement}
 use Rattle.lengths.proofs.lay_refusal.Tie as tie
 
 pub lay-refusal-spec : {M : Type 1} → statement M

@@ -1,9 +1,7 @@
 -- `lengths::lit_points_length` meets its contract.
-use native.Mathlib.Omega.{arith}
-use borrow.Author.Needs.{needs}
+use Rattle.base.proofs.Prelude.{arith, needs}
 use Rattle.mask.proofs.Law.{lit-few}
-use Rattle.lengths.proofs.Length.{no-lit-length, lit-length}
-use Rattle.lengths.proofs.Refusal.{mask-accepted, mask-valid, mask-few}
+use Rattle.lengths.proofs.{Length.{no-lit-length, lit-length}, Refusal.{mask-accepted, mask-valid, mask-few}}
 use Rattle.lengths.proofs.lit_points_length.Statement.{statement}
 use Rattle.lengths.proofs.lit_points_length.Tie as tie
 

@@ -1,13 +1,9 @@
 -- `lengths::look_refusal` meets its contract.
-use native.Mathlib.Omega.{arith}
-use borrow.Author.Needs.{needs}
-use Rattle.base.proofs.Chain.{by-number}
+use Rattle.base.proofs.{Prelude.{arith, needs}, Chain.by-number}
 use Rattle.map.specs.Question.{isSymbol}
-use Rattle.map.proofs.ByMode.{few}
-use Rattle.map.proofs.Outcome.{size-few, carrier-no, carrier-yes}
+use Rattle.map.proofs.{ByMode.few, Outcome.{size-few, carrier-no, carrier-yes}}
 use Rattle.lengths.specs.Model.{gridRefusal, lookRefusal}
-use Rattle.lengths.proofs.Refusal.{mask-no, mask-then, mask-valid}
-use Rattle.lengths.proofs.look_refusal.Statement.{statement}
+use Rattle.lengths.proofs.{Refusal.{mask-no, mask-then, mask-valid}, look_refusal.Statement.statement}
 use Rattle.lengths.proofs.look_refusal.Tie as tie
 
 mul-if2 : tie.Need-mul-if2

@@ -1,6 +1,5 @@
 -- `lengths::mask_refusal` meets its contract.
-use borrow.Author.Needs.{needs}
-use Rattle.base.proofs.Chain.{by-number}
+use Rattle.base.proofs.{Prelude.needs, Chain.by-number}
 use Rattle.lengths.specs.Model.{maskRefusal}
 use Rattle.map.proofs.Outcome.{setup-no, setup-then}
 use Rattle.lengths.proofs.mask_refusal.Statement.{statement}

@@ -1,13 +1,8 @@
 -- `lengths::points_length` meets its contract.
-use mathlib.Core.Path.{ap}
-use Prim.Native.Nat.{ℕ, _*_}
-use native.Mathlib.Omega.{arith}
-use borrow.Author.Needs.{needs}
-use Rattle.map.proofs.ByMode.{few}
-use Rattle.map.proofs.Outcome.{now-valid}
+use Rattle.base.proofs.Prelude.{ap, ℕ, _*_, arith, needs}
+use Rattle.map.proofs.{ByMode.few, Outcome.now-valid}
 use Rattle.lengths.specs.Length.{pointsLength}
-use Rattle.lengths.proofs.Length.{unlisted, listed}
-use Rattle.lengths.proofs.points_length.Statement.{statement}
+use Rattle.lengths.proofs.{Length.{unlisted, listed}, points_length.Statement.statement}
 use Rattle.lengths.proofs.points_length.Tie as tie
 
 mul-result : tie.Need-mul-result

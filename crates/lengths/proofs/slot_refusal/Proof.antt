@@ -1,10 +1,8 @@
 -- `lengths::slot_refusal` meets its contract.
-use borrow.Author.Needs.{needs}
-use Rattle.base.proofs.Chain.{by-number}
+use Rattle.base.proofs.{Prelude.needs, Chain.by-number}
 use Rattle.map.specs.Question.{isSlot}
 use Rattle.lengths.specs.Model.{slotRefusal}
-use Rattle.lengths.proofs.Refusal.{mask-no, mask-then}
-use Rattle.lengths.proofs.slot_refusal.Statement.{statement}
+use Rattle.lengths.proofs.{Refusal.{mask-no, mask-then}, slot_refusal.Statement.statement}
 use Rattle.lengths.proofs.slot_refusal.Tie as tie
 
 pub slot-refusal-spec : {M : Type 1} → statement M

@@ -1,8 +1,5 @@
 -- `look::column_position` meets its contract.
-use mathlib.Core.Path.{refl}
-use native.Mathlib.Nat.{mod-lt}
-use native.Mathlib.Omega.{arith}
-use borrow.Author.Needs.{needs}
+use Rattle.base.proofs.Prelude.{refl, mod-lt, arith, needs}
 use Rattle.map.proofs.ByMode.{few}
 use Rattle.lengths.proofs.Refusal.{grid-few}
 use Rattle.grid.proofs.Slot.{position-is}

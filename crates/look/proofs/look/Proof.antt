@@ -1,10 +1,7 @@
 -- `look::look` meets its contract.
-use mathlib.Core.Path.{refl}
-use native.Mathlib.Omega.{arith}
-use borrow.Author.Needs.{needs}
+use Rattle.base.proofs.Prelude.{refl, arith, needs}
 use Rattle.map.proofs.Outcome.{size-few}
-use Rattle.look.proofs.Looked.{look-refused, look-asked, look-column, look-done}
-use Rattle.look.proofs.look.Statement.{statement}
+use Rattle.look.proofs.{Looked.{look-refused, look-asked, look-column, look-done}, look.Statement.statement}
 use Rattle.look.proofs.look.Tie as tie
 
 column-requires : tie.Need-column-requires

@@ -1,10 +1,8 @@
 -- `look::sight` meets its contract.
-use mathlib.Core.Path.{refl}
-use borrow.Author.Needs.{needs}
+use Rattle.base.proofs.Prelude.{refl, needs}
 use Rattle.mask.proofs.Content.{found-is}
 use Rattle.look.specs.Look.{sight}
-use Rattle.look.proofs.Looked.{seen-by, no-content}
-use Rattle.look.proofs.sight.Statement.{statement}
+use Rattle.look.proofs.{Looked.{seen-by, no-content}, sight.Statement.statement}
 use Rattle.look.proofs.sight.Tie as tie
 
 returns : tie.Need-returns

@@ -1,10 +1,8 @@
 -- `map::address` meets its contract.
-use native.Mathlib.Omega.{arith}
-use Rattle.map.proofs.Choice.{told-amc, choosing}
-use Rattle.map.proofs.ByMode.{pusc-dl-asks, pusc-ul-asks, ofusc-back-asks, amc-back-asks, amc-address, few}
-use Rattle.map.specs.Mode.{addressOf}
-use borrow.Author.Needs.{needs}
+use Rattle.base.proofs.Prelude.{arith, needs}
+use Rattle.map.proofs.{Choice.{told-amc, choosing}, ByMode.{pusc-dl-asks, pusc-ul-asks, ofusc-back-asks, amc-back-asks, amc-address, few}}
 use Rattle.map.proofs.address.Statement.{statement}
+use Rattle.map.specs.Mode.{addressOf}
 use Rattle.map.proofs.address.Tie as tie
 use Rattle.ofusc.proofs.address.Reads as address-reads′
 use Rattle.pusc_dl.proofs.address.Reads as address-reads′′

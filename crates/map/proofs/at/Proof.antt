@@ -1,12 +1,8 @@
 -- `map::at` meets its contract.
-use native.Mathlib.Omega.{arith}
-use borrow.Author.Needs.{needs}
+use Rattle.base.proofs.Prelude.{arith, needs}
 use Rattle.centre.proofs.Law.{number-read}
-use Rattle.map.specs.Mode.{band}
-use Rattle.map.specs.Place.{usedCarrier, placeAt}
-use Rattle.map.proofs.ByMode.{slot-few, few}
-use Rattle.map.proofs.Outcome.{size-few, column-below}
-use Rattle.map.proofs.at.Statement.{statement}
+use Rattle.map.specs.{Mode.band, Place.{usedCarrier, placeAt}}
+use Rattle.map.proofs.{ByMode.{slot-few, few}, Outcome.{size-few, column-below}, at.Statement.statement}
 use Rattle.map.proofs.at.Tie as tie
 
 carrier-requires : tie.Need-carrier-requires

@@ -1,11 +1,8 @@
 -- `map::band` meets its contract.
-use native.Mathlib.Omega.{arith}
-use Rattle.map.proofs.Choice.{told-bins, choosing}
-use Rattle.map.proofs.ByMode.{bin-width}
+use Rattle.base.proofs.Prelude.{arith, needs}
+use Rattle.map.proofs.{Choice.{told-bins, choosing}, ByMode.bin-width, band.Statement.statement}
 use Rattle.ofusc.proofs.Sequence.{size}
 use Rattle.map.specs.Mode.{band}
-use borrow.Author.Needs.{needs}
-use Rattle.map.proofs.band.Statement.{statement}
 use Rattle.map.proofs.band.Tie as tie
 
 bin-band-requires : tie.Need-bin-band-requires

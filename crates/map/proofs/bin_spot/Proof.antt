@@ -1,5 +1,5 @@
 -- `map::bin_spot` meets its contract.
-use borrow.Author.Needs.{needs}
+use Rattle.base.proofs.Prelude.{needs}
 use Rattle.map.proofs.bin_spot.Statement.{statement}
 use Rattle.map.proofs.bin_spot.Tie as tie
 

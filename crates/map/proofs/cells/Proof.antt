@@ -1,10 +1,7 @@
 -- `map::cells` meets its contract.
+use Rattle.base.proofs.Prelude.{mul-le-mul, arith, needs}
 use Rattle.map.specs.Mode.{width, cells}
-use native.Mathlib.Nat.{mul-le-mul}
-use native.Mathlib.Omega.{arith}
-use Rattle.map.proofs.Choice.{choosing}
-use borrow.Author.Needs.{needs}
-use Rattle.map.proofs.cells.Statement.{statement}
+use Rattle.map.proofs.{Choice.choosing, cells.Statement.statement}
 use Rattle.map.proofs.cells.Tie as tie
 
 mul-result : tie.Need-mul-result

@@ -1,5 +1,5 @@
 -- `map::is_amc` meets its contract.
-use native.Mathlib.Omega.{arith}
+use Rattle.base.proofs.Prelude.{arith}
 use borrow.Author.Tests.{lt-leb, le-leb}
 use Rattle.map.proofs.is_amc.Statement.{statement}
 use Rattle.map.proofs.is_amc.Tie as tie

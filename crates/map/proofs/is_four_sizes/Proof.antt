@@ -1,9 +1,7 @@
 -- `map::is_four_sizes` meets its contract.
-use borrow.Author.Needs.{needs}
-use Rattle.map.proofs.Accept.{four-rest}
-use borrow.Author.Tests.{eq-eqb, ne-eqb}
+use Rattle.base.proofs.Prelude.{needs, eq-eqb, ne-eqb}
+use Rattle.map.proofs.{Accept.four-rest, is_four_sizes.Statement.statement}
 use Rattle.map.specs.Question.{isFourSizes}
-use Rattle.map.proofs.is_four_sizes.Statement.{statement}
 use Rattle.map.proofs.is_four_sizes.Tie as tie
 
 returns : tie.Need-returns

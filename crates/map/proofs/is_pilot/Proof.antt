@@ -1,8 +1,7 @@
 -- `map::is_pilot` meets its contract.
-use Rattle.map.proofs.Choice.{choosing}
+use Rattle.base.proofs.Prelude.{needs}
+use Rattle.map.proofs.{Choice.choosing, is_pilot.Statement.statement}
 use Rattle.map.specs.Mode.{isPilot}
-use borrow.Author.Needs.{needs}
-use Rattle.map.proofs.is_pilot.Statement.{statement}
 use Rattle.map.proofs.is_pilot.Tie as tie
 use Rattle.pusc_ul.proofs.is_pilot.Reads as is-pilot-reads′
 

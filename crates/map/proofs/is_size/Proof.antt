@@ -1,8 +1,7 @@
 -- `map::is_size` meets its contract.
-use Rattle.map.proofs.Choice.{choosing}
+use Rattle.base.proofs.Prelude.{needs}
+use Rattle.map.proofs.{Choice.choosing, is_size.Statement.statement}
 use Rattle.map.specs.Question.{isSize}
-use borrow.Author.Needs.{needs}
-use Rattle.map.proofs.is_size.Statement.{statement}
 use Rattle.map.proofs.is_size.Tie as tie
 
 pub is-size-spec : {M : Type 1} → statement M

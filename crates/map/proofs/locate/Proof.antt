@@ -1,11 +1,7 @@
 -- `map::locate` meets its contract.
-use native.Mathlib.Omega.{arith}
-use borrow.Author.Needs.{needs}
-use Rattle.base.proofs.Chain.{by-answer}
-use Rattle.map.specs.Question.{isSymbol}
-use Rattle.map.specs.Place.{locateOf}
-use Rattle.map.proofs.ByMode.{few}
-use Rattle.map.proofs.Outcome.{now-valid, refuses, lets-pass, carrier-no, size-few, carrier-in, column-in, locate-done}
+use Rattle.base.proofs.{Prelude.{arith, needs}, Chain.by-answer}
+use Rattle.map.specs.{Question.isSymbol, Place.locateOf}
+use Rattle.map.proofs.{ByMode.few, Outcome.{now-valid, refuses, lets-pass, carrier-no, size-few, carrier-in, column-in, locate-done}}
 use Rattle.map.proofs.locate.Statement.{statement}
 use Rattle.map.proofs.locate.Tie as tie
 

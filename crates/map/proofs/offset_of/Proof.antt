@@ -1,8 +1,6 @@
 -- `map::offset_of` meets its contract.
-use mathlib.Core.Path.{sym}
+use Rattle.base.proofs.Prelude.{sym, arith, needs}
 use native.Mathlib.Nat.{div-mul-le-self, mod-eq-sub-div-mul}
-use native.Mathlib.Omega.{arith}
-use borrow.Author.Needs.{needs}
 use Rattle.map.specs.Mode.{symbols}
 use Rattle.map.proofs.offset_of.Statement.{statement}
 use Rattle.map.proofs.offset_of.Tie as tie

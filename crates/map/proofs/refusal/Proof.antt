@@ -1,11 +1,7 @@
 -- `map::refusal` meets its contract.
-use borrow.Author.Needs.{needs}
-use Rattle.base.proofs.Test.{told-yes}
-use Rattle.base.proofs.Chain.{by-number}
-use Rattle.map.specs.Question.{isMode, isCell}
-use Rattle.map.specs.Model.{setupRefusal}
-use Rattle.map.proofs.Accept.{size-most}
-use Rattle.map.proofs.refusal.Statement.{statement}
+use Rattle.base.proofs.{Prelude.needs, Test.told-yes, Chain.by-number}
+use Rattle.map.specs.{Question.{isMode, isCell}, Model.setupRefusal}
+use Rattle.map.proofs.{Accept.size-most, refusal.Statement.statement}
 use Rattle.map.proofs.refusal.Tie as tie
 
 cells-requires : tie.Need-cells-requires

@@ -1,5 +1,5 @@
 -- `map::shape` meets its contract.
-use borrow.Author.Tests.{ne-eqb}
+use Rattle.base.proofs.Prelude.{ne-eqb}
 use Rattle.map.specs.Mode.{shapeOf}
 use Rattle.map.proofs.shape.Statement.{statement}
 use Rattle.map.proofs.shape.Tie as tie

@@ -1,9 +1,7 @@
 -- `map::slot_of` meets its contract.
-use mathlib.Core.Path.{refl, sym, _∙_}
+use Rattle.base.proofs.Prelude.{refl, sym, _∙_, needs}
 use native.Mathlib.Nat.{div-one}
-use borrow.Author.Needs.{needs}
-use Rattle.map.proofs.ByMode.{six-symbols, by-symbols}
-use Rattle.map.proofs.slot_of.Statement.{statement}
+use Rattle.map.proofs.{ByMode.{six-symbols, by-symbols}, slot_of.Statement.statement}
 use Rattle.map.proofs.slot_of.Tie as tie
 
 returns : tie.Need-returns

@@ -1,11 +1,8 @@
 -- `map::spot` meets its contract.
+use Rattle.base.proofs.Prelude.{refl, arith, needs}
 use Rattle.map.proofs.Choice.{told-amc, choosing}
-use Rattle.map.proofs.ByMode.{in-pusc-dl, in-pusc-ul, ofusc-few, ofusc-spot, amc-asks, amc-few, amc-spot, slot-few}
-use mathlib.Core.Path.{refl}
-use native.Mathlib.Omega.{arith}
+use Rattle.map.proofs.{ByMode.{in-pusc-dl, in-pusc-ul, ofusc-few, ofusc-spot, amc-asks, amc-few, amc-spot, slot-few}, spot.Statement.statement}
 use Rattle.map.specs.Mode.{spotOf}
-use borrow.Author.Needs.{needs}
-use Rattle.map.proofs.spot.Statement.{statement}
 use Rattle.map.proofs.spot.Tie as tie
 use Rattle.pusc_ul.proofs.spot.Reads as spot-reads′
 

@@ -1,11 +1,8 @@
 -- `map::subchannels` meets its contract.
-use native.Mathlib.Nat.{mul-le-mul}
-use native.Mathlib.Omega.{arith}
-use borrow.Author.Needs.{needs}
+use Rattle.base.proofs.Prelude.{mul-le-mul, arith, needs}
 use Rattle.amc.proofs.Parts.{symbols-few}
-use Rattle.map.proofs.Choice.{amc-shape, told-amc, choosing}
+use Rattle.map.proofs.{Choice.{amc-shape, told-amc, choosing}, subchannels.Statement.statement}
 use Rattle.map.specs.Mode.{width, subchannels}
-use Rattle.map.proofs.subchannels.Statement.{statement}
 use Rattle.map.proofs.subchannels.Tie as tie
 
 -- N is below 2^58, whatever the size

@@ -1,8 +1,7 @@
 -- `map::symbols` meets its contract.
-use borrow.Author.Needs.{needs}
-use Rattle.map.proofs.Choice.{choosing}
+use Rattle.base.proofs.Prelude.{needs}
+use Rattle.map.proofs.{Choice.choosing, symbols.Statement.statement}
 use Rattle.map.specs.Mode.{symbols}
-use Rattle.map.proofs.symbols.Statement.{statement}
 use Rattle.map.proofs.symbols.Tie as tie
 
 pub symbols-spec : {M : Type 1} → statement M

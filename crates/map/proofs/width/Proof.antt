@@ -1,5 +1,5 @@
 -- `map::width` meets its contract.
-use borrow.Author.Needs.{needs}
+use Rattle.base.proofs.Prelude.{needs}
 use Rattle.map.specs.Mode.{width}
 use Rattle.map.proofs.width.Statement.{statement}
 use Rattle.map.proofs.width.Tie as tie

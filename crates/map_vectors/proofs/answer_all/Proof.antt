@@ -1,7 +1,5 @@
 -- `map_vectors::answer_all` is safe and ends. The measure is what is left of the input.
-use borrow.Author.Needs.{needs}
-use Prim.Native.Nat.{_-_}
-use lib.ListN.{length}
+use Rattle.base.proofs.Prelude.{needs, _-_, length}
 use Rattle.map_vectors.proofs.answer_all.Statement.{statement}
 use Rattle.map_vectors.proofs.answer_all.Tie as tie
 

@@ -1,8 +1,6 @@
 -- `map_vectors::carriers` is safe and ends. The measure is the number of carriers that are left.
-use borrow.Author.Needs.{needs}
-use Prim.Native.Nat.{_-_}
-use Rattle.map_vectors.proofs.Sign.{next-fits}
-use Rattle.map_vectors.proofs.carriers.Statement.{statement}
+use Rattle.base.proofs.Prelude.{needs, _-_}
+use Rattle.map_vectors.proofs.{Sign.next-fits, carriers.Statement.statement}
 use Rattle.map_vectors.proofs.carriers.Tie as tie
 
 abbrev Inv-loop : tie.InvT-loop

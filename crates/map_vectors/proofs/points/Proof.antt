@@ -1,6 +1,5 @@
 -- `map_vectors::points` is safe and ends. The measure is the number of points that are left.
-use borrow.Author.Needs.{needs}
-use Prim.Native.Nat.{_-_}
+use Rattle.base.proofs.Prelude.{needs, _-_}
 use Rattle.map_vectors.proofs.points.Statement.{statement}
 use Rattle.map_vectors.proofs.points.Tie as tie
 

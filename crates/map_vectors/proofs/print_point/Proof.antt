@@ -1,7 +1,6 @@
 -- `map_vectors::print_point` is safe.
-use borrow.Author.Needs.{needs}
-use Rattle.map_vectors.proofs.Sign.{wide-fits, wide-opposite, below-0, from-0}
-use Rattle.map_vectors.proofs.print_point.Statement.{statement}
+use Rattle.base.proofs.Prelude.{needs}
+use Rattle.map_vectors.proofs.{Sign.{wide-fits, wide-opposite, below-0, from-0}, print_point.Statement.statement}
 use Rattle.map_vectors.proofs.print_point.Tie as tie
 
 cast-k : tie.Need-cast-k

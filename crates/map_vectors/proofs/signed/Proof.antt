@@ -1,5 +1,5 @@
 -- `map_vectors::signed` is safe.
-use borrow.Author.Needs.{needs}
+use Rattle.base.proofs.Prelude.{needs}
 use Rattle.centre.proofs.Law.{literal-fits}
 use Rattle.map_vectors.proofs.signed.Statement.{statement}
 use Rattle.map_vectors.proofs.signed.Tie as tie

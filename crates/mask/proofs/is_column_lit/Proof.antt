@@ -1,6 +1,5 @@
 -- `mask::is_column_lit` meets its contract.
-use mathlib.Core.Path.{_∙_}
-use borrow.Author.Needs.{needs}
+use Rattle.base.proofs.Prelude.{_∙_, needs}
 use Rattle.mask.proofs.is_column_lit.Statement.{statement}
 use Rattle.mask.proofs.is_column_lit.Tie as tie
 

@@ -1,6 +1,5 @@
 -- `mask::is_mask` meets its contract.
-use borrow.Author.Needs.{needs}
-use borrow.Author.Tests.{eq-eqb, ne-eqb}
+use Rattle.base.proofs.Prelude.{needs, eq-eqb, ne-eqb}
 use Rattle.mask.specs.Mask.{isMask}
 use Rattle.mask.proofs.is_mask.Statement.{statement}
 use Rattle.mask.proofs.is_mask.Tie as tie

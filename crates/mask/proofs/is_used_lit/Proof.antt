@@ -1,5 +1,5 @@
 -- `mask::is_used_lit` meets its contract.
-use borrow.Author.Tests.{eq-eqb, ne-eqb}
+use Rattle.base.proofs.Prelude.{eq-eqb, ne-eqb}
 use Rattle.map.proofs.ByMode.{in-pusc-dl}
 use Rattle.mask.specs.Mask.{isUsedLit}
 use Rattle.mask.proofs.is_used_lit.Statement.{statement}

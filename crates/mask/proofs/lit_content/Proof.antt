@@ -1,12 +1,7 @@
 -- `mask::lit_content` meets its contract.
-use mathlib.Core.Path.{_≡_}
-use mathlib.Core.Bool.{true, false}
-use Prim.Native.Nat.{ℕ}
-use native.Mathlib.Omega.{arith}
-use borrow.Author.Needs.{needs}
+use Rattle.base.proofs.Prelude.{_≡_, true, false, ℕ, arith, needs}
 use Rattle.map.specs.Place.{guard, dc, pilot}
-use Rattle.mask.proofs.Content.{found-is, guard-shown, refused-shown, used-shown, point-shown, has-used}
-use Rattle.mask.proofs.lit_content.Statement.{statement}
+use Rattle.mask.proofs.{Content.{found-is, guard-shown, refused-shown, used-shown, point-shown, has-used}, lit_content.Statement.statement}
 use Rattle.mask.proofs.lit_content.Tie as tie
 
 no-guard-dc : dc ≡ guard → ⊥

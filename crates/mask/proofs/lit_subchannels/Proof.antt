@@ -1,8 +1,6 @@
 -- `mask::lit_subchannels` meets its contract.
-use mathlib.Core.Path.{sym, _∙_}
-use borrow.Author.Needs.{needs}
-use Rattle.mask.proofs.Law.{others-count, groups-count}
-use Rattle.mask.proofs.lit_subchannels.Statement.{statement}
+use Rattle.base.proofs.Prelude.{sym, _∙_, needs}
+use Rattle.mask.proofs.{Law.{others-count, groups-count}, lit_subchannels.Statement.statement}
 use Rattle.mask.proofs.lit_subchannels.Tie as tie
 
 pub lit-subchannels-spec : {M : Type 1} → statement M

@@ -1,12 +1,8 @@
 -- `ofusc::address` meets its contract.
-use Prim.Native.Nat.{_<_}
-use native.Mathlib.Nat.{div-lt-iff-lt-mul}
-use native.Mathlib.Omega.{arith}
+use Rattle.base.proofs.Prelude.{_<_, div-lt-iff-lt-mul, arith}
 use lib.Bits.{bitXor}
 use Rattle.ofusc.specs.Map.{addressOf}
-use Rattle.ofusc.proofs.Law.{subchannel-lt}
-use Rattle.ofusc.proofs.Sequence.{size, pos}
-use Rattle.ofusc.proofs.address.Statement.{statement}
+use Rattle.ofusc.proofs.{Law.subchannel-lt, Sequence.{size, pos}, address.Statement.statement}
 use Rattle.ofusc.proofs.address.Tie as tie
 
 group-lt : (c : tie.After-parts) → c .parts .result .quotient < 48

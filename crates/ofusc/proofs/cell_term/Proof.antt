@@ -1,11 +1,7 @@
 -- `ofusc::cell_term` meets its contract.
-use mathlib.Core.Path.{_∙_}
-use Prim.Native.Nat.{_-_, _<_}
-use native.Mathlib.Nat.{mod-lt, mod-mod, div-lt-iff-lt-mul}
-use borrow.Author.Needs.{needs}
-use Rattle.ofusc.proofs.Sequence.{pos, turn-pos, cell-term-as}
-use Rattle.ofusc.proofs.Tables.{cell-term-is}
-use Rattle.ofusc.proofs.cell_term.Statement.{statement}
+use Rattle.base.proofs.Prelude.{_∙_, _-_, _<_, mod-lt, div-lt-iff-lt-mul, needs}
+use native.Mathlib.Nat.{mod-mod}
+use Rattle.ofusc.proofs.{Sequence.{pos, turn-pos, cell-term-as}, Tables.cell-term-is, cell_term.Statement.statement}
 use Rattle.ofusc.proofs.cell_term.Tie as tie
 
 turned-lt : (c : tie.After-turn) → c .turn .result < c .before .before .args .n - 1

@@ -1,10 +1,7 @@
 -- `ofusc::data_number` meets its contract.
-use Prim.Native.Nat.{_<_}
-use native.Mathlib.Omega.{arith}
+use Rattle.base.proofs.Prelude.{_<_, arith}
 use Rattle.ofusc.specs.Map.{dataNumber}
-use Rattle.ofusc.proofs.Law.{law, group-lt, start-lt}
-use Rattle.ofusc.proofs.Sequence.{size}
-use Rattle.ofusc.proofs.data_number.Statement.{statement}
+use Rattle.ofusc.proofs.{Law.{law, group-lt, start-lt}, Sequence.size, data_number.Statement.statement}
 use Rattle.ofusc.proofs.data_number.Tie as tie
 
 group-below : (c : tie.After-group) → c .group .result < 48

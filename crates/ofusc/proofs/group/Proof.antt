@@ -1,6 +1,6 @@
 -- `ofusc::group` meets its contract.
+use Rattle.base.proofs.Prelude.{needs}
 use Rattle.ofusc.specs.Map.{groupOf}
-use borrow.Author.Needs.{needs}
 use Rattle.ofusc.proofs.group.Statement.{statement}
 use Rattle.ofusc.proofs.group.Tie as tie
 

@@ -1,6 +1,5 @@
 -- `ofusc::parts` meets its contract.
-use Rattle.ofusc.proofs.Sequence.{parts-at, no-other}
-use Rattle.ofusc.proofs.parts.Statement.{statement}
+use Rattle.ofusc.proofs.{Sequence.{parts-at, no-other}, parts.Statement.statement}
 use Rattle.ofusc.proofs.parts.Tie as tie
 
 pub parts-spec : {M : Type 1} → statement M

@@ -1,10 +1,6 @@
 -- `ofusc::term` meets its contract.
-use mathlib.Core.Path.{sym}
-use Prim.Native.Nat.{_+_, _<_}
-use native.Mathlib.Omega.{arith}
-use borrow.Author.Needs.{needs}
-use Rattle.ofusc.proofs.Sequence.{size, place-lt, term-zero, term-turn}
-use Rattle.ofusc.proofs.term.Statement.{statement}
+use Rattle.base.proofs.Prelude.{sym, _+_, _<_, arith, needs}
+use Rattle.ofusc.proofs.{Sequence.{size, place-lt, term-zero, term-turn}, term.Statement.statement}
 use Rattle.ofusc.proofs.term.Tie as tie
 
 -- the row of N lies within the table

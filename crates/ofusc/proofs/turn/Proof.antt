@@ -1,6 +1,5 @@
 -- `ofusc::turn` meets its contract.
-use Rattle.ofusc.proofs.Sequence.{turn-at, no-other}
-use Rattle.ofusc.proofs.turn.Statement.{statement}
+use Rattle.ofusc.proofs.{Sequence.{turn-at, no-other}, turn.Statement.statement}
 use Rattle.ofusc.proofs.turn.Tie as tie
 
 pub turn-spec : {M : Type 1} → statement M

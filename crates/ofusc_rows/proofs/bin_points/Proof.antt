@@ -1,14 +1,9 @@
 -- `ofusc_rows::bin_points` meets its contract.
-use mathlib.Core.Path.{_∙_}
-use Prim.Native.Nat.{_+_, _-_, _*_, _<_}
-use native.Mathlib.Omega.{arith}
-use borrow.Author.Needs.{needs}
-use Rattle.base.proofs.Tabulate.{Written, written-none, written-next, written-starts}
+use Rattle.base.proofs.{Prelude.{_∙_, _+_, _-_, _*_, _<_, arith, needs}, Tabulate.{Written, written-none, written-next, written-starts}}
 use Rattle.carriers.specs.Model.{addressNumber}
 use Rattle.ofusc.specs.Map.{addressOf}
 use Rattle.ofusc.proofs.Sequence.{size}
-use Rattle.ofusc_rows.proofs.Points.{group-lt, Found, found}
-use Rattle.ofusc_rows.proofs.bin_points.Statement.{statement}
+use Rattle.ofusc_rows.proofs.{Points.{group-lt, Found, found}, bin_points.Statement.statement}
 use Rattle.ofusc_rows.proofs.bin_points.Tie as tie
 
 abbrev Inv-loop : tie.InvT-loop

@@ -1,5 +1,5 @@
 -- `ofusc_rows::by_half` meets its contract.
-use borrow.Author.Tests.{lt-ltb, le-ltb}
+use Rattle.base.proofs.Prelude.{lt-ltb, le-ltb}
 use Rattle.ofusc_rows.proofs.by_half.Statement.{statement}
 use Rattle.ofusc_rows.proofs.by_half.Tie as tie
 

@@ -1,16 +1,10 @@
 -- `ofusc_rows::first_groups` meets its contract.
-use mathlib.Core.Path.{_≡_}
-use Prim.Native.Nat.{_+_, _-_, _*_, _<_}
-use native.Mathlib.Nat.{mod-lt, div-lt-iff-lt-mul}
-use native.Mathlib.Omega.{arith}
-use lib.Bits.{bitXor}
-use borrow.Author.Needs.{needs}
+use Rattle.base.proofs.Prelude.{_≡_, _+_, _-_, _*_, _<_, mod-lt, div-lt-iff-lt-mul, arith, needs}
 use Rattle.base.proofs.Tabulate.{Written, written-none, written-next, written-starts}
+use lib.Bits.{bitXor}
 use Rattle.ofusc_rows.specs.Model.{cellNumber}
-use Rattle.ofusc.proofs.Sequence.{pos, size}
-use Rattle.ofusc.proofs.Law.{start-lt}
-use Rattle.ofusc_rows.proofs.Row.{cell-entry}
-use Rattle.ofusc_rows.proofs.first_groups.Statement.{statement}
+use Rattle.ofusc.proofs.{Sequence.{pos, size}, Law.start-lt}
+use Rattle.ofusc_rows.proofs.{Row.cell-entry, first_groups.Statement.statement}
 use Rattle.ofusc_rows.proofs.first_groups.Tie as tie
 
 abbrev Inv-loop : tie.InvT-loop

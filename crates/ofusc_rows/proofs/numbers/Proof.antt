@@ -1,12 +1,8 @@
 -- `ofusc_rows::numbers` meets its contract.
-use Prim.Native.Nat.{_-_}
-use native.Mathlib.Omega.{arith}
-use borrow.Author.Needs.{needs}
-use Rattle.base.proofs.Tabulate.{Written, written-none, written-next, written-all}
+use Rattle.base.proofs.{Prelude.{_-_, arith, needs}, Tabulate.{Written, written-none, written-next, written-all}}
 use Rattle.ofusc_rows.specs.Model.{groupNumber}
 use Rattle.ofusc.proofs.Sequence.{size}
-use Rattle.ofusc_rows.proofs.Row.{with-subchannel}
-use Rattle.ofusc_rows.proofs.numbers.Statement.{statement}
+use Rattle.ofusc_rows.proofs.{Row.with-subchannel, numbers.Statement.statement}
 use Rattle.ofusc_rows.proofs.numbers.Tie as tie
 
 abbrev Inv-loop : tie.InvT-loop

@@ -1,5 +1,5 @@
 -- `ofusc_rows::point` meets its contract.
-use borrow.Author.Needs.{needs}
+use Rattle.base.proofs.Prelude.{needs}
 use Rattle.ofusc_rows.specs.Model.{pointInGroup}
 use Rattle.ofusc_rows.proofs.point.Statement.{statement}
 use Rattle.ofusc_rows.proofs.point.Tie as tie

@@ -1,15 +1,9 @@
 -- `ofusc_rows::table` meets its contract.
-use mathlib.Core.Path.{_≡_}
-use Prim.Native.Nat.{_+_, _-_, _*_, _≤_, _<_}
-use native.Mathlib.Omega.{arith}
-use borrow.Author.Needs.{needs}
+use Rattle.base.proofs.{Prelude.{_≡_, _+_, _-_, _*_, _≤_, _<_, arith, needs}, Tabulate.{Written, written-next, written-starts}}
 use Rattle.base.specs.Steps.{entry}
-use Rattle.base.proofs.Tabulate.{Written, written-next, written-starts}
 use Rattle.ofusc_rows.specs.Model.{cellNumber}
-use Rattle.ofusc.proofs.Sequence.{pos, turn-pos, size}
-use Rattle.ofusc.proofs.Law.{start-lt}
-use Rattle.ofusc_rows.proofs.Row.{again-entry}
-use Rattle.ofusc_rows.proofs.table.Statement.{statement}
+use Rattle.ofusc.proofs.{Sequence.{pos, turn-pos, size}, Law.start-lt}
+use Rattle.ofusc_rows.proofs.{Row.again-entry, table.Statement.statement}
 use Rattle.ofusc_rows.proofs.table.Tie as tie
 
 abbrev Inv-loop : tie.InvT-loop

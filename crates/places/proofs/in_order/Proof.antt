@@ -1,7 +1,5 @@
 -- `places::in_order` meets its contract.
-use Prim.Native.Nat.{_-_, _<_}
-use borrow.Author.Needs.{needs}
-use Rattle.base.proofs.Tabulate.{Written, written-none, written-next, written-all}
+use Rattle.base.proofs.{Prelude.{_-_, _<_, needs}, Tabulate.{Written, written-none, written-next, written-all}}
 use Rattle.points.specs.Model.{turned}
 use Rattle.places.proofs.in_order.Statement.{statement}
 use Rattle.places.proofs.in_order.Tie as tie

@@ -1,5 +1,5 @@
 -- `places::refused` meets its contract.
-use mathlib.Core.Path.{refl}
+use Rattle.base.proofs.Prelude.{refl}
 use Rattle.base.specs.Tabulate.{tabulate}
 use Rattle.places.proofs.refused.Statement.{statement}
 use Rattle.places.proofs.refused.Tie as tie

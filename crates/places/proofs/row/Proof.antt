@@ -1,14 +1,8 @@
 -- `places::row` meets its contract.
-use Prim.Native.Nat.{_<_}
-use borrow.Author.Needs.{needs}
-use Rattle.base.proofs.Chain.{by-answer}
-use Rattle.map.specs.Setup.{alone}
-use Rattle.map.specs.Mode.{subchannels}
-use Rattle.map.specs.Question.{isSlot, isSubchannel}
-use Rattle.map.specs.Model.{Valid}
+use Rattle.base.proofs.{Prelude.{_<_, needs}, Chain.by-answer}
+use Rattle.map.specs.{Setup.alone, Mode.subchannels, Question.{isSlot, isSubchannel}, Model.Valid}
 use Rattle.map.proofs.Outcome.{now-valid, refuses, lets-pass}
-use Rattle.places.proofs.Answer.{no-row, row-done}
-use Rattle.places.proofs.row.Statement.{statement}
+use Rattle.places.proofs.{Answer.{no-row, row-done}, row.Statement.statement}
 use Rattle.places.proofs.row.Tie as tie
 
 -- past questions 1, 2 and 3; and past 5

@@ -1,12 +1,7 @@
 -- `plan::are_unused` meets its contract: the places from the k-th on say what those from the count on say.
-use mathlib.Core.Path.{_≡_, refl, sym, _∙_}
-use Prim.Native.Nat.{_-_}
-use borrow.Author.Needs.{needs}
-use lib.ListN.{length, drop}
-use Rattle.base.proofs.Test.{told-no, told-yes}
-use Rattle.plan.proofs.Places.{length-mapped, unused-next, unused-no, unused-end}
+use Rattle.base.proofs.{Prelude.{_≡_, refl, sym, _∙_, _-_, needs, length, drop}, Test.{told-no, told-yes}}
+use Rattle.plan.proofs.{Places.{length-mapped, unused-next, unused-no, unused-end}, are_unused.Statement.statement}
 use Rattle.plan.specs.Plan.{areUnused}
-use Rattle.plan.proofs.are_unused.Statement.{statement}
 use Rattle.plan.proofs.are_unused.Tie as tie
 
 abbrev Inv-loop : tie.InvT-loop

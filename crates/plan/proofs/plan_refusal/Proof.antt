@@ -1,10 +1,7 @@
 -- `plan::plan_refusal` meets its contract.
-use borrow.Author.Needs.{needs}
-use Rattle.base.proofs.Chain.{by-number}
-use Rattle.base.proofs.Test.{told-yes}
+use Rattle.base.proofs.{Prelude.needs, Chain.by-number, Test.told-yes}
 use Rattle.plan.specs.Model.{zonesRefusal, planRefusal}
-use Rattle.plan.proofs.Judge.{count-most}
-use Rattle.plan.proofs.plan_refusal.Statement.{statement}
+use Rattle.plan.proofs.{Judge.count-most, plan_refusal.Statement.statement}
 use Rattle.plan.proofs.plan_refusal.Tie as tie
 
 zones-refusal-requires : tie.Need-zones-refusal-requires

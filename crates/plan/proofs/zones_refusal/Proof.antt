@@ -1,14 +1,8 @@
 -- `plan::zones_refusal` meets its contract: the zones from the k-th on give the number that all give.
-use mathlib.Core.Path.{_≡_, refl, _∙_}
-use Prim.Native.Nat.{_-_, _≤_}
-use native.Mathlib.Omega.{arith}
-use borrow.Author.Needs.{needs}
-use lib.ListN.{length, take, drop}
+use Rattle.base.proofs.Prelude.{_≡_, refl, _∙_, _-_, _≤_, arith, needs, length, take, drop}
 use Rattle.zone.specs.declared.Before.the-variants.{First}
 use Rattle.plan.specs.Model.{zonesRefusal}
-use Rattle.plan.proofs.Places.{length-mapped}
-use Rattle.plan.proofs.Judge.{zones-no, zones-next, zones-end}
-use Rattle.plan.proofs.zones_refusal.Statement.{statement}
+use Rattle.plan.proofs.{Places.length-mapped, Judge.{zones-no, zones-next, zones-end}, zones_refusal.Statement.statement}
 use Rattle.plan.proofs.zones_refusal.Tie as tie
 
 abbrev Inv-loop : tie.InvT-loop

@@ -1,11 +1,7 @@
 -- `plan_numbers::numbers` meets its contract.
-use mathlib.Core.Path.{refl}
-use Prim.Native.Nat.{_-_}
-use native.Mathlib.Omega.{arith}
-use borrow.Author.Needs.{needs}
+use Rattle.base.proofs.Prelude.{refl, _-_, arith, needs}
 use Rattle.plan.proofs.Places.{length-mapped}
-use Rattle.plan_numbers.proofs.Laws.{Row, row-begin, now-small, row-again, row-end}
-use Rattle.plan_numbers.proofs.numbers.Statement.{statement}
+use Rattle.plan_numbers.proofs.{Laws.{Row, row-begin, now-small, row-again, row-end}, numbers.Statement.statement}
 use Rattle.plan_numbers.proofs.numbers.Tie as tie
 
 abbrev Inv-loop : tie.InvT-loop

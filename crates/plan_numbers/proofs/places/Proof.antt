@@ -1,9 +1,6 @@
 -- `plan_numbers::places` meets its contract.
-use Prim.Native.Nat.{_-_}
-use borrow.Author.Needs.{needs}
-use Rattle.base.proofs.Tabulate.{at-none}
-use Rattle.plan_numbers.proofs.Laws.{Placing, placing-again, placing-end}
-use Rattle.plan_numbers.proofs.places.Statement.{statement}
+use Rattle.base.proofs.{Prelude.{_-_, needs}, Tabulate.at-none}
+use Rattle.plan_numbers.proofs.{Laws.{Placing, placing-again, placing-end}, places.Statement.statement}
 use Rattle.plan_numbers.proofs.places.Tie as tie
 
 abbrev Inv-loop : tie.InvT-loop

@@ -1,5 +1,5 @@
 -- `plan_numbers::plan_in` meets its contract.
-use borrow.Author.Needs.{needs}
+use Rattle.base.proofs.Prelude.{needs}
 use Rattle.plan_numbers.proofs.plan_in.Statement.{statement}
 use Rattle.plan_numbers.proofs.plan_in.Tie as tie
 

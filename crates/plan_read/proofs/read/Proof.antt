@@ -1,14 +1,9 @@
 -- `plan_read::read` meets its contract.
-use mathlib.Core.Path.{sym, _∙_}
-use native.Mathlib.Omega.{arith}
-use lib.ListN.{length-drop}
-use lib.Seq.{drop-drop}
-use borrow.Author.Needs.{needs}
-use borrow.Author.Tests.{not-true, not-false}
+use Rattle.base.proofs.Prelude.{sym, _∙_, arith, needs, not-true, not-false}
+use lib.{ListN.length-drop, Seq.drop-drop}
 use Rattle.plan_read.specs.Read.{planOf}
 use Rattle.plan.proofs.Judge.{count-most}
-use Rattle.plan_read.proofs.Step.{value-within}
-use Rattle.plan_read.proofs.read.Statement.{statement}
+use Rattle.plan_read.proofs.{Step.value-within, read.Statement.statement}
 use Rattle.plan_read.proofs.read.Tie as tie
 
 add-next : tie.Need-add-zones-at

@@ -1,5 +1,5 @@
 -- `plan_read::refused` meets its contract.
-use mathlib.Core.Path.{refl}
+use Rattle.base.proofs.Prelude.{refl}
 use Rattle.plan.specs.Plan.{inPlaces}
 use Rattle.plan_read.proofs.refused.Statement.{statement}
 use Rattle.plan_read.proofs.refused.Tie as tie

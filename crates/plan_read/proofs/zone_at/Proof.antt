@@ -1,9 +1,6 @@
 -- `plan_read::zone_at` meets its contract: while its values are read, the rest gives what the whole gives.
-use Prim.Native.Nat.{_-_}
-use native.Mathlib.Omega.{arith}
-use borrow.Author.Needs.{needs}
-use Rattle.plan_read.proofs.Step.{Valued, no-value, value-refused, value-again, values-all}
-use Rattle.plan_read.proofs.zone_at.Statement.{statement}
+use Rattle.base.proofs.Prelude.{_-_, arith, needs}
+use Rattle.plan_read.proofs.{Step.{Valued, no-value, value-refused, value-again, values-all}, zone_at.Statement.statement}
 use Rattle.plan_read.proofs.zone_at.Tie as tie
 
 abbrev Inv-loop : tie.InvT-loop

@@ -1,11 +1,8 @@
 -- `plan_read::zones_at` meets its contract: while zones are read, the rest gives what the whole gives.
-use mathlib.Core.Path.{refl, ap, _∙_}
-use Prim.Native.Nat.{_-_}
-use borrow.Author.Needs.{needs}
+use Rattle.base.proofs.Prelude.{refl, ap, _∙_, _-_, needs}
 use Rattle.plan.specs.Plan.{inPlaces}
 use Rattle.plan_read.specs.Read.{answered}
-use Rattle.plan_read.proofs.Step.{Reading, begin, zone-none, zone-refused, again, too-long, whole}
-use Rattle.plan_read.proofs.zones_at.Statement.{statement}
+use Rattle.plan_read.proofs.{Step.{Reading, begin, zone-none, zone-refused, again, too-long, whole}, zones_at.Statement.statement}
 use Rattle.plan_read.proofs.zones_at.Tie as tie
 
 abbrev Inv-loop : tie.InvT-loop

@@ -1,7 +1,6 @@
 -- `plan_text::lines` meets its contract.
-use borrow.Author.Needs.{needs}
-use Rattle.plan_text.proofs.Listing.{text-refused, text-zones}
-use Rattle.plan_text.proofs.lines.Statement.{statement}
+use Rattle.base.proofs.Prelude.{needs}
+use Rattle.plan_text.proofs.{Listing.{text-refused, text-zones}, lines.Statement.statement}
 use Rattle.plan_text.proofs.lines.Tie as tie
 
 pub lines-spec : {M : Type 1} → statement M

@@ -1,6 +1,5 @@
 -- `plan_text::put_field` meets its contract: a number has at most 20 digits.
-use native.Mathlib.Omega.{arith}
-use borrow.Author.Needs.{needs}
+use Rattle.base.proofs.Prelude.{arith, needs}
 use Rattle.text.proofs.Laws.{put-then, decimal-fits}
 use Rattle.plan_text.proofs.put_field.Statement.{statement}
 use Rattle.plan_text.proofs.put_field.Tie as tie

@@ -1,7 +1,5 @@
 -- `plan_text::put_line` meets its contract.
-use mathlib.Core.Path.{_∙_}
-use native.Mathlib.Omega.{arith}
-use borrow.Author.Needs.{needs}
+use Rattle.base.proofs.Prelude.{_∙_, arith, needs}
 use Rattle.text.proofs.Laws.{put-four}
 use Rattle.plan_text.specs.Lines.{lineOf}
 use Rattle.plan_text.proofs.put_line.Statement.{statement}

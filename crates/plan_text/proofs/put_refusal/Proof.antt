@@ -1,6 +1,5 @@
 -- `plan_text::put_refusal` meets its contract.
-use native.Mathlib.Omega.{arith}
-use borrow.Author.Needs.{needs}
+use Rattle.base.proofs.Prelude.{arith, needs}
 use Rattle.text.proofs.Laws.{put-then}
 use Rattle.plan_text.specs.Lines.{refusalLine}
 use Rattle.plan_text.proofs.put_refusal.Statement.{statement}

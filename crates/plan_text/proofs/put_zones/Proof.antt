@@ -1,10 +1,7 @@
 -- `plan_text::put_zones` meets its contract: while lines are put, those that are done stand at the start.
-use Prim.Native.Nat.{_-_, _*_, _≤_}
-use native.Mathlib.Omega.{arith}
-use borrow.Author.Needs.{needs}
+use Rattle.base.proofs.Prelude.{_-_, _*_, _≤_, arith, needs}
 use Rattle.zone.specs.Zone.{unused}
-use Rattle.plan.proofs.Places.{length-mapped}
-use Rattle.plan.proofs.Each.{Putting, put-begin, put-again, put-all, put-end}
+use Rattle.plan.proofs.{Places.length-mapped, Each.{Putting, put-begin, put-again, put-all, put-end}}
 use Rattle.plan_text.specs.Lines.{lineOf}
 use Rattle.plan_text.proofs.put_zones.Statement.{statement}
 use Rattle.plan_text.proofs.put_zones.Tie as tie

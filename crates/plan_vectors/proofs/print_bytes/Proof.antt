@@ -1,7 +1,7 @@
 -- `plan_vectors::print_bytes` is safe and ends. The measure is the number of bytes that are left.
 use borrow.Author.Needs.{needs}
-use Prim.Native.Nat.{_-_}
 use Rattle.plan_vectors.proofs.print_bytes.Statement.{statement}
+use Prim.Native.Nat.{_-_}
 use Rattle.plan_vectors.proofs.print_bytes.Tie as tie
 
 abbrev Inv-loop : tie.InvT-loop

@@ -1,7 +1,7 @@
 -- `plan_vectors::print_zones` is safe and ends. The measure is the number of places that are left.
 use borrow.Author.Needs.{needs}
-use Prim.Native.Nat.{_-_}
 use Rattle.plan_vectors.proofs.print_zones.Statement.{statement}
+use Prim.Native.Nat.{_-_}
 use Rattle.plan_vectors.proofs.print_zones.Tie as tie
 
 abbrev Inv-loop : tie.InvT-loop

@@ -1,9 +1,9 @@
 -- `plan_vectors::zones_of` is safe and ends. The measure is the number of places that are left.
 use borrow.Author.Needs.{needs}
-use Prim.Native.Nat.{_-_}
 use mathlib.Core.Path.{_≡_}
 use lib.ListN.{length}
 use Rattle.plan_vectors.proofs.zones_of.Statement.{statement}
+use Prim.Native.Nat.{_-_}
 use Rattle.plan_vectors.proofs.zones_of.Tie as tie
 
 abbrev Inv-loop : tie.InvT-loop

@@ -1,18 +1,12 @@
 -- `plan_write::put_plan` meets its contract: while zones are put, those that are done stand behind the count and the size.
-use mathlib.Core.Path.{_∙_}
-use Prim.Native.Nat.{_+_, _-_, _≤_}
-use native.Mathlib.Omega.{arith}
-use borrow.Author.Needs.{needs}
-use lib.ListN.{length, take}
+use Rattle.base.proofs.Prelude.{_∙_, _+_, _-_, _≤_, arith, needs, length, take}
 use Rattle.text.proofs.Laws.{put-three}
 use Rattle.zone.specs.Zone.{unused}
 use Rattle.plan.specs.Plan.{each}
 use Rattle.plan_write.specs.Write.{zoneBytes, planBytes}
-use Rattle.plan.proofs.Places.{length-mapped}
-use Rattle.plan.proofs.Judge.{fit-of, all-small, count-most, size-small}
-use Rattle.plan_write.proofs.Bytes.{plan-length}
+use Rattle.plan.proofs.{Places.length-mapped, Judge.{fit-of, all-small, count-most, size-small}}
 use Rattle.plan.proofs.Each.{Putting, put-begin, put-room, put-again, put-all}
-use Rattle.plan_write.proofs.put_plan.Statement.{statement}
+use Rattle.plan_write.proofs.{Bytes.plan-length, put_plan.Statement.statement}
 use Rattle.plan_write.proofs.put_plan.Tie as tie
 
 abbrev Inv-loop : tie.InvT-loop

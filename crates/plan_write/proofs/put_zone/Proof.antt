@@ -1,14 +1,10 @@
 -- `plan_write::put_zone` meets its contract: while values are put, those that are done stand at the place.
-use Prim.Native.Nat.{_+_, _-_, _≤_}
-use native.Mathlib.Omega.{arith}
-use lib.ListN.{length, take}
-use borrow.Author.Needs.{needs}
+use Rattle.base.proofs.Prelude.{_+_, _-_, _≤_, arith, length, take, needs}
 use Rattle.value.specs.Value.{encode}
 use Rattle.plan.specs.Plan.{each}
 use Rattle.plan_write.specs.Write.{zoneBytes}
-use Rattle.plan_write.proofs.Bytes.{Within, value-small, limits, within}
+use Rattle.plan_write.proofs.{Bytes.{Within, value-small, limits, within}, put_zone.Statement.statement}
 use Rattle.plan.proofs.Each.{Putting, put-begin, put-room, put-again, put-all}
-use Rattle.plan_write.proofs.put_zone.Statement.{statement}
 use Rattle.plan_write.proofs.put_zone.Tie as tie
 
 abbrev Inv-loop : tie.InvT-loop

@@ -1,11 +1,8 @@
 -- `plan_write::write` meets its contract.
-use mathlib.Core.Path.{sym, _∙_}
-use native.Mathlib.Omega.{arith}
+use Rattle.base.proofs.Prelude.{sym, _∙_, arith, needs}
 use lib.Seq.{length-take-le}
-use borrow.Author.Needs.{needs}
 use Rattle.plan.proofs.Judge.{Fit, fit-of}
-use Rattle.plan_write.proofs.Bytes.{plan-51, write-no, write-short, write-done}
-use Rattle.plan_write.proofs.write.Statement.{statement}
+use Rattle.plan_write.proofs.{Bytes.{plan-51, write-no, write-short, write-done}, write.Statement.statement}
 use Rattle.plan_write.proofs.write.Tie as tie
 
 fit : (c : tie.Else1) → Fit (c .before .before .before .args .plan)

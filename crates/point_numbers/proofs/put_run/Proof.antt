@@ -1,12 +1,7 @@
 -- `point_numbers::put_run` meets its contract.
-use mathlib.Core.Path.{refl}
-use Prim.Native.Nat.{_+_, _-_}
-use native.Mathlib.Omega.{arith}
-use borrow.Author.Needs.{needs}
+use Rattle.base.proofs.{Prelude.{refl, _+_, _-_, arith, needs}, Tabulate.{WrittenOver, over-none, over-next}}
 use Rattle.base.specs.Steps.{entry}
-use Rattle.base.proofs.Tabulate.{WrittenOver, over-none, over-next}
-use Rattle.point_numbers.proofs.Filled.{put-all}
-use Rattle.point_numbers.proofs.put_run.Statement.{statement}
+use Rattle.point_numbers.proofs.{Filled.put-all, put_run.Statement.statement}
 use Rattle.point_numbers.proofs.put_run.Tie as tie
 
 abbrev Inv-loop : tie.InvT-loop

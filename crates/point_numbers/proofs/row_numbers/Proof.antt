@@ -1,6 +1,5 @@
 -- `point_numbers::row_numbers` meets its contract.
-use Rattle.point_numbers.proofs.Numbers.{asks-1, numbers-1}
-use Rattle.point_numbers.proofs.row_numbers.Statement.{statement}
+use Rattle.point_numbers.proofs.{Numbers.{asks-1, numbers-1}, row_numbers.Statement.statement}
 use Rattle.point_numbers.proofs.row_numbers.Tie as tie
 
 row-numbers-requires : tie.Need-row-numbers-requires

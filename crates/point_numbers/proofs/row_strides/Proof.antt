@@ -1,5 +1,5 @@
 -- `point_numbers::row_strides` meets its contract.
-use borrow.Author.Needs.{needs}
+use Rattle.base.proofs.Prelude.{needs}
 use Rattle.map.proofs.Choice.{choosing}
 use Rattle.point_numbers.specs.Model.{runStride, pointStride}
 use Rattle.point_numbers.proofs.row_strides.Statement.{statement}

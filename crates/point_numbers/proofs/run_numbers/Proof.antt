@@ -1,12 +1,9 @@
 -- `point_numbers::run_numbers` meets its contract.
-use mathlib.Core.Path.{_≡_}
-use native.Mathlib.Omega.{arith}
-use borrow.Author.Needs.{needs}
+use Rattle.base.proofs.Prelude.{_≡_, arith, needs}
 use Rattle.map.specs.Setup.{alone}
 use Rattle.map.proofs.Choice.{told-amc, choosing}
 use Rattle.runs.specs.Model.{runCount}
-use Rattle.point_numbers.proofs.Numbers.{asks-0, asks-2, asks-amc, numbers-0, numbers-2, numbers-amc}
-use Rattle.point_numbers.proofs.run_numbers.Statement.{statement}
+use Rattle.point_numbers.proofs.{Numbers.{asks-0, asks-2, asks-amc, numbers-0, numbers-2, numbers-amc}, run_numbers.Statement.statement}
 use Rattle.point_numbers.proofs.run_numbers.Tie as tie
 
 cluster-points-requires : tie.Need-cluster-points-requires

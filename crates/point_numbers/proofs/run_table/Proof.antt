@@ -1,9 +1,7 @@
 -- `point_numbers::run_table` meets its contract.
-use native.Mathlib.Omega.{arith}
-use lib.ListN.{replicate}
+use Rattle.base.proofs.Prelude.{arith, replicate}
 use Rattle.map.proofs.ByMode.{listed-mode, in-pusc-dl, in-pusc-ul}
-use Rattle.point_numbers.proofs.Numbers.{to-table, clusters-as, tiles-as, no-runs}
-use Rattle.point_numbers.proofs.run_table.Statement.{statement}
+use Rattle.point_numbers.proofs.{Numbers.{to-table, clusters-as, tiles-as, no-runs}, run_table.Statement.statement}
 use Rattle.point_numbers.proofs.run_table.Tie as tie
 
 pub run-table-spec : {M : Type 1} → statement M

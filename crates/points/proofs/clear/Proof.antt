@@ -1,14 +1,8 @@
 -- `points::clear` meets its contract.
-use borrow.Author.Needs.{needs}
-use native.Mathlib.Omega.{arith}
+use Rattle.base.proofs.{Prelude.{needs, arith, length, replicate, _-_, _≡_, refl, ap, _∙_}, Tabulate.{WrittenAt, at-none, at-next, all-written}}
 use lib.Ieee.{nan}
-use lib.ListN.{length, replicate}
-use Prim.Native.Nat.{_-_}
-use mathlib.Core.Path.{_≡_, refl, ap, _∙_}
-use Rattle.base.proofs.Tabulate.{WrittenAt, at-none, at-next, all-written}
-use Rattle.points.proofs.Points.{cleared-all}
+use Rattle.points.proofs.{Points.cleared-all, clear.Statement.statement}
 use Rattle.points.specs.Points.{zero32}
-use Rattle.points.proofs.clear.Statement.{statement}
 use Rattle.points.proofs.clear.Tie as tie
 
 abbrev Inv-loop : tie.InvT-loop

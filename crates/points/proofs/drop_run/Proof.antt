@@ -1,14 +1,8 @@
 -- `points::drop_run` meets its contract.
-use mathlib.Core.Path.{_≡_, ap, _∙_}
-use mathlib.Core.List.{List}
-use Prim.Native.Nat.{ℕ, _+_, _-_, _*_, _<_}
-use native.Mathlib.Omega.{arith}
-use borrow.Author.Needs.{needs}
+use Rattle.base.proofs.Prelude.{_≡_, ap, _∙_, List, ℕ, _+_, _-_, _*_, _<_, arith, needs}
 use Rattle.base.specs.Steps.{entry}
-use Rattle.points.specs.Points.{pointAt}
-use Rattle.points.specs.Model.{RunWithin}
-use Rattle.points.proofs.Copy.{Putting, putting-none, putting-long, putting-next, putting-done}
-use Rattle.points.proofs.drop_run.Statement.{statement}
+use Rattle.points.specs.{Points.pointAt, Model.RunWithin}
+use Rattle.points.proofs.{Copy.{Putting, putting-none, putting-long, putting-next, putting-done}, drop_run.Statement.statement}
 use Rattle.points.proofs.drop_run.Tie as tie
 
 abbrev Inv-loop : tie.InvT-loop

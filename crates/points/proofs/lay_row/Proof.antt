@@ -1,7 +1,6 @@
 -- `points::lay_row` meets its contract.
-use borrow.Author.Needs.{needs}
-use Rattle.points.proofs.Copy.{laid-runs, still-within}
-use Rattle.points.proofs.lay_row.Statement.{statement}
+use Rattle.base.proofs.Prelude.{needs}
+use Rattle.points.proofs.{Copy.{laid-runs, still-within}, lay_row.Statement.statement}
 use Rattle.points.proofs.lay_row.Tie as tie
 
 returns : tie.Need-returns

@@ -1,10 +1,8 @@
 -- `points::lay_run` meets its contract.
-use Prim.Native.Nat.{_+_, _-_}
-use borrow.Author.Needs.{needs}
+use Rattle.base.proofs.Prelude.{_+_, _-_, needs}
 use Rattle.base.specs.Steps.{entry}
 use Rattle.points.specs.Points.{pointAt}
-use Rattle.points.proofs.Copy.{Putting, putting-none, putting-long, putting-next, putting-done, run-within}
-use Rattle.points.proofs.lay_run.Statement.{statement}
+use Rattle.points.proofs.{Copy.{Putting, putting-none, putting-long, putting-next, putting-done, run-within}, lay_run.Statement.statement}
 use Rattle.points.proofs.lay_run.Tie as tie
 
 abbrev Inv-loop : tie.InvT-loop

@@ -1,6 +1,6 @@
 -- `points::point_at` meets its contract.
+use Rattle.base.proofs.Prelude.{needs}
 use Rattle.points.specs.Points.{pointAt}
-use borrow.Author.Needs.{needs}
 use Rattle.points.proofs.point_at.Statement.{statement}
 use Rattle.points.proofs.point_at.Tie as tie
 

@@ -1,6 +1,6 @@
 -- `points::put_point` meets its contract.
+use Rattle.base.proofs.Prelude.{needs}
 use Rattle.points.specs.Model.{putPoint}
-use borrow.Author.Needs.{needs}
 use Rattle.points.proofs.put_point.Statement.{statement}
 use Rattle.points.proofs.put_point.Tie as tie
 

@@ -1,5 +1,5 @@
 -- `pusc_dl::group_address` meets its contract.
-use borrow.Author.Needs.{needs}
+use Rattle.base.proofs.Prelude.{needs}
 use Rattle.pusc_dl.specs.Inner.{groupSubchannel, groupIndex}
 use Rattle.clusters.specs.Group.{baseInverse}
 use Rattle.pusc_dl.proofs.group_address.Statement.{statement}

@@ -1,12 +1,7 @@
 -- `pusc_dl::group_data` meets its contract.
-use mathlib.Core.Path.{_≡_}
-use Prim.Native.Nat.{ℕ, _+_, _*_, _<_}
-use native.Mathlib.Omega.{arith}
-use lib.Arith.{digits-lt}
-use borrow.Author.Needs.{needs}
-use Rattle.clusters.specs.Group.{groupSize}
+use Rattle.base.proofs.Prelude.{_≡_, ℕ, _+_, _*_, _<_, arith, digits-lt, needs}
+use Rattle.clusters.specs.{Group.groupSize, Model.turnedBase}
 use Rattle.pusc_dl.specs.Inner.{groupData}
-use Rattle.clusters.specs.Model.{turnedBase}
 use Rattle.pusc_dl.proofs.group_data.Statement.{statement}
 use Rattle.pusc_dl.proofs.group_data.Tie as tie
 

@@ -1,8 +1,5 @@
 -- `pusc_dl::group_used` meets its contract.
-use mathlib.Core.Path.{refl}
-use Prim.Native.Nat.{_+_, _/_, _<_}
-use native.Mathlib.Omega.{arith}
-use borrow.Author.Needs.{needs}
+use Rattle.base.proofs.Prelude.{refl, _+_, _/_, _<_, arith, needs}
 use Rattle.pusc_dl.specs.Map.{groupUsed}
 use Rattle.clusters.proofs.Group.{cluster-runs}
 use Rattle.pusc_dl.proofs.group_used.Statement.{statement}

@@ -1,7 +1,5 @@
 -- `pusc_dl::of_size` meets its contract.
-use mathlib.Core.Path.{sym, _∙_}
-use native.Mathlib.Omega.{arith}
-use borrow.Author.Needs.{needs}
+use Rattle.base.proofs.Prelude.{sym, _∙_, arith, needs}
 use Rattle.clusters.specs.Group.{ofSize}
 use Rattle.clusters.proofs.Group.{size-8}
 use Rattle.pusc_dl.proofs.of_size.Statement.{statement}

@@ -1,7 +1,5 @@
 -- `pusc_dl::size_remainder` meets its contract.
-use mathlib.Core.Path.{refl, sym, _∙_}
-use native.Mathlib.Omega.{arith}
-use borrow.Author.Needs.{needs}
+use Rattle.base.proofs.Prelude.{refl, sym, _∙_, arith, needs}
 use Rattle.clusters.proofs.Group.{size-8}
 use Rattle.pusc_dl.proofs.size_remainder.Statement.{statement}
 use Rattle.pusc_dl.proofs.size_remainder.Tie as tie

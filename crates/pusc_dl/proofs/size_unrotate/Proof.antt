@@ -1,5 +1,5 @@
 -- `pusc_dl::size_unrotate` meets its contract.
-use borrow.Author.Needs.{needs}
+use Rattle.base.proofs.Prelude.{needs}
 use Rattle.pusc_dl.proofs.size_unrotate.Statement.{statement}
 use Rattle.pusc_dl.proofs.size_unrotate.Tie as tie
 

@@ -1,6 +1,5 @@
 -- `pusc_dl::spot` meets its contract.
-use native.Mathlib.Omega.{arith}
-use borrow.Author.Needs.{needs}
+use Rattle.base.proofs.Prelude.{arith, needs}
 use Rattle.pusc_dl.specs.Map.{spotOf}
 use Rattle.clusters.proofs.Group.{subchannel-runs}
 use Rattle.pusc_dl.proofs.spot.Statement.{statement}

@@ -1,11 +1,8 @@
 -- `pusc_dl::used_data` meets its contract.
-use mathlib.Core.Path.{refl}
-use borrow.Author.Needs.{needs}
+use Rattle.base.proofs.Prelude.{refl, needs}
 use Rattle.pusc_dl.specs.Map.{usedGroup, usedData, logicalOf}
-use Rattle.clusters.proofs.Cluster.{pilot-place}
-use Rattle.clusters.proofs.Group.{cluster-runs}
-use Rattle.pusc_dl.proofs.Law.{group-lt, data-lt}
-use Rattle.pusc_dl.proofs.used_data.Statement.{statement}
+use Rattle.clusters.proofs.{Cluster.pilot-place, Group.cluster-runs}
+use Rattle.pusc_dl.proofs.{Law.{group-lt, data-lt}, used_data.Statement.statement}
 use Rattle.pusc_dl.proofs.used_data.Tie as tie
 
 returns : tie.Need-returns

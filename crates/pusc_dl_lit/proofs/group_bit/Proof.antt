@@ -1,7 +1,6 @@
 -- `pusc_dl_lit::group_bit` meets its contract.
-use borrow.Author.Needs.{needs}
-use Rattle.pusc_dl_lit.proofs.Lit.{group-bit}
-use Rattle.pusc_dl_lit.proofs.group_bit.Statement.{statement}
+use Rattle.base.proofs.Prelude.{needs}
+use Rattle.pusc_dl_lit.proofs.{Lit.group-bit, group_bit.Statement.statement}
 use Rattle.pusc_dl_lit.proofs.group_bit.Tie as tie
 
 returns : tie.Need-returns

@@ -1,12 +1,9 @@
 -- `pusc_dl_lit::group_bits` meets its contract.
-use mathlib.Core.Path.{refl, ap, _∙_}
-use Prim.Native.Nat.{_-_, _^_}
-use borrow.Author.Needs.{needs}
-use Rattle.base.proofs.Tabulate.{Written, written-none, written-next, written-all}
-use Rattle.clusters.specs.Group.{clusterStarts, groupIn}
+use Rattle.base.proofs.{Prelude.{refl, ap, _∙_, _-_, needs}, Tabulate.{Written, written-none, written-next, written-all}}
+use Rattle.clusters.specs.{Group.{clusterStarts, groupIn}, declared.Logical.Logical}
 use Rattle.pusc_dl_lit.specs.Model.{groupBit}
-use Rattle.clusters.specs.declared.Logical.{Logical}
 use Rattle.pusc_dl_lit.proofs.group_bits.Statement.{statement}
+use Prim.Native.Nat.{_^_}
 use Rattle.pusc_dl_lit.proofs.group_bits.Tie as tie
 
 abbrev Inv-loop : tie.InvT-loop

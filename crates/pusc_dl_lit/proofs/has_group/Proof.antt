@@ -1,6 +1,5 @@
 -- `pusc_dl_lit::has_group` meets its contract.
-use mathlib.Core.Path.{refl}
-use borrow.Author.Needs.{needs}
+use Rattle.base.proofs.Prelude.{refl, needs}
 use Rattle.pusc_dl_lit.specs.Lit.{hasGroup}
 use Rattle.pusc_dl_lit.proofs.has_group.Statement.{statement}
 use Rattle.pusc_dl_lit.proofs.has_group.Tie as tie

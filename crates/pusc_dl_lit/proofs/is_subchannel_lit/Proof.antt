@@ -1,6 +1,5 @@
 -- `pusc_dl_lit::is_subchannel_lit` meets its contract.
-use mathlib.Core.Path.{ap, _∙_}
-use borrow.Author.Needs.{needs}
+use Rattle.base.proofs.Prelude.{ap, _∙_, needs}
 use Rattle.pusc_dl_lit.specs.Lit.{hasGroup}
 use Rattle.pusc_dl_lit.proofs.is_subchannel_lit.Statement.{statement}
 use Rattle.pusc_dl_lit.proofs.is_subchannel_lit.Tie as tie

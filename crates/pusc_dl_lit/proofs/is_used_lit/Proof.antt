@@ -1,10 +1,8 @@
 -- `pusc_dl_lit::is_used_lit` meets its contract.
-use mathlib.Core.Path.{refl, ap, _∙_}
-use borrow.Author.Needs.{needs}
-use Rattle.clusters.specs.Group.{clusterStarts, groupIn}
+use Rattle.base.proofs.Prelude.{refl, ap, _∙_, needs}
+use Rattle.clusters.specs.{Group.{clusterStarts, groupIn}, declared.Logical.Logical}
 use Rattle.pusc_dl_lit.specs.Lit.{hasGroup}
 use Rattle.pusc_dl.specs.Map.{logicalOf, usedGroup}
-use Rattle.clusters.specs.declared.Logical.{Logical}
 use Rattle.pusc_dl_lit.proofs.is_used_lit.Statement.{statement}
 use Rattle.pusc_dl_lit.proofs.is_used_lit.Tie as tie
 

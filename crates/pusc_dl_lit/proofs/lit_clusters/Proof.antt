@@ -1,10 +1,7 @@
 -- `pusc_dl_lit::lit_clusters` meets its contract.
-use Prim.Native.Nat.{_-_}
-use borrow.Author.Needs.{needs}
-use Rattle.base.proofs.Tabulate.{Written, written-none, written-next, written-all}
+use Rattle.base.proofs.{Prelude.{_-_, needs}, Tabulate.{Written, written-none, written-next, written-all}}
 use Rattle.pusc_dl_lit.specs.Model.{clusterLit}
-use Rattle.pusc_dl_lit.proofs.Lit.{cluster-lit}
-use Rattle.pusc_dl_lit.proofs.lit_clusters.Statement.{statement}
+use Rattle.pusc_dl_lit.proofs.{Lit.cluster-lit, lit_clusters.Statement.statement}
 use Rattle.pusc_dl_lit.proofs.lit_clusters.Tie as tie
 
 abbrev Inv-loop : tie.InvT-loop

@@ -1,7 +1,6 @@
 -- `pusc_dl_lit::lit_subchannels` meets its contract.
-use borrow.Author.Needs.{needs}
-use Rattle.pusc_dl_lit.proofs.Lit.{lit-count}
-use Rattle.pusc_dl_lit.proofs.lit_subchannels.Statement.{statement}
+use Rattle.base.proofs.Prelude.{needs}
+use Rattle.pusc_dl_lit.proofs.{Lit.lit-count, lit_subchannels.Statement.statement}
 use Rattle.pusc_dl_lit.proofs.lit_subchannels.Tie as tie
 
 pub lit-subchannels-spec : {M : Type 1} → statement M

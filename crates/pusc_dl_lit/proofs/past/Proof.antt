@@ -1,6 +1,5 @@
 -- `pusc_dl_lit::past` meets its contract.
-use native.Mathlib.Omega.{arith}
-use borrow.Author.Tests.{lt-ltb, le-ltb}
+use Rattle.base.proofs.Prelude.{arith, lt-ltb, le-ltb}
 use Rattle.pusc_dl_lit.proofs.past.Statement.{statement}
 use Rattle.pusc_dl_lit.proofs.past.Tie as tie
 

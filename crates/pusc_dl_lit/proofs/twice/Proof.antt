@@ -1,8 +1,5 @@
 -- `pusc_dl_lit::twice` meets its contract.
-use mathlib.Core.Path.{_≡_, ap}
-use Prim.Native.Nat.{_+_, _-_, _%_}
-use native.Mathlib.Omega.{arith}
-use borrow.Author.Needs.{needs}
+use Rattle.base.proofs.Prelude.{_≡_, ap, _+_, _-_, _%_, arith, needs}
 use Rattle.base.specs.Steps.{entry}
 use Rattle.clusters.proofs.Halves.{Halves, halves-none, halves-next, halves-all}
 use Rattle.pusc_dl_lit.proofs.twice.Statement.{statement}

@@ -1,10 +1,7 @@
 -- `pusc_dl_points::cluster_points` meets its contract.
-use Prim.Native.Nat.{_/_, _<_}
-use native.Mathlib.Omega.{arith}
-use borrow.Author.Needs.{needs}
+use Rattle.base.proofs.Prelude.{_/_, _<_, arith, needs}
 use Rattle.base.specs.Steps.{entry}
-use Rattle.pusc_dl_points.proofs.Points.{first-small, place-even-lt, place-odd-lt, numbers-12, numbers-8}
-use Rattle.pusc_dl_points.proofs.cluster_points.Statement.{statement}
+use Rattle.pusc_dl_points.proofs.{Points.{first-small, place-even-lt, place-odd-lt, numbers-12, numbers-8}, cluster_points.Statement.statement}
 use Rattle.pusc_dl_points.proofs.cluster_points.Tie as tie
 
 -- the first number is small

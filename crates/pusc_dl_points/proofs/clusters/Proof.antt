@@ -1,9 +1,5 @@
 -- `pusc_dl_points::clusters` meets its contract.
-use mathlib.Core.Path.{refl, ap, _∙_}
-use Prim.Native.Nat.{_-_}
-use native.Mathlib.Omega.{arith}
-use borrow.Author.Needs.{needs}
-use Rattle.base.proofs.Tabulate.{Written, written-none, written-next, written-starts}
+use Rattle.base.proofs.{Prelude.{refl, ap, _∙_, _-_, arith, needs}, Tabulate.{Written, written-none, written-next, written-starts}}
 use Rattle.pusc_dl_points.specs.Model.{logicalEntry, clusterEntry}
 use Rattle.pusc_dl_points.proofs.clusters.Statement.{statement}
 use Rattle.pusc_dl_points.proofs.clusters.Tie as tie

@@ -1,12 +1,7 @@
 -- `pusc_dl_points::eight_numbers` meets its contract.
-use mathlib.Core.Path.{_≡_, refl}
-use Prim.Native.Nat.{ℕ, _+_, _-_, _*_, _%_}
-use native.Mathlib.Omega.{arith}
-use borrow.Author.Needs.{needs}
-use Rattle.base.proofs.Tabulate.{Written, written-none, written-next, written-all}
+use Rattle.base.proofs.{Prelude.{_≡_, refl, ℕ, _+_, _-_, _*_, _%_, arith, needs}, Tabulate.{Written, written-none, written-next, written-all}}
 use Rattle.pusc_dl_points.specs.Model.{pointOfData}
-use Rattle.pusc_dl_points.proofs.Points.{entry-8, number-of}
-use Rattle.pusc_dl_points.proofs.eight_numbers.Statement.{statement}
+use Rattle.pusc_dl_points.proofs.{Points.{entry-8, number-of}, eight_numbers.Statement.statement}
 use Rattle.pusc_dl_points.proofs.eight_numbers.Tie as tie
 
 abbrev Inv-loop : tie.InvT-loop

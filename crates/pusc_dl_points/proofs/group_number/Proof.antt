@@ -1,12 +1,7 @@
 -- `pusc_dl_points::group_number` meets its contract.
-use mathlib.Core.Path.{_≡_}
-use Prim.Native.Nat.{ℕ, _+_, _-_, _*_, _%_, _<_, _≤_}
-use native.Mathlib.Nat.{mod-lt}
-use native.Mathlib.Omega.{arith}
-use borrow.Author.Needs.{needs}
+use Rattle.base.proofs.Prelude.{_≡_, ℕ, _+_, _-_, _*_, _%_, _<_, _≤_, mod-lt, arith, needs}
 use Rattle.base.specs.Steps.{unrotate}
-use Rattle.pusc_dl_points.proofs.Points.{index-is}
-use Rattle.pusc_dl_points.proofs.group_number.Statement.{statement}
+use Rattle.pusc_dl_points.proofs.{Points.index-is, group_number.Statement.statement}
 use Rattle.pusc_dl_points.proofs.group_number.Tie as tie
 
 remainder-le : (size n m : ℕ) → 0 < size → m ≡ n % size → m ≤ size

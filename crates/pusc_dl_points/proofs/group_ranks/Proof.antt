@@ -1,12 +1,7 @@
 -- `pusc_dl_points::group_ranks` meets its contract.
-use mathlib.Core.Path.{_≡_, _∙_}
-use Prim.Native.Nat.{_-_}
-use native.Mathlib.Omega.{arith}
-use borrow.Author.Needs.{needs}
-use Rattle.base.proofs.Tabulate.{Written, written-none, written-next, written-all}
+use Rattle.base.proofs.{Prelude.{_≡_, _∙_, _-_, arith, needs}, Tabulate.{Written, written-none, written-next, written-all}}
 use Rattle.pusc_dl_points.specs.Model.{groupRank}
-use Rattle.pusc_dl_points.proofs.Points.{lower-small, lower-rank, rank-small}
-use Rattle.pusc_dl_points.proofs.group_ranks.Statement.{statement}
+use Rattle.pusc_dl_points.proofs.{Points.{lower-small, lower-rank, rank-small}, group_ranks.Statement.statement}
 use Rattle.pusc_dl_points.proofs.group_ranks.Tie as tie
 
 abbrev Inv-loop : tie.InvT-loop

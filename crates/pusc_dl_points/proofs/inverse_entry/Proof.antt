@@ -1,13 +1,9 @@
 -- `pusc_dl_points::inverse_entry` meets its contract.
-use mathlib.Core.Path.{_≡_, refl}
-use Prim.Native.Nat.{_<_}
-use native.Mathlib.Omega.{arith}
-use borrow.Author.Needs.{needs}
+use Rattle.base.proofs.Prelude.{_≡_, refl, _<_, arith, needs}
 use Rattle.base.specs.Steps.{entry}
 use Rattle.clusters.specs.Group.{ofSize, baseInverse}
 use Rattle.pusc_dl_points.specs.Model.{turnedInverse, inverseEntry}
-use Rattle.pusc_dl_points.proofs.Points.{inverse-12, inverse-8}
-use Rattle.pusc_dl_points.proofs.inverse_entry.Statement.{statement}
+use Rattle.pusc_dl_points.proofs.{Points.{inverse-12, inverse-8}, inverse_entry.Statement.statement}
 use Rattle.pusc_dl_points.proofs.inverse_entry.Tie as tie
 
 twelfth : (c : tie.After-unrotate) → let a = c .before .before .args in

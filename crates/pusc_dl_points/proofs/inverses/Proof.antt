@@ -1,8 +1,5 @@
 -- `pusc_dl_points::inverses` meets its contract.
-use mathlib.Core.Path.{refl}
-use Prim.Native.Nat.{_-_}
-use borrow.Author.Needs.{needs}
-use Rattle.base.proofs.Tabulate.{Written, written-none, written-next, written-starts}
+use Rattle.base.proofs.{Prelude.{refl, _-_, needs}, Tabulate.{Written, written-none, written-next, written-starts}}
 use Rattle.pusc_dl_points.specs.Model.{inverseEntry}
 use Rattle.pusc_dl_points.proofs.inverses.Statement.{statement}
 use Rattle.pusc_dl_points.proofs.inverses.Tie as tie

@@ -1,14 +1,9 @@
 -- `pusc_dl_points::logical_entry` meets its contract.
-use mathlib.Core.Path.{_≡_, refl}
-use Prim.Native.Nat.{_-_, _<_, _≤_}
-use native.Mathlib.Omega.{arith}
-use borrow.Author.Needs.{needs}
+use Rattle.base.proofs.{Prelude.{_≡_, refl, _-_, _<_, _≤_, arith, needs}, Tabulate.entry-of}
 use Rattle.base.specs.Steps.{entry}
-use Rattle.base.proofs.Tabulate.{entry-of}
 use Rattle.pusc_dl_points.specs.Model.{groupRank, logicalEntry}
 use Rattle.clusters.proofs.Group.{cluster-runs}
-use Rattle.pusc_dl_points.proofs.Points.{place-small, rank-small}
-use Rattle.pusc_dl_points.proofs.logical_entry.Statement.{statement}
+use Rattle.pusc_dl_points.proofs.{Points.{place-small, rank-small}, logical_entry.Statement.statement}
 use Rattle.pusc_dl_points.proofs.logical_entry.Tie as tie
 
 -- the rank of the cluster's group

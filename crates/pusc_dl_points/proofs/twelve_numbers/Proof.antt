@@ -1,11 +1,7 @@
 -- `pusc_dl_points::twelve_numbers` meets its contract.
-use Prim.Native.Nat.{_+_, _-_, _*_}
-use native.Mathlib.Omega.{arith}
-use borrow.Author.Needs.{needs}
-use Rattle.base.proofs.Tabulate.{Written, written-none, written-next, written-all}
+use Rattle.base.proofs.{Prelude.{_+_, _-_, _*_, arith, needs}, Tabulate.{Written, written-none, written-next, written-all}}
 use Rattle.pusc_dl_points.specs.Model.{pointOfData}
-use Rattle.pusc_dl_points.proofs.Points.{entry-12, number-of}
-use Rattle.pusc_dl_points.proofs.twelve_numbers.Statement.{statement}
+use Rattle.pusc_dl_points.proofs.{Points.{entry-12, number-of}, twelve_numbers.Statement.statement}
 use Rattle.pusc_dl_points.proofs.twelve_numbers.Tie as tie
 
 abbrev Inv-loop : tie.InvT-loop

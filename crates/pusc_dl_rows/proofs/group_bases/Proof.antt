@@ -1,9 +1,5 @@
 -- `pusc_dl_rows::group_bases` meets its contract.
-use mathlib.Core.Path.{refl}
-use Prim.Native.Nat.{_+_, _-_}
-use native.Mathlib.Omega.{arith}
-use borrow.Author.Needs.{needs}
-use Rattle.base.proofs.Tabulate.{Written, written-none, written-next, written-all}
+use Rattle.base.proofs.{Prelude.{refl, _+_, _-_, arith, needs}, Tabulate.{Written, written-none, written-next, written-all}}
 use Rattle.clusters.specs.Model.{turnedBase}
 use Rattle.clusters.proofs.Group.{size-most}
 use Rattle.pusc_dl_rows.proofs.group_bases.Statement.{statement}

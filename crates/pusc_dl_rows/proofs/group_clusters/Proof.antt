@@ -1,9 +1,5 @@
 -- `pusc_dl_rows::group_clusters` meets its contract.
-use mathlib.Core.Path.{refl}
-use Prim.Native.Nat.{_+_, _-_, _<_}
-use native.Mathlib.Omega.{arith}
-use borrow.Author.Needs.{needs}
-use Rattle.base.proofs.Tabulate.{Written, written-none, written-next, written-starts}
+use Rattle.base.proofs.{Prelude.{refl, _+_, _-_, _<_, arith, needs}, Tabulate.{Written, written-none, written-next, written-starts}}
 use Rattle.pusc_dl_rows.specs.Model.{groupCluster}
 use Rattle.clusters.proofs.Group.{cluster-runs}
 use Rattle.pusc_dl_rows.proofs.group_clusters.Statement.{statement}

@@ -1,14 +1,8 @@
 -- `pusc_dl_rows::group_spots` meets its contract.
-use mathlib.Core.Path.{_∙_}
-use Prim.Native.Nat.{_+_, _-_}
-use native.Mathlib.Omega.{arith}
-use lib.Arith.{digits-lt}
-use borrow.Author.Needs.{needs}
+use Rattle.base.proofs.Prelude.{_∙_, _+_, _-_, arith, digits-lt, needs}
 use Rattle.pusc_dl_rows.specs.Model.{groupSpot}
-use Rattle.clusters.proofs.Group.{size-most}
-use Rattle.pusc_dl_rows.proofs.Row.{Turn, data-number, run-lt, cluster-lt, spot}
-use Rattle.clusters.proofs.Halves.{Halves, halves-none, halves-next, halves-all}
-use Rattle.pusc_dl_rows.proofs.group_spots.Statement.{statement}
+use Rattle.clusters.proofs.{Group.size-most, Halves.{Halves, halves-none, halves-next, halves-all}}
+use Rattle.pusc_dl_rows.proofs.{Row.{Turn, data-number, run-lt, cluster-lt, spot}, group_spots.Statement.statement}
 use Rattle.pusc_dl_rows.proofs.group_spots.Tie as tie
 
 abbrev Inv-loop : tie.InvT-loop

@@ -1,8 +1,7 @@
 -- `pusc_ul::address` meets its contract.
-use borrow.Author.Needs.{needs}
+use Rattle.base.proofs.Prelude.{needs}
 use Rattle.pusc_ul.specs.Map.{addressOf}
-use Rattle.pusc_ul.proofs.Law.{pilot-carrier}
-use Rattle.pusc_ul.proofs.address.Statement.{statement}
+use Rattle.pusc_ul.proofs.{Law.pilot-carrier, address.Statement.statement}
 use Rattle.pusc_ul.proofs.address.Tie as tie
 
 pub address-spec : {M : Type 1} → statement M

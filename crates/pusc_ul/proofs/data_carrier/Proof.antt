@@ -1,6 +1,5 @@
 -- `pusc_ul::data_carrier` meets its contract: in each arm the tests of the definition are those that led there.
-use borrow.Author.Needs.{needs}
-use borrow.Author.Tests.{lt-ltb, le-ltb}
+use Rattle.base.proofs.Prelude.{needs, lt-ltb, le-ltb}
 use Rattle.pusc_ul.specs.Tile.{placeSymbol, placeTile, placeCarrier}
 use Rattle.pusc_ul.proofs.data_carrier.Statement.{statement}
 use Rattle.pusc_ul.proofs.data_carrier.Tie as tie

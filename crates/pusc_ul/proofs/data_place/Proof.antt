@@ -1,12 +1,5 @@
 -- `pusc_ul::data_place` meets its contract: outside the middle symbol carriers 0 and 3 are pilots, so a data carrier is 1 or 2.
-use mathlib.Core.Path.{_≡_}
-use mathlib.Core.Bool.{false}
-use Prim.Native.Nat.{ℕ, _≤_, _<_, _%_}
-use native.Mathlib.Omega.{arith}
-use lib.Dec.{eqb}
-use borrow.Author.Needs.{needs}
-use borrow.Author.Tests.{eq-eqb, ne-eqb, eqb-false}
-use Rattle.base.proofs.Test.{cases}
+use Rattle.base.proofs.{Prelude.{_≡_, false, ℕ, _≤_, _<_, _%_, arith, eqb, needs, eq-eqb, ne-eqb, eqb-false}, Test.cases}
 use Rattle.pusc_ul.specs.Tile.{isTilePilot, dataPlace}
 use Rattle.pusc_ul.proofs.data_place.Statement.{statement}
 use Rattle.pusc_ul.proofs.data_place.Tie as tie

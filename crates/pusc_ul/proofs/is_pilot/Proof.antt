@@ -1,5 +1,5 @@
 -- `pusc_ul::is_pilot` meets its contract.
-use borrow.Author.Tests.{eq-eqb, ne-eqb}
+use Rattle.base.proofs.Prelude.{eq-eqb, ne-eqb}
 use Rattle.pusc_ul.specs.Tile.{isTilePilot}
 use Rattle.pusc_ul.proofs.is_pilot.Statement.{statement}
 use Rattle.pusc_ul.proofs.is_pilot.Tie as tie

@@ -1,5 +1,5 @@
 -- `pusc_ul::spot` meets its contract.
-use borrow.Author.Needs.{needs}
+use Rattle.base.proofs.Prelude.{needs}
 use Rattle.pusc_ul.specs.Map.{spotOf}
 use Rattle.pusc_ul.proofs.spot.Statement.{statement}
 use Rattle.pusc_ul.proofs.spot.Tie as tie

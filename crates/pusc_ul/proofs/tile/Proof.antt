@@ -1,7 +1,6 @@
 -- `pusc_ul::tile` meets its contract.
-use borrow.Author.Needs.{needs}
-use Rattle.pusc_ul.specs.Tile.{tileOf}
-use Rattle.pusc_ul.specs.Model.{tileOfSeventy}
+use Rattle.base.proofs.Prelude.{needs}
+use Rattle.pusc_ul.specs.{Tile.tileOf, Model.tileOfSeventy}
 use Rattle.pusc_ul.proofs.tile.Statement.{statement}
 use Rattle.pusc_ul.proofs.tile.Tie as tie
 

@@ -1,9 +1,7 @@
 -- `pusc_ul::tile_of_seventy` meets its contract.
-use native.Mathlib.Omega.{arith}
-use borrow.Author.Needs.{needs}
+use Rattle.base.proofs.Prelude.{arith, needs}
 use Rattle.pusc_ul.specs.Model.{tileOfSeventy}
-use Rattle.pusc_ul.proofs.Tables.{q-perm}
-use Rattle.pusc_ul.proofs.tile_of_seventy.Statement.{statement}
+use Rattle.pusc_ul.proofs.{Tables.q-perm, tile_of_seventy.Statement.statement}
 use Rattle.pusc_ul.proofs.tile_of_seventy.Tie as tie
 
 reduce-requires-2 : tie.Need-reduce-requires-2

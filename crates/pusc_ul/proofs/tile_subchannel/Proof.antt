@@ -1,11 +1,7 @@
 -- `pusc_ul::tile_subchannel` meets its contract.
-use mathlib.Core.Path.{_≡_}
-use Prim.Native.Nat.{_/_, _%_}
-use native.Mathlib.Omega.{arith}
-use borrow.Author.Needs.{needs}
+use Rattle.base.proofs.Prelude.{_≡_, _/_, _%_, arith, needs}
 use Rattle.pusc_ul.specs.Tile.{tileSubchannel}
-use Rattle.pusc_ul.proofs.Tables.{q-perm}
-use Rattle.pusc_ul.proofs.tile_subchannel.Statement.{statement}
+use Rattle.pusc_ul.proofs.{Tables.q-perm, tile_subchannel.Statement.statement}
 use Rattle.pusc_ul.proofs.tile_subchannel.Tie as tie
 
 reduce-requires-2 : tie.Need-reduce-requires-2

@@ -1,13 +1,8 @@
 -- `pusc_ul_rows::carrier_row` meets its contract.
-use mathlib.Core.Path.{refl}
-use Prim.Native.Nat.{_-_, _<_}
-use native.Mathlib.Omega.{arith}
-use lib.Dec.{lit<}
-use borrow.Author.Needs.{needs}
+use Rattle.base.proofs.Prelude.{refl, _-_, _<_, arith, lit<, needs}
 use Rattle.pusc_ul.specs.Tile.{dataPlace, isTilePilot}
 use Rattle.pusc_ul_rows.specs.Model.{placeNumber}
-use Rattle.pusc_ul_rows.proofs.Row.{TileTurn, tiles-none, tiles-next, tiles-all, two-of}
-use Rattle.pusc_ul_rows.proofs.carrier_row.Statement.{statement}
+use Rattle.pusc_ul_rows.proofs.{Row.{TileTurn, tiles-none, tiles-next, tiles-all, two-of}, carrier_row.Statement.statement}
 use Rattle.pusc_ul_rows.proofs.carrier_row.Tie as tie
 
 abbrev Inv-loop : tie.InvT-loop

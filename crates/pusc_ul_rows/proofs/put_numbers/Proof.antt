@@ -1,14 +1,9 @@
 -- `pusc_ul_rows::put_numbers` meets its contract.
-use mathlib.Core.Path.{_≡_}
-use Prim.Native.Nat.{_+_, _-_, _*_, _/_, _<_}
-use native.Mathlib.Omega.{arith}
-use borrow.Author.Needs.{needs}
+use Rattle.base.proofs.{Prelude.{_≡_, _+_, _-_, _*_, _/_, _<_, arith, needs}, Tabulate.{Written, written-next}}
 use Rattle.base.specs.Steps.{entry}
-use Rattle.base.proofs.Tabulate.{Written, written-next}
 use Rattle.pusc_ul_rows.specs.Model.{rowNumber}
 use Rattle.pusc_ul.proofs.Law.{subchannel-lt}
-use Rattle.pusc_ul_rows.proofs.Points.{carrier-is, carrier-lt, no-pilot, few-points, number-at}
-use Rattle.pusc_ul_rows.proofs.put_numbers.Statement.{statement}
+use Rattle.pusc_ul_rows.proofs.{Points.{carrier-is, carrier-lt, no-pilot, few-points, number-at}, put_numbers.Statement.statement}
 use Rattle.pusc_ul_rows.proofs.put_numbers.Tie as tie
 
 abbrev Inv-loop : tie.InvT-loop

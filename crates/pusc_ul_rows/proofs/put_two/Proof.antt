@@ -1,5 +1,5 @@
 -- `pusc_ul_rows::put_two` meets its contract.
-use borrow.Author.Needs.{needs}
+use Rattle.base.proofs.Prelude.{needs}
 use Rattle.pusc_ul_rows.specs.Model.{putTwo}
 use Rattle.pusc_ul_rows.proofs.put_two.Statement.{statement}
 use Rattle.pusc_ul_rows.proofs.put_two.Tie as tie

@@ -1,13 +1,8 @@
 -- `pusc_ul_rows::row_numbers` meets its contract.
-use mathlib.Core.Path.{_≡_}
-use Prim.Native.Nat.{ℕ, _-_, _*_, _≤_}
-use native.Mathlib.Omega.{arith}
-use lib.ListN.{length, length-replicate}
-use borrow.Author.Needs.{needs}
+use Rattle.base.proofs.Prelude.{_≡_, ℕ, _-_, _*_, _≤_, arith, length, length-replicate, needs}
 use Rattle.base.specs.Model.{Starts}
 use Rattle.pusc_ul_rows.specs.Model.{rowNumber}
-use Rattle.pusc_ul_rows.proofs.Points.{seventies-are, seventies-few, row-is}
-use Rattle.pusc_ul_rows.proofs.row_numbers.Statement.{statement}
+use Rattle.pusc_ul_rows.proofs.{Points.{seventies-are, seventies-few, row-is}, row_numbers.Statement.statement}
 use Rattle.pusc_ul_rows.proofs.row_numbers.Tie as tie
 
 abbrev Inv-loop : tie.InvT-loop

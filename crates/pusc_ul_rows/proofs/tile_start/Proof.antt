@@ -1,10 +1,7 @@
 -- `pusc_ul_rows::tile_start` meets its contract.
-use Prim.Native.Nat.{_+_, _*_, _<_}
-use native.Mathlib.Omega.{arith}
-use borrow.Author.Needs.{needs}
+use Rattle.base.proofs.Prelude.{_+_, _*_, _<_, arith, needs}
 use Rattle.pusc_ul_rows.specs.Model.{tileStart}
-use Rattle.pusc_ul_rows.proofs.Row.{start-lt}
-use Rattle.pusc_ul_rows.proofs.tile_start.Statement.{statement}
+use Rattle.pusc_ul_rows.proofs.{Row.start-lt, tile_start.Statement.statement}
 use Rattle.pusc_ul_rows.proofs.tile_start.Tie as tie
 
 -- the sum is small

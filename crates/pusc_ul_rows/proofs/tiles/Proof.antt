@@ -1,8 +1,5 @@
 -- `pusc_ul_rows::tiles` meets its contract.
-use Prim.Native.Nat.{_-_}
-use native.Mathlib.Omega.{arith}
-use borrow.Author.Needs.{needs}
-use Rattle.base.proofs.Tabulate.{Written, written-none, written-next, written-starts}
+use Rattle.base.proofs.{Prelude.{_-_, arith, needs}, Tabulate.{Written, written-none, written-next, written-starts}}
 use Rattle.pusc_ul.specs.Tile.{tileSubchannel}
 use Rattle.pusc_ul_rows.proofs.tiles.Statement.{statement}
 use Rattle.pusc_ul_rows.proofs.tiles.Tie as tie

@@ -1,15 +1,10 @@
 -- `row_walk::drop_run` meets its contract.
-use mathlib.Core.Path.{_≡_}
-use mathlib.Core.Bool.{true}
-use Prim.Native.Nat.{_*_}
-use borrow.Author.Needs.{needs}
+use Rattle.base.proofs.Prelude.{_≡_, true, _*_, needs}
 use Rattle.map.specs.Setup.{alone}
 use Rattle.mask.specs.Mask.{isUsedLit}
 use Rattle.runs.specs.Model.{runStep}
 use Rattle.runs.proofs.Law.{run-is, run-dark, run-bright}
-use Rattle.row_walk.proofs.Taken.{dark-run}
-use Rattle.row_walk.proofs.Dropped.{run-asks, run-dropped, from-small}
-use Rattle.row_walk.proofs.drop_run.Statement.{statement}
+use Rattle.row_walk.proofs.{Taken.dark-run, Dropped.{run-asks, run-dropped, from-small}, drop_run.Statement.statement}
 use Rattle.row_walk.proofs.drop_run.Tie as tie
 
 returns : tie.Need-returns

@@ -1,18 +1,11 @@
 -- `row_walk::empty_row` meets its contract.
-use mathlib.Core.Path.{_≡_, refl, ap, _∙_}
-use Prim.Native.Nat.{ℕ, _+_, _-_, _*_, _<_, _≤_}
-use native.Mathlib.Omega.{arith}
-use borrow.Author.Needs.{needs}
-use Rattle.carriers.specs.declared.Band.{Band}
-use Rattle.carriers.specs.Band.{carrierOf}
-use Rattle.map.specs.Setup.{alone}
-use Rattle.map.specs.Mode.{symbols}
+use Rattle.base.proofs.Prelude.{_≡_, refl, ap, _∙_, ℕ, _+_, _-_, _*_, _<_, _≤_, arith, needs}
+use Rattle.carriers.specs.{declared.Band.Band, Band.carrierOf}
+use Rattle.map.specs.{Setup.alone, Mode.symbols}
 use Rattle.map.proofs.ByMode.{few, slot-few, row-few}
-use Rattle.runs.specs.declared.Runs.{Runs}
-use Rattle.runs.specs.Model.{runStep, runCount, runsOf}
+use Rattle.runs.specs.{declared.Runs.Runs, Model.{runStep, runCount, runsOf}}
 use Rattle.row_walk.specs.Model.{Took, runStart}
-use Rattle.row_walk.proofs.Taken.{took-then, took-past, row-start, row-done, row-over}
-use Rattle.row_walk.proofs.Dropped.{start-used, start-small, start-is}
+use Rattle.row_walk.proofs.{Taken.{took-then, took-past, row-start, row-done, row-over}, Dropped.{start-used, start-small, start-is}}
 use Rattle.row_walk.proofs.empty_row.Statement.{statement}
 use Rattle.row_walk.proofs.empty_row.Tie as tie
 

@@ -1,6 +1,5 @@
 -- `rows::shift` meets its contract.
-use native.Mathlib.Omega.{arith}
-use borrow.Author.Needs.{needs}
+use Rattle.base.proofs.Prelude.{arith, needs}
 use Rattle.map.proofs.Choice.{choosing}
 use Rattle.rows.specs.Model.{shiftOf}
 use Rattle.rows.proofs.shift.Statement.{statement}

@@ -1,7 +1,6 @@
 -- `rows::spots` meets its contract.
-use borrow.Author.Needs.{needs}
-use Rattle.rows.proofs.Row.{asks-0, asks-2, row-0, row-below, bin-row, group-number-lt, spot-2, only-ofusc}
-use Rattle.rows.proofs.spots.Statement.{statement}
+use Rattle.base.proofs.Prelude.{needs}
+use Rattle.rows.proofs.{Row.{asks-0, asks-2, row-0, row-below, bin-row, group-number-lt, spot-2, only-ofusc}, spots.Statement.statement}
 use Rattle.rows.proofs.spots.Tie as tie
 
 spots-requires : tie.Need-spots-requires

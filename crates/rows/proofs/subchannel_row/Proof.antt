@@ -1,5 +1,5 @@
 -- `rows::subchannel_row` meets its contract.
-use native.Mathlib.Omega.{arith}
+use Rattle.base.proofs.Prelude.{arith}
 use Rattle.map.proofs.ByMode.{few}
 use Rattle.rows.proofs.subchannel_row.Statement.{statement}
 use Rattle.rows.proofs.subchannel_row.Tie as tie

@@ -1,6 +1,5 @@
 -- `runs::points_below` meets its contract.
-use mathlib.Core.Path.{ap, _∙_}
-use borrow.Author.Needs.{needs}
+use Rattle.base.proofs.Prelude.{ap, _∙_, needs}
 use Rattle.base.specs.Steps.{unskip}
 use Rattle.runs.specs.Model.{pointsBelow}
 use Rattle.runs.proofs.points_below.Statement.{statement}

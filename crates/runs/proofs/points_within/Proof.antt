@@ -1,6 +1,5 @@
 -- `runs::points_within` meets its contract.
-use borrow.Author.Needs.{needs}
-use borrow.Author.Tests.{lt-ltb, le-ltb}
+use Rattle.base.proofs.Prelude.{needs, lt-ltb, le-ltb}
 use Rattle.runs.specs.Model.{pointsWithin}
 use Rattle.runs.proofs.points_within.Statement.{statement}
 use Rattle.runs.proofs.points_within.Tie as tie

@@ -1,6 +1,5 @@
 -- `runs::run_lit` meets its contract.
-use borrow.Author.Needs.{needs}
-use borrow.Author.Tests.{eq-eqb, ne-eqb}
+use Rattle.base.proofs.Prelude.{needs, eq-eqb, ne-eqb}
 use Rattle.runs.specs.Model.{runLit}
 use Rattle.runs.proofs.run_lit.Statement.{statement}
 use Rattle.runs.proofs.run_lit.Tie as tie

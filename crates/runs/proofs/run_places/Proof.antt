@@ -1,11 +1,7 @@
 -- `runs::run_places` meets its contract.
-use mathlib.Core.Path.{_≡_, ap, _∙_}
-use Prim.Native.Nat.{ℕ, _-_}
-use borrow.Author.Needs.{needs}
+use Rattle.base.proofs.{Prelude.{_≡_, ap, _∙_, ℕ, _-_, needs}, Tabulate.{Written, written-none, written-next, written-all}}
 use Rattle.base.specs.Steps.{skip}
-use Rattle.base.proofs.Tabulate.{Written, written-none, written-next, written-all}
-use Rattle.runs.specs.declared.Runs.{Runs}
-use Rattle.runs.specs.Model.{runPlace}
+use Rattle.runs.specs.{declared.Runs.Runs, Model.runPlace}
 use Rattle.runs.proofs.run_places.Statement.{statement}
 use Rattle.runs.proofs.run_places.Tie as tie
 

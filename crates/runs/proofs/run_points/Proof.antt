@@ -1,5 +1,5 @@
 -- `runs::run_points` meets its contract.
-use borrow.Author.Needs.{needs}
+use Rattle.base.proofs.Prelude.{needs}
 use Rattle.runs.proofs.run_points.Statement.{statement}
 use Rattle.runs.proofs.run_points.Tie as tie
 

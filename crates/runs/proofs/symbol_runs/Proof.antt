@@ -1,12 +1,8 @@
 -- `runs::symbol_runs` meets its contract.
-use mathlib.Core.Path.{_∙_}
+use Rattle.base.proofs.Prelude.{_∙_, arith, needs}
 use Rattle.ofusc.proofs.Sequence.{size}
-use Rattle.map.proofs.ByMode.{bin-width}
-use native.Mathlib.Omega.{arith}
-use Rattle.map.proofs.Choice.{told-bins, unlisted-bins}
-use borrow.Author.Needs.{needs}
-use Rattle.runs.proofs.Law.{runs-0, runs-1, runs-bins, runs-none}
-use Rattle.runs.proofs.symbol_runs.Statement.{statement}
+use Rattle.map.proofs.{ByMode.bin-width, Choice.{told-bins, unlisted-bins}}
+use Rattle.runs.proofs.{Law.{runs-0, runs-1, runs-bins, runs-none}, symbol_runs.Statement.statement}
 use Rattle.runs.proofs.symbol_runs.Tie as tie
 
 returns : tie.Need-returns

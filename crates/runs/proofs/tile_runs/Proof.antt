@@ -1,5 +1,5 @@
 -- `runs::tile_runs` meets its contract.
-use borrow.Author.Tests.{eq-eqb, ne-eqb}
+use Rattle.base.proofs.Prelude.{eq-eqb, ne-eqb}
 use Rattle.runs.proofs.tile_runs.Statement.{statement}
 use Rattle.runs.proofs.tile_runs.Tie as tie
 

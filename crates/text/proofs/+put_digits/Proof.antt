@@ -2,13 +2,10 @@
 use borrow.Author.Needs.{needs}
 use native.Mathlib.Omega.{arith}
 use mathlib.Core.Path.{ap}
-use Prim.Native.Nat.{ℕ, _<_}
 use lib.ListN.{length}
-use borrow.Fn.Kinds.{In}
-use borrow.Fn.PlainCycle.{Measures, is, falls, and}
-use Rattle.text.proofs.Laws.{decimal-one, length-more, one-digit, more-digits}
-use Rattle.text.proofs.+put_digits.{statement}
-use Rattle.text.proofs.+put_digits.Tie.{close}
+use borrow.Fn.{Kinds.In, PlainCycle.{Measures, is, falls, and}}
+use Rattle.text.proofs.{Laws.{decimal-one, length-more, one-digit, more-digits}, +put_digits.statement, +put_digits.Tie.close}
+use Prim.Native.Nat.{ℕ, _<_}
 use Rattle.text.proofs.put_digits.Reads as put-digits
 use Rattle.text.proofs.put_digits.Kinds as put-digits-kinds
 use Rattle.text.proofs.+put_digits.Lts-put_digits as put-digits-lts

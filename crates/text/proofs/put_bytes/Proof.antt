@@ -1,11 +1,10 @@
 -- `text::put_bytes` meets its contract. The loop's invariant: the first i bytes are put, and `dest` is as long as it was.
 use borrow.Author.Needs.{needs}
 use mathlib.Core.Path.{_≡_, refl, sym}
-use Prim.Native.Nat.{_≤_, _-_}
 use lib.ListN.{length, take, length-set}
 use Rattle.text.specs.Text.{put}
-use Rattle.text.proofs.Laws.{put-none, put-next, all-bytes}
-use Rattle.text.proofs.put_bytes.Statement.{statement}
+use Rattle.text.proofs.{Laws.{put-none, put-next, all-bytes}, put_bytes.Statement.statement}
+use Prim.Native.Nat.{_≤_, _-_}
 use Rattle.text.proofs.put_bytes.Tie as tie
 
 abbrev Inv-loop : tie.InvT-loop

@@ -1,8 +1,7 @@
 -- `text::put_number` meets its contract: 20 digits are enough for any number.
 use borrow.Author.Needs.{needs}
 use native.Mathlib.Omega.{arith}
-use Rattle.text.proofs.Laws.{decimal-fits}
-use Rattle.text.proofs.put_number.Statement.{statement}
+use Rattle.text.proofs.{Laws.decimal-fits, put_number.Statement.statement}
 use Rattle.text.proofs.put_number.Tie as tie
 
 put-digits-requires : tie.Need-put-digits-requires

@@ -1,16 +1,10 @@
 -- `value::read` meets its contract: what each answer says is the value of the bytes from the place on.
-use mathlib.Core.Path.{_≡_, sym, ap, _∙_}
-use mathlib.Core.List.{List}
-use Prim.Native.Nat.{ℕ, suc, _+_, _<_, _≤_}
-use native.Mathlib.Omega.{arith}
+use Rattle.base.proofs.Prelude.{_≡_, sym, ap, _∙_, List, ℕ, suc, _+_, _<_, _≤_, arith, length, drop, getD, needs}
 use native.Mathlib.Numerals.{add-one}
-use lib.ListN.{length, drop, getD, drop-of-length-le}
-use lib.Seq.{drop-cons}
-use borrow.Author.Needs.{needs}
+use lib.{ListN.drop-of-length-le, Seq.drop-cons}
 use Rattle.base.specs.Answer.{Answer, accepted, refused}
 use Rattle.value.specs.Value.{Value, more, valueIn, valueOf}
-use Rattle.value.proofs.Laws.{last, follow, some, nil}
-use Rattle.value.proofs.read.Statement.{statement}
+use Rattle.value.proofs.{Laws.{last, follow, some, nil}, read.Statement.statement}
 use Rattle.value.proofs.read.Tie as tie
 
 -- what stands from a place on: no byte, a last byte, or a byte that more follow

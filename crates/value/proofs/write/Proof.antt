@@ -1,19 +1,10 @@
 -- `value::write` meets its contract: the stores put the value's bytes.
-use mathlib.Core.Path.{_≡_, refl}
-use mathlib.Core.List.{List, [], _∷_}
-use Prim.Native.Nat.{ℕ, suc, _+_, _/_, _%_, _<_, _≤_}
-use native.Mathlib.Omega.{arith}
+use Rattle.base.proofs.{Prelude.{_≡_, refl, List, [], _∷_, ℕ, suc, _+_, _/_, _%_, _<_, _≤_, arith, length, set, needs, ltb, le-ltb}, Test.cases}
 use native.Mathlib.Numerals.{add-one, add-two}
-use lib.ListN.{length, set}
 use lib.Seq.{sets, sets-eq}
-use borrow.Author.Needs.{needs}
-use lib.Dec.{ltb}
-use borrow.Author.Tests.{le-ltb}
-use Rattle.base.proofs.Test.{cases}
 use Rattle.text.specs.Text.{put, Put}
 use Rattle.value.specs.Value.{encodeIn, encode}
-use Rattle.value.proofs.Laws.{encode-1, encode-2, encode-3}
-use Rattle.value.proofs.write.Statement.{statement}
+use Rattle.value.proofs.{Laws.{encode-1, encode-2, encode-3}, write.Statement.statement}
 use Rattle.value.proofs.write.Tie as tie
 
 -- a run of stores puts the bytes

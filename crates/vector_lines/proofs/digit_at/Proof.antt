@@ -1,8 +1,7 @@
 -- `vector_lines::digit_at` meets its contract.
 use mathlib.Core.Path.{sym}
 use borrow.Author.Needs.{needs}
-use Rattle.vector_lines.proofs.Reading.{digit-past, digit-low, digit-high, digit-in}
-use Rattle.vector_lines.proofs.digit_at.Statement.{statement}
+use Rattle.vector_lines.proofs.{Reading.{digit-past, digit-low, digit-high, digit-in}, digit_at.Statement.statement}
 use Rattle.vector_lines.proofs.digit_at.Tie as tie
 
 pub digit-at-spec : {M : Type 1} → statement M

@@ -1,9 +1,9 @@
 -- `vector_lines::fields` is safe and ends. The measure is the number of fields that are left.
 use borrow.Author.Needs.{needs}
-use Prim.Native.Nat.{_-_}
 use mathlib.Core.Path.{_≡_}
 use lib.ListN.{length}
 use Rattle.vector_lines.proofs.fields.Statement.{statement}
+use Prim.Native.Nat.{_-_}
 use Rattle.vector_lines.proofs.fields.Tie as tie
 
 abbrev Inv-loop : tie.InvT-loop

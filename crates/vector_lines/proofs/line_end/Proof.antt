@@ -1,8 +1,8 @@
 -- `vector_lines::line_end` meets its contract. The measure is what is left of the source.
 use borrow.Author.Needs.{needs}
-use Prim.Native.Nat.{_-_, _≤_}
 use lib.ListN.{length}
 use Rattle.vector_lines.proofs.line_end.Statement.{statement}
+use Prim.Native.Nat.{_-_, _≤_}
 use Rattle.vector_lines.proofs.line_end.Tie as tie
 
 abbrev Inv-loop : tie.InvT-loop

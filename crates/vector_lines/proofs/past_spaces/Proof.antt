@@ -1,11 +1,10 @@
 -- `vector_lines::past_spaces` meets its contract. The loop's invariant: what is left gives the answer. The measure is what is left of the source.
 use borrow.Author.Needs.{needs}
-use Prim.Native.Nat.{_-_}
 use mathlib.Core.Path.{_≡_, refl, sym, _∙_}
 use lib.ListN.{length, drop}
 use Rattle.vector_lines.specs.Model.{pastSpaces}
-use Rattle.vector_lines.proofs.Reading.{space-more, space-none, space-end}
-use Rattle.vector_lines.proofs.past_spaces.Statement.{statement}
+use Rattle.vector_lines.proofs.{Reading.{space-more, space-none, space-end}, past_spaces.Statement.statement}
+use Prim.Native.Nat.{_-_}
 use Rattle.vector_lines.proofs.past_spaces.Tie as tie
 
 abbrev Inv-loop : tie.InvT-loop

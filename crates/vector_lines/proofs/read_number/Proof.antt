@@ -1,12 +1,11 @@
 -- `vector_lines::read_number` meets its contract. The loop's invariant: what is left gives the answer. The measure is what is left of the source.
 use borrow.Author.Needs.{needs}
-use Prim.Native.Nat.{ℕ, _-_, _<_}
 use native.Mathlib.Omega.{arith}
 use mathlib.Core.Path.{_≡_, sym, ap, _∙_}
 use lib.ListN.{length, getD, drop}
 use Rattle.vector_lines.specs.Model.{digitOf, readOn, parsedAt}
-use Rattle.vector_lines.proofs.Reading.{within, reads-on, reads-end}
-use Rattle.vector_lines.proofs.read_number.Statement.{statement}
+use Rattle.vector_lines.proofs.{Reading.{within, reads-on, reads-end}, read_number.Statement.statement}
+use Prim.Native.Nat.{ℕ, _-_, _<_}
 use Rattle.vector_lines.proofs.read_number.Tie as tie
 
 abbrev Inv-loop : tie.InvT-loop

@@ -1,10 +1,7 @@
 -- `zone::fields_refusal` meets its contract.
-use mathlib.Core.Path.{sym, _∙_}
-use borrow.Author.Needs.{needs}
-use Rattle.base.proofs.Test.{told-no, told-yes}
+use Rattle.base.proofs.{Prelude.{sym, _∙_, needs}, Test.{told-no, told-yes}}
 use Rattle.map.proofs.Outcome.{setup-no, setup-then}
-use Rattle.zone.proofs.Number.{fields-uplink, fields-other}
-use Rattle.zone.proofs.fields_refusal.Statement.{statement}
+use Rattle.zone.proofs.{Number.{fields-uplink, fields-other}, fields_refusal.Statement.statement}
 use Rattle.zone.proofs.fields_refusal.Tie as tie
 
 pub fields-refusal-spec : {M : Type 1} → statement M

@@ -1,5 +1,5 @@
 -- `zone::is_amc` meets its contract.
-use native.Mathlib.Omega.{arith}
+use Rattle.base.proofs.Prelude.{arith}
 use borrow.Author.Tests.{lt-leb, le-leb}
 use Rattle.zone.specs.Zone.{isAmc}
 use Rattle.zone.proofs.is_amc.Statement.{statement}

@@ -1,7 +1,5 @@
 -- `zone::is_order` meets its contract: of the first zone, and of a zone after another.
-use borrow.Author.Needs.{needs}
-use borrow.Author.Tests.{eq-eqb, ne-eqb}
-use Rattle.base.proofs.Test.{told-no, told-yes}
+use Rattle.base.proofs.{Prelude.{needs, eq-eqb, ne-eqb}, Test.{told-no, told-yes}}
 use Rattle.zone.specs.Zone.{isOpening, isFollowing}
 use Rattle.zone.proofs.is_order.Statement.{statement}
 use Rattle.zone.proofs.is_order.Tie as tie

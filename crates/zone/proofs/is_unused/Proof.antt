@@ -1,15 +1,8 @@
 -- `zone::is_unused` meets its contract: numbers are all 0 exactly when their bits together are.
-use mathlib.Core.Path.{_≡_}
-use mathlib.Core.Bool.{false}
-use Prim.Native.Nat.{ℕ}
-use native.Mathlib.Omega.{arith}
-use lib.Dec.{eqb}
+use Rattle.base.proofs.{Prelude.{_≡_, false, ℕ, arith, eqb, eqb-true, eqb-false, ne-eqb}, Test.cases}
 use lib.Bits.{bitOr, or-zero-l, or-add-and, and-le-l, and-comm}
-use borrow.Author.Tests.{eqb-true, eqb-false, ne-eqb}
 use Rattle.base.specs.Choice.{pick}
-use Rattle.base.proofs.Test.{cases}
-use Rattle.zone.specs.declared.Zone.{Zone}
-use Rattle.zone.specs.Zone.{isUnused}
+use Rattle.zone.specs.{declared.Zone.Zone, Zone.isUnused}
 use Rattle.zone.proofs.is_unused.Statement.{statement}
 use Rattle.zone.proofs.is_unused.Tie as tie
 

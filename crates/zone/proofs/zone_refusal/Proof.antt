@@ -1,10 +1,8 @@
 -- `zone::zone_refusal` meets its contract.
-use mathlib.Core.Path.{sym, ap, _∙_}
-use borrow.Author.Needs.{needs}
+use Rattle.base.proofs.Prelude.{sym, ap, _∙_, needs}
 use Rattle.base.specs.Answer.{accepted, refused, refusalOf}
 use Rattle.zone.specs.Model.{zoneRefusal}
-use Rattle.zone.proofs.Number.{fields-no, fields-then}
-use Rattle.zone.proofs.zone_refusal.Statement.{statement}
+use Rattle.zone.proofs.{Number.{fields-no, fields-then}, zone_refusal.Statement.statement}
 use Rattle.zone.proofs.zone_refusal.Tie as tie
 
 pub zone-refusal-spec : {M : Type 1} → statement M
