@@ -120,7 +120,7 @@ module _ (a b : Burst) where
       let in-slots = shared-common (a .slot) (a .slots) (b .slot) (b .slots) (some .1 .0) (some′ .1 .0) (t .1) in
       (covering-is a _ _ (in-subchannels .0) (in-slots .0), covering-is b _ _ (in-subchannels .1) (in-slots .1))
 
-  -- they overlap by their edges
+  -- Two bursts overlap exactly when their edges say so.
   pub edges-overlap : edgesOverlap (edgesOf a) (edgesOf b) ≡ isOverlap a b
   unfolding edgesOverlap isOverlap
   edges-overlap = refl

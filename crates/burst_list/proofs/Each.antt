@@ -18,7 +18,7 @@ module _ (numbers : List ℕ) where
   list-of e = let h = both-true _ _ e in (eqb-true _ _ (h .0), leb-true _ _ (h .1))
 
 module _ (subchannelEnd slotEnd : ℕ) (numbers : List ℕ) where
-  -- to so many bursts from position i on, and to the list
+  -- The questions to so many bursts from position i on, and to the list, each as a list of tests.
   abbrev each : (many i : ℕ) → Questions
   each zero i = []
   each (suc many) i = (isInside subchannelEnd slotEnd (burstAt numbers i), 18) ∷ (isApart numbers i, 19) ∷ each many (suc i)
@@ -60,7 +60,7 @@ module _ (subchannelEnd slotEnd : ℕ) (numbers : List ℕ) where
   unfolding listRefusal
   no-list e = rw e
 
-  -- after those that pass
+  -- Where the bursts before position i pass, the list comes to what the bursts from there on come to.
   module _ (l : isList numbers ≡ true) where
     past : (i many : ℕ) → i + many ≡ burstCount numbers → Passes i → firstNo (each many i) ≡ listRefusal subchannelEnd slotEnd numbers
     past zero many e p = let all : burstCount numbers ≡ many = omega arith in rw (number-is, all, l)

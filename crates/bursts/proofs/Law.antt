@@ -174,7 +174,7 @@ module _ (size : ℕ) (zone : Zone) (numbers : List ℕ) where
           let a : Answered = record { zone-passed = fields .0; slot-lt = ltb-true slot 512 (yes .0); list-passed = rest .1 } in
           (a, owner-is a (ltb-true s end (yes .1 .0)))
 
-      -- either that, or the refusal has no owner
+      -- An owner's outcome is either the answer for an accepted list, or a refusal, which has no owner.
       by-answer : {A : Type 0} → (Answered → outcome .owner ≡ ownerAt numbers slot s → outcome .looked ≡ lookedAt numbers slot s → A)
           → ((outcome .refusal ≡ 0 → ⊥) → outcome .owner ≡ noOwner → outcome .looked ≡ 0 → A) → A
       unfolding ownerOf
@@ -212,7 +212,7 @@ module _ (size : ℕ) (zone : Zone) (numbers : List ℕ) where
           (λ a o l. o ∙ by-owner numbers slot s (λ i lt c e e′. absurd (let in-zone = list-fit (a .list-passed) .all-fit .in-zone i lt slot s c in omega arith)) (λ none e e′. e))
           (λ n o l. o)
 
-    -- the row in the same way
+    -- The row of a slot's owners is either that of an accepted list, or a refusal's.
     abbrev rows : OwnerRow
     rows = ownersOf size zone slot numbers
 

@@ -12,6 +12,11 @@ use Rattle.plan_read.specs.Read.{planWith, planOf, readZones, readValues
 abbrev zone : ℕ → ℕ → ℕ → ℕ → Zone
 zone m c n k = record { mode = m; cell = c; slots = n; mask = k }
 
+-- a plan of two zones at 1024
+pub two-zones : planOf (2 ∷ 0x80 ∷ 0x08 ∷ 2 ∷ 0x11 ∷ 3 ∷ 0 ∷ 3 ∷ 0xB0 ∷ 1 ∷ 1 ∷ 0 ∷ []) ≡ accepted (planWith 2 1024 (zone 2 17 3 0 ∷ zone 3 176 1 0 ∷ []))
+unfolding planOf readZones readValues valueIn isZoneMode isUpTo isMask isOpening isAmc isFollowing inPlaces isSize isCell isFourSizes cells width
+two-zones = refl
+
 -- Document 02: the starred plan line of document 01's known points with any first cell (wish 1) and the mask 3F (wish 5). With 02 for its mode and 00 for its mask it is the first refusal below.
 pub any-first-cell : (cell : ℕ) → cell < 32 → planOf (1 ∷ 0x80 ∷ 0x10 ∷ 0 ∷ cell ∷ 0x0C ∷ 0x3F ∷ []) ≡ accepted (planWith 1 2048 (zone 0 cell 12 63 ∷ []))
 unfolding planOf readZones readValues valueIn isZoneMode isUpTo isMask isOpening isAmc isFollowing inPlaces isSize isCell isFourSizes cells width

@@ -95,7 +95,7 @@ either : (a : Bool) → pick a true true ≡ true
 either true = refl
 either false = refl
 
--- so a run's points are its other places
+-- A run's points are the places that are no pilots.
 module _ {c : Setup} {y : ℕ} (law : RunLaw c y) (i : ℕ) where
   abbrev b : Runs
   b = runsOf c y
@@ -170,7 +170,7 @@ pub all-points : (b : Runs) → b .step ≤ b .first → b .step ≤ b .second �
 unfolding pointsBelow
 all-points b f s = ap (unskip (b .first)) (unskip-below (b .second) (b .step) s) ∙ unskip-below (b .first) (b .step) f
 
--- no more than its places
+-- A run has no more points than places.
 pub few-points : (b : Runs) → runPoints b ≤ b .step
 unfolding pointsBelow
 few-points b = omega (arith, unskip-le (b .first) (unskip (b .second) (b .step)), unskip-le (b .second) (b .step))

@@ -31,7 +31,7 @@ runStep setup = byMode (setup .mode) 14 4 9 9 1
 unfoldable pub runCount : (setup : Setup) → ℕ
 runCount setup = byMode (setup .mode) 120 420 (6 * width setup) (6 * width setup) 0
 
--- The places of a run's pilots in symbol y. One that is not there stands past the run's end: both in the middle symbol of a tile, the second in a bin. The first stands before the second.
+-- The places of a run's pilots in symbol y. One that is not there stands past the run's end: both in the middle symbol of a tile, the second in a bin. Where there are runs, the first stands before the second.
 abbrev pub tileRuns : (y : ℕ) → Runs
 tileRuns y = record { first = pick (eqb (y % 3) 1) 4 0; second = pick (eqb (y % 3) 1) 5 3; step = 4; count = 420 }
 

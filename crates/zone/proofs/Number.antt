@@ -15,13 +15,13 @@ module _ (size : ℕ) (z : Zone) where
   unfolding fieldsRefusal isZoneMode
   fields-uplink e = rw e
 
-  -- in any mode but 1 they are the map's, then 13 and 17
+  -- In any mode but 1 a zone's own questions are the map's first three, then 13 and 17.
   pub fields-other : (z .mode ≡ 1 → ⊥) → (n : ℕ)
       → n ≡ refusalOf (askSetup {A = Unit {0}} (setupOf size z) (ask (isSlots (z .slots)) 13 (ask (isMask (z .mode) (z .mask)) 17 (accepted tt)))) → n ≡ fieldsRefusal size z
   unfolding fieldsRefusal isZoneMode isMode
   fields-other u n e = rw (ne-eqb (z .mode) 1 u) e
 
-  -- before what comes after them, by the number that a function gave
+  -- What the questions come to before any answer, by the number that a function gave.
   module _ {A : Type 0} (k : ℕ) (e : k ≡ fieldsRefusal size z) (rest : Answer A) where
     pub fields-no : (k ≡ 0 → ⊥) → refused k ≡ askFields size z rest
     unfolding fieldsRefusal

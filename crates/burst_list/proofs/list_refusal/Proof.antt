@@ -30,7 +30,7 @@ edges : (c : tie.After-end-of2 Inv-loop μ-loop) → let b = c .before .before .
     _≡_ {A = Edges} (record { start = b .subchannel; end = c .before .before .end-of .result; «slot_start» = b .slot; «slot_end» = c .end-of2 .result }) (edgesOf (burstAt (c .before .before .before .before .before .before .before .before .before .before .before .before .args .bursts .now) (c .before .before .before .before .before .before .before .before .loop .i)))
 edges c = rw (c .before .before .end-of .ensures, c .end-of2 .ensures) (ap edgesOf (c .before .before .before .before .before .before .burst-at .ensures))
 
--- so that 19 goes by the list's own
+-- The test of the kept edges is the list's own test of question 19.
 apart : (c : tie.After-is-apart Inv-loop μ-loop) → c .is-apart .result ≡ isApart (c .before .before .before .before .before .before .before .before .before .before .before .before .before .before .before .before .args .bursts .now) (c .before .before .before .before .before .before .before .before .before .before .before .before .loop .i)
 apart c =
     let kept = c .before .before in
