@@ -10,7 +10,7 @@ use Rattle.ofusc.specs.{Width.Width, Map.{groupOf, cellTerm, dataNumber}}
 use Rattle.ofusc_rows.specs.Model.{cellNumber, groupNumber}
 use Rattle.ofusc.proofs.{Sequence.pos, Law.element-lt}
 use Rattle.ofusc_rows.proofs.Row.{with-subchannel}
-use Rattle.map.specs.{Setup.setupWith, Mode.{width, symbols, band, spotOf}}
+use Rattle.map.specs.{Setup.setupWith, Mode.{widthOf, symbolsOf, bandOf, spotOf}}
 use Rattle.map.proofs.Accept.{width-is}
 use Rattle.collision.specs.Collision.{indexIn, columnIn, ofuscHit}
 
@@ -59,7 +59,7 @@ module _ {n : ℕ} (w : Width n) (k : ℕ) (h : k < 48) where
   number-in cell s = ap (λ (g : ℕ). g * n + bitXor s (cellTerm n cell g)) (group-in s k h)
 
   column-in : (cell slot s : ℕ) → columnIn (setupWith 2 (64 * n) cell) slot s k ≡ columnAt n slot (k * n + element cell s)
-  unfolding columnIn spotOf symbols width band
+  unfolding columnIn spotOf symbolsOf widthOf bandOf
   column-in cell slot s = rw (width-is n, number-in cell s, one-symbol slot)
 
   -- the carriers of a group are different

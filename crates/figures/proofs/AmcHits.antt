@@ -5,7 +5,7 @@ use Rattle.ofusc.specs.Width.{Width}
 use Rattle.ofusc.proofs.Sequence.{pos}
 use Rattle.amc.specs.{declared.Shape.Shape, Model.IsShape, Map.{traffic, trafficNumber, dataNumber}}
 use Rattle.amc.proofs.Law.{traffic-lt, traffic-back, offset-lt, number-below}
-use Rattle.map.specs.{Place.{Place, usedCarrier, placeAt, placeOf}, Setup.setupWith, Mode.{shapeOf, width, subchannels, symbols, band, spotOf}}
+use Rattle.map.specs.{Place.{Place, usedCarrier, placeAt, placeOf}, Setup.setupWith, Mode.{shapeOf, widthOf, subchannels, subchannelsOf, symbolsOf, bandOf, spotOf}}
 use Rattle.map.specs.Model.{IsAmc, amc}
 use Rattle.map.proofs.{Accept.width-is, Choice.{amc-shape, amc-column}, Law.place-accepts}
 use Rattle.collision.specs.Collision.{amcHit}
@@ -28,7 +28,7 @@ module _ {mode : ℕ} (q : IsAmc mode) {n : ℕ} (w : Width n) (slot s : ℕ) wh
 
   placed : (cell j : ℕ) → cell < 2352 → slot < 512 → s < subchannels (setupWith mode (64 * n) cell) → j < 48
       → placeOf (setupWith mode (64 * n) cell) slot s j ≡ accepted (at (traffic cell j))
-  unfolding usedCarrier placeAt spotOf symbols band width dataNumber
+  unfolding usedCarrier placeAt spotOf symbolsOf bandOf widthOf dataNumber
   placed cell j h hy hs hj =
       place-accepts (setupWith mode (64 * n) cell) slot s j (amc q w h) hy hs hj
       ∙ simp (amc-column, width-is n)
@@ -50,7 +50,7 @@ module _ {mode : ℕ} (q : IsAmc mode) {n : ℕ} (w : Width n) (slot s : ℕ) wh
 
   module _ (a b j : ℕ) (ha : a < 2352) (hb : b < 2352) (hy : slot < 512) (hs : s < subchannels (setupWith mode (64 * n) a)) (hj : j < 48) where
     pub amc-met : amcHit a b j ≡ true → SamePlace (placeOf (setupWith mode (64 * n) a) slot s j) (placeOf (setupWith mode (64 * n) b) slot s j)
-    unfolding amcHit subchannels width
+    unfolding amcHit subchannelsOf widthOf
     amc-met e =
         record {
           at = at (traffic a j);
@@ -59,7 +59,7 @@ module _ {mode : ℕ} (q : IsAmc mode) {n : ℕ} (w : Width n) (slot s : ℕ) wh
         }
 
     pub amc-meets : SamePlace (placeOf (setupWith mode (64 * n) a) slot s j) (placeOf (setupWith mode (64 * n) b) slot s j) → amcHit a b j ≡ true
-    unfolding amcHit subchannels width
+    unfolding amcHit subchannelsOf widthOf
     amc-meets c =
         let hs′ : s < n * shape .symbols = simp (amc-column, width-is n) at hs in
         let same : at (traffic a j) ≡ at (traffic b j) = same-accepted (sym (placed a j ha hy hs hj) ∙ c .first ∙ sym (c .second) ∙ placed b j hb hy hs hj) in

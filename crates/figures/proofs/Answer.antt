@@ -1,7 +1,7 @@
 -- What the two calls answer where they accept: the marks, one by one, and their count.
 use Rattle.base.proofs.{Prelude.{_≡_, refl, sym, ap, _∙_, Bool, false, List, ℕ, _*_, _<_, getD, lt-ltb}, Tabulate.getD-tabulate}
 use Rattle.base.specs.{Answer.{Answer, accepted, refused}, Tabulate.tabulate}
-use Rattle.map.specs.{Mode.{width, cells, subchannels}, Question.{isCell, isSubchannel}}
+use Rattle.map.specs.{Mode.{widthOf, cellsOf, subchannelsOf}, Question.{isCell, isSubchannel}}
 use Rattle.map.proofs.Accept.{size-passes, width-is}
 use Rattle.collision.specs.{declared.Collisions.Collisions, Collision.{countOf, ofuscHit, amcHit, answerOf, ofuscOf, amcOf}}
 use Rattle.figures.specs.Word.{Pair}
@@ -12,7 +12,7 @@ module _ {n a s b t : ℕ} (p : Pair n a s b t) where
   hit = ofuscHit (64 * n) a s b t
 
   ofusc-answer : answerOf (accepted hit) ≡ ofuscOf (64 * n) a s b t
-  unfolding ofuscOf isCell isSubchannel cells subchannels width
+  unfolding ofuscOf isCell isSubchannel cellsOf subchannelsOf widthOf
   ofusc-answer =
       rw (size-passes (p .width), width-is n, lt-ltb a (n * n) (p .first .cell-lt), lt-ltb b (n * n) (p .second .cell-lt), lt-ltb s n (p .first .subchannel-lt), lt-ltb t n (p .second .subchannel-lt))
 
@@ -30,7 +30,7 @@ module _ {n a s b t : ℕ} (p : Pair n a s b t) where
 -- AMC
 module _ (a b : ℕ) (ha : a < 2352) (hb : b < 2352) where
   amc-answer : answerOf (accepted (amcHit a b)) ≡ amcOf a b
-  unfolding amcOf isCell cells
+  unfolding amcOf isCell cellsOf
   amc-answer = rw (lt-ltb a 2352 ha, lt-ltb b 2352 hb)
 
   amc-hits : amcOf a b .hits ≡ tabulate 48 (amcHit a b)

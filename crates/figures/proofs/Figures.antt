@@ -7,7 +7,7 @@ use Rattle.carriers.specs.{Band.carrierOf, Bin.{binPilotPlace, usedOfData}}
 use Rattle.ofusc.specs.{Width.{Width, n4, n8, n16, n32}, Field.{modulus, coefficient, product, remainder, times, power, p1, p2}}
 use Rattle.ofusc.specs.Map.{groupOf, term, cellTerm, dataNumber}
 use Rattle.amc.specs.{Element.{add, sequence, times as product′}, Map.{off, zeroRule, elementOf, traffic}}
-use Rattle.map.specs.{Setup.setupWith, Mode.{width, cells, subchannels, symbols, band, spotOf}, Question.{isFourSizes, isCell, isSubchannel}}
+use Rattle.map.specs.{Setup.setupWith, Mode.{width, widthOf, cellsOf, subchannelsOf, symbolsOf, bandOf, spotOf}, Question.{isFourSizes, isCell, isSubchannel}}
 use Rattle.map.specs.Place.{Place, placeOf}
 use Rattle.map.proofs.{Accept.width-is, Law.placing, ByMode.in-ofusc}
 use Rattle.collision.specs.Collision.{countOf, indexIn, columnIn, ofuscHit, amcHit, answerOf, ofuscOf, amcOf}
@@ -20,7 +20,7 @@ use Rattle.figures.proofs.ThreeKinds.{at-most-three}
 
 a-index : {n : ℕ} → Width n → (cell slot s m k : ℕ) (p : Place) → k < 48 → placeOf (setupWith 2 (64 * n) cell) slot s m ≡ accepted p
     → InGroup n (p .symbol) k (p .carrier) ↔ (m ≡ indexIn s k)
-unfolding subchannels width
+unfolding subchannelsOf widthOf
 a-index {n} w cell slot s m k p hk e =
     let q = placing (setupWith 2 (64 * n) cell) slot s m e in
     let hs = rw (width-is n) at (q .subchannel-lt) in
@@ -51,7 +51,7 @@ rows-count {n} {a} {s} {b} {t} p other =
     )
 
 d-reached : {n : ℕ} → Width n → Reached n
-unfolding ofuscOf answerOf isFourSizes isCell isSubchannel cells subchannels symbols width ofuscHit columnIn indexIn spotOf band carrierOf skip usedOfData binPilotPlace dataNumber groupOf cellTerm term p1 p2 power times remainder product coefficient modulus tabulate countOf most
+unfolding ofuscOf answerOf isFourSizes isCell isSubchannel cellsOf subchannelsOf symbolsOf widthOf ofuscHit columnIn indexIn spotOf bandOf carrierOf skip usedOfData binPilotPlace dataNumber groupOf cellTerm term p1 p2 power times remainder product coefficient modulus tabulate countOf most
 d-reached n4 = record { a = 10; s = 0; b = 4; t = 2; row = 0; allowed = record { width = n4; first = omega arith; second = omega arith }; within = omega arith; different = λ e. omega arith; in-row = refl; in-all = refl }
 d-reached n8 = record { a = 32; s = 0; b = 45; t = 7; row = 0; allowed = record { width = n8; first = omega arith; second = omega arith }; within = omega arith; different = λ e. omega arith; in-row = refl; in-all = refl }
 d-reached n16 = record { a = 0; s = 2; b = 244; t = 0; row = 0; allowed = record { width = n16; first = omega arith; second = omega arith }; within = omega arith; different = λ e. omega arith; in-row = refl; in-all = refl }
@@ -62,7 +62,7 @@ unfolding amcHit
 same-v a b j = (eqb-true (traffic a j) (traffic b j), eq-eqb (traffic a j) (traffic b j))
 
 g-reached : (amcOf 48 176 .count ≡ 3) × Marked (amcOf 48 176 .hits) 8 × Marked (amcOf 48 176 .hits) 24 × Marked (amcOf 48 176 .hits) 32
-unfolding amcOf answerOf isCell cells amcHit traffic elementOf zeroRule off add product′ sequence tabulate countOf
+unfolding amcOf answerOf isCell cellsOf amcHit traffic elementOf zeroRule off add product′ sequence tabulate countOf
 g-reached = (refl, refl, refl, refl)
 
 pub figures : Figures

@@ -3,7 +3,7 @@ use Rattle.base.proofs.{Prelude.{_≡_, refl, sym, ap, _∙_, ℕ, _+_, _-_, _*
 use Rattle.base.specs.Answer.{accepted}
 use Rattle.ofusc.specs.{Width.Width, Map.{groupOf, dataNumber}}
 use Rattle.ofusc.proofs.{Sequence.pos, Law.{element-lt, group-digit, law}}
-use Rattle.map.specs.{Setup.setupWith, Mode.{width, symbols, subchannels, band, spotOf}, Place.{Place, usedCarrier, placeAt, placeOf}, Model.ofusc}
+use Rattle.map.specs.{Setup.setupWith, Mode.{widthOf, symbolsOf, subchannelsOf, bandOf, spotOf}, Place.{Place, usedCarrier, placeAt, placeOf}, Model.ofusc}
 use Rattle.map.proofs.{Accept.width-is, Law.place-accepts}
 use Rattle.collision.specs.Collision.{indexIn}
 use Rattle.figures.specs.Word.{InGroup}
@@ -15,7 +15,7 @@ at n y d = record { symbol = y; carrier = carrierAt n y d }
 
 module _ {n : ℕ} (w : Width n) (cell slot s m : ℕ) (hy : slot < 512) (hs : s < n) (hm : m < 48) where
   pub ofusc-placed : cell < n * n → placeOf (setupWith 2 (64 * n) cell) slot s m ≡ accepted (at n slot (dataNumber n cell s m))
-  unfolding usedCarrier placeAt spotOf symbols subchannels band width
+  unfolding usedCarrier placeAt spotOf symbolsOf subchannelsOf bandOf widthOf
   ofusc-placed h =
       place-accepts (setupWith 2 (64 * n) cell) slot s m (ofusc w h) hy (rw (width-is n) hs) hm
       ∙ rw (width-is n, one-symbol slot)

@@ -29,33 +29,33 @@ use Rattle.burst.specs.Burst as burst
 use Rattle.burst_list.specs.List as list
 
 any-cell : (cell : ℕ) → cell < 32 → AnyCell cell
-unfolding skip unskip inRange onRow locateOf contentOf dataAt mode.cells mode.symbols mode.band mode.isPilot question.isMode question.isSize question.isCell question.isSymbol question.isCarrier band.usedOf band.isGuard band.isDc cluster.isClusterPilot cluster.firstPilot cluster.secondPilot
+unfolding skip unskip inRange onRow locateOf contentOf dataAt mode.cellsOf mode.symbolsOf mode.bandOf mode.isPilot question.isMode question.isSize question.isCell question.isSymbol question.isCarrier band.usedOf band.isGuard band.isDc cluster.isClusterPilot cluster.firstPilot cluster.secondPilot
 any-cell cell h =
     let e = lt-ltb cell 32 h in
     record { data-in-symbol-0 = rw e; pilot-in-symbol-1 = rw e; guard-below = λ y l. rw (e, lt-ltb y 1024 l); dc-in-the-middle = λ y l. rw (e, lt-ltb y 1024 l) }
 
 counts : (ofuscOf 1024 0 6 17 0 .count ≡ 7) × (ofuscOf 1024 0 2 244 0 .count ≡ 8)
-unfolding countOf tabulate skip ofuscOf answerOf ofuscHit columnIn indexIn question.isFourSizes question.isCell question.isSubchannel mode.width mode.cells mode.subchannels mode.symbols mode.band mode.spotOf band.carrierOf bin.binPilotPlace bin.usedOfData ofusc.groupOf ofusc.term ofusc.cellTerm ofusc.dataNumber field.modulus field.coefficient field.product field.remainder field.times field.power field.p1 field.p2
+unfolding countOf tabulate skip ofuscOf answerOf ofuscHit columnIn indexIn question.isFourSizes question.isCell question.isSubchannel mode.widthOf mode.cellsOf mode.subchannelsOf mode.symbolsOf mode.bandOf mode.spotOf band.carrierOf bin.binPilotPlace bin.usedOfData ofusc.groupOf ofusc.term ofusc.cellTerm ofusc.dataNumber field.modulus field.coefficient field.product field.remainder field.times field.power field.p1 field.p2
 counts = (refl, refl)
 
 at-2048 : setFrom 0 (ofuscOf 2048 0 2 1010 0 .hits) ≡ groups
-unfolding setFrom tabulate skip ofuscOf answerOf ofuscHit columnIn indexIn question.isFourSizes question.isCell question.isSubchannel mode.width mode.cells mode.subchannels mode.symbols mode.band mode.spotOf band.carrierOf bin.binPilotPlace bin.usedOfData ofusc.groupOf ofusc.term ofusc.cellTerm ofusc.dataNumber field.modulus field.coefficient field.product field.remainder field.times field.power field.p1 field.p2
+unfolding setFrom tabulate skip ofuscOf answerOf ofuscHit columnIn indexIn question.isFourSizes question.isCell question.isSubchannel mode.widthOf mode.cellsOf mode.subchannelsOf mode.symbolsOf mode.bandOf mode.spotOf band.carrierOf bin.binPilotPlace bin.usedOfData ofusc.groupOf ofusc.term ofusc.cellTerm ofusc.dataNumber field.modulus field.coefficient field.product field.remainder field.times field.power field.p1 field.p2
 at-2048 = refl
 
 adjacent : setFrom 0 (amcOf 48 176 .hits) ≡ indices
-unfolding setFrom tabulate amcOf answerOf amcHit question.isCell mode.cells amc.traffic amc.elementOf amc.zeroRule amc.off element.add element.times element.sequence
+unfolding setFrom tabulate amcOf answerOf amcHit question.isCell mode.cellsOf amc.traffic amc.elementOf amc.zeroRule amc.off element.add element.times element.sequence
 adjacent = refl
 
 zone-check : (check bursts ≡ 0) × (check (corner 1 2 3 2) ≡ 19) × (check (corner 3 2 3 1) ≡ 18) × (check (corner 3 1 3 0) ≡ 18) × (check (corner 4294967295 2 3 1) ≡ 18) × (check (corner 1 4 3 1) ≡ 18)
-unfolding isUpTo mode.width mode.cells mode.subchannels question.isFourSizes question.isSize question.isCell isMask isZoneMode firstOf list.isList burst.isWithin burst.isInside burst.isShared burst.isOverlap list.isApart list.askEach checkOf
+unfolding isUpTo mode.widthOf mode.cellsOf mode.subchannelsOf question.isFourSizes question.isSize question.isCell isMask isZoneMode firstOf list.isList burst.isWithin burst.isInside burst.isShared burst.isOverlap list.isApart list.askEach checkOf
 zone-check = (refl, refl, refl, refl, refl, refl)
 
 zone-owner : (owner 3 1 ≡ owns 0 1) × (owner 4 1 ≡ owns 2 3) × (owner 5 3 ≡ owns 1 2) × (owner 6 1 ≡ owns 64 3) × (owner 512 1 ≡ refusal 4) × (owner 5 4 ≡ refusal 5)
-unfolding isUpTo mode.width mode.cells mode.subchannels question.isFourSizes question.isSize question.isCell question.isSlot question.isSubchannel isMask isZoneMode firstOf burst.isOf burst.isCovering list.isList burst.isWithin burst.isInside burst.isShared burst.isOverlap list.isApart list.askEach ownerAt lookedAt ownerOf
+unfolding isUpTo mode.widthOf mode.cellsOf mode.subchannelsOf question.isFourSizes question.isSize question.isCell question.isSlot question.isSubchannel isMask isZoneMode firstOf burst.isOf burst.isCovering list.isList burst.isWithin burst.isInside burst.isShared burst.isOverlap list.isApart list.askEach ownerAt lookedAt ownerOf
 zone-owner = (refl, refl, refl, refl, refl, refl)
 
 pub known : Known
-unfolding each tabulate skip fromDc placeOf usedCarrier placeAt mode.shapeOf mode.width mode.cells mode.subchannels mode.symbols mode.band mode.spotOf question.isMode question.isFourSizes question.isSize question.isCell question.isSlot question.isSubchannel question.isIndex band.carrierOf bin.binPilotPlace bin.usedOfData dl.groupUsed dl.spotOf group.groupIn group.groupSize group.ofSize group.baseOf inner.groupData cluster.unrenumber cluster.firstPilot cluster.secondPilot cluster.clusterPlace ul.spotOf tile.tileOf tile.placeSymbol tile.placeTile tile.placeCarrier ofusc.groupOf ofusc.term ofusc.cellTerm ofusc.dataNumber field.modulus field.coefficient field.product field.remainder field.times field.power field.p1 field.p2 amc.off amc.zeroRule amc.elementOf amc.traffic amc.trafficNumber amc.dataNumber element.add element.times element.sequence
+unfolding each tabulate skip fromDc placeOf usedCarrier placeAt mode.shapeOf mode.widthOf mode.cellsOf mode.subchannelsOf mode.symbolsOf mode.bandOf mode.spotOf question.isMode question.isFourSizes question.isSize question.isCell question.isSlot question.isSubchannel question.isIndex band.carrierOf bin.binPilotPlace bin.usedOfData dl.groupUsed dl.spotOf group.groupIn group.groupSize group.ofSize group.baseOf inner.groupData cluster.unrenumber cluster.firstPilot cluster.secondPilot cluster.clusterPlace ul.spotOf tile.tileOf tile.placeSymbol tile.placeTile tile.placeCarrier ofusc.groupOf ofusc.term ofusc.cellTerm ofusc.dataNumber field.modulus field.coefficient field.product field.remainder field.times field.power field.p1 field.p2 amc.off amc.zeroRule amc.elementOf amc.traffic amc.trafficNumber amc.dataNumber element.add element.times element.sequence
 known =
     record {
       line-1 = (refl, refl);

@@ -1,6 +1,6 @@
 -- The lengths by mode and size. Cell 0 is a cell of every listed mode and size, so the first refusal with it tells whether the map has them.
 use Rattle.base.proofs.{Prelude.{_≡_, refl, ap, _∙_, ℕ, _*_, lt-ltb}, Test.cases}
-use Rattle.map.specs.{Setup.{Setup, setupWith}, Mode.{width, cells, subchannels, symbols}, Question.{isListed, isMode, isSizeOf, isSize, isCell}}
+use Rattle.map.specs.{Setup.{Setup, setupWith}, Mode.{widthOf, cells, subchannelsOf, symbolsOf}, Question.{isListed, isMode, isSizeOf, isSize, isCell}}
 use Rattle.map.specs.Model.{setupRefusal, Valid}
 use Rattle.map.proofs.Accept.{some-cell, setup-yes}
 use Rattle.mask.specs.Mask.{isMask, isLit, litSubchannels, allLit}
@@ -40,7 +40,7 @@ module _ (mode size mask k : ℕ) (e : k ≡ maskRefusal (setupWith mode size 0)
 -- the lengths of an accepted setup and mask, whatever the cell
 pub lengths-listed : {setup : Setup} {mask : ℕ} → MaskAccepted setup mask
     → (96 * litSubchannels setup mask ≡ litPointsLength (setup .mode) (setup .size) mask) × (2 * gridPoints setup ≡ gridLength (setup .mode) (setup .size))
-unfolding litPointsLength gridLength isLit subchannels gridPoints symbols width
+unfolding litPointsLength gridLength isLit subchannelsOf gridPoints symbolsOf widthOf
 lengths-listed m = (listed (m .valid) (rw (m .mask-is)), listed (m .valid) refl)
 
 -- where all is lit, the lit points are all points

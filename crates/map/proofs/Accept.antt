@@ -6,7 +6,7 @@ use native.Mathlib.Nat.{mul-pos}
 use Rattle.base.specs.Answer.{Answer, accepted, ask, refusalOf}
 use Rattle.ofusc.specs.Width.{Width, n4, n8, n16, n32}
 use Rattle.ofusc.proofs.Sequence.{size, pos}
-use Rattle.map.specs.{Setup.{Setup, setupLent, setupWith}, Mode.{width, cells, subchannels}}
+use Rattle.map.specs.{Setup.{Setup, setupLent, setupWith}, Mode.{widthOf, cells, cellsOf, subchannels}}
 use Rattle.map.specs.Question.{isListed, isMode, isFourSizes, isSizeOf, isSize, isCell, isSlot, isSubchannel, askSetup}
 use Rattle.map.specs.Model.{IsListed, IsAmc, Valid, pusc-dl, pusc-ul, ofusc, amc}
 use Rattle.map.proofs.Choice.{at-amc, at-none, by-mode, amc-column}
@@ -42,7 +42,7 @@ four-sizes z h =
     (λ e″. subst⁻¹ Sized (eqb-true z 2048 (rw (e, e′, e″) at h)) (sized n32))))
 
 valid-at : {m : ℕ} (z k : ℕ) (l : List ℕ) → Listed m → isSize (setupLent m z k l) ≡ true → isCell (setupLent m z k l) ≡ true → Valid (setupLent m z k l)
-unfolding isSize isCell cells width
+unfolding isSize isCell cellsOf widthOf
 valid-at z k l m0 s e = subst⁻¹ (λ (t : ℕ). Valid (setupLent 0 t k l)) (eqb-true z 2048 s) (pusc-dl (ltb-true k 32 e))
 valid-at z k l m1 s e = subst⁻¹ (λ (t : ℕ). Valid (setupLent 1 t k l)) (eqb-true z 2048 s) (pusc-ul (ltb-true k 70 e))
 valid-at z k l m2 s e = spread (four-sizes z s) (ltb-true k (z / 64 * (z / 64)) e)
@@ -61,7 +61,7 @@ valid c e₁ e₂ e₃ = valid-at (c .size) (c .cell) (c .pilots) (listed (c .mo
 
 -- cell 0 is a cell of every listed mode and size
 pub some-cell : (m z : ℕ) → isListed m ≡ true → isSizeOf m z ≡ true → 0 < cells (setupWith m z 0)
-unfolding cells width
+unfolding cellsOf widthOf
 some-cell m z e = at (listed m (ltb-true m 7 e))
   where
     spread : {z : ℕ} → Sized z → 0 < z / 64 * (z / 64)
@@ -82,7 +82,7 @@ size-passes n16 = refl
 size-passes n32 = refl
 
 pub passes : {A : Type 0} {c : Setup} {rest : Answer A} → Valid c → askSetup c rest ≡ rest
-unfolding isMode isSize isCell cells width
+unfolding isMode isSize isCell cellsOf widthOf
 passes (pusc-dl h) = rw (lt-ltb _ _ h)
 passes (pusc-ul h) = rw (lt-ltb _ _ h)
 passes (ofusc {n = n} w h) = rw (size-passes w, width-is n, lt-ltb _ _ h)

@@ -3,7 +3,7 @@ use Rattle.base.proofs.{Prelude.{_≡_, refl, sym, ap, _∙_, List, ℕ, _+_, _
 use native.Mathlib.Nat.{add-assoc, add-mul, mul-assoc, mul-right-comm, mul-add-mod-self-right}
 use Rattle.carriers.specs.Bin.{binPilotPlace, isBinPilot}
 use Rattle.clusters.proofs.Tables.{pilot-parity}
-use Rattle.map.specs.{Setup.{Setup, setupLent}, Mode.{width, symbols, band, isPilot}}
+use Rattle.map.specs.{Setup.{Setup, setupLent}, Mode.{widthOf, symbols, symbolsOf, band, bandOf, isPilot}}
 
 -- the number of a symbol mod 3, by its slot mod 3, and where a slot has three or six
 mod-3 : (a k o : ℕ) → (a * k + o) % 3 ≡ (a % 3 * k + o) % 3
@@ -31,7 +31,7 @@ alike-by-threes setup slot other z o = by-threes slot (symbols setup) o z ∙ sy
 
 -- in PUSC downlink every slot's
 pub pilots-down : (setup : Setup) (slot other : ℕ) → setup .mode ≡ 0 → (o used : ℕ) → isPilot setup (slot * symbols setup + o) used ≡ isPilot setup (other * symbols setup + o) used
-unfolding isPilot symbols
+unfolding isPilot symbolsOf
 pilots-down setup slot other z o used = rw (eq-eqb (setup .mode) 0 z) (pilot-parity slot o used ∙ sym (pilot-parity other o used))
 
 pub pilots-alike : (setup : Setup) (slot other : ℕ) → Alike setup slot other → (o used : ℕ) → isPilot setup (slot * symbols setup + o) used ≡ isPilot setup (other * symbols setup + o) used
@@ -45,11 +45,11 @@ pilots-alike setup slot other e o used =
 
 module _ (mode size cell other : ℕ) (pilots : List ℕ) where
   pub same-symbols : symbols (setupLent mode size cell pilots) ≡ symbols (setupLent mode size other pilots)
-  unfolding symbols
+  unfolding symbolsOf
   same-symbols = refl
 
   pub same-band : band (setupLent mode size cell pilots) ≡ band (setupLent mode size other pilots)
-  unfolding band width
+  unfolding bandOf widthOf
   same-band = refl
 
   pub same-pilots : (symbol used : ℕ) → isPilot (setupLent mode size cell pilots) symbol used ≡ isPilot (setupLent mode size other pilots) symbol used

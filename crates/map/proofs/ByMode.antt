@@ -11,7 +11,7 @@ use Rattle.clusters.proofs.Tables.{pilot-parity}
 use Rattle.pusc_ul.specs.Tile.{isTilePilot}
 use Rattle.amc.specs.{declared.Shape.Shape, Model.IsShape}
 use Rattle.amc.proofs.Parts.{symbols-pos, symbols-few, symbols-are}
-use Rattle.map.specs.{Setup.Setup, Mode.{shapeOf, width, cells, subchannels, symbols, band, isPilot, spotOf, addressOf}}
+use Rattle.map.specs.{Setup.Setup, Mode.{shapeOf, width, widthOf, cells, cellsOf, subchannels, subchannelsOf, symbols, symbolsOf, band, bandOf, isPilot, spotOf, addressOf}}
 use Rattle.map.specs.Model.{IsListed, OverBins, IsAmc, Valid, pusc-dl, pusc-ul, ofusc, amc}
 use Rattle.map.proofs.{Choice.{amc-shape, at-0, at-1, at-2, at-amc, by-mode, amc-column}, Accept.width-is}
 use Rattle.ofusc.specs.Map as spread
@@ -28,20 +28,20 @@ listed-mode (amc q w h) = omega arith
 -- what AMC's shape gives
 module _ (c : Setup) (q : IsAmc (c .mode)) where
   pub shape-symbols : shapeOf (c .mode) .symbols ≡ symbols c
-  unfolding symbols
+  unfolding symbolsOf
   shape-symbols = by-mode (at-amc q)
 
   pub shape-subchannels : width c * shapeOf (c .mode) .symbols ≡ subchannels c
-  unfolding subchannels
+  unfolding subchannelsOf
   shape-subchannels = by-mode (at-amc q)
 
   bin-used : band c .used ≡ 54 * width c
-  unfolding band
+  unfolding bandOf
   bin-used = simp amc-column
 
 -- a slot has 1, 2, 3 or 6 symbols
 pub six-symbols : {c : Setup} → Valid c → (symbols c ≡ 1 → ⊥) → (symbols c ≡ 2 → ⊥) → (symbols c ≡ 3 → ⊥) → symbols c ≡ 6
-unfolding symbols
+unfolding symbolsOf
 six-symbols (pusc-dl h) n₁ n₂ n₃ = absurd (n₂ refl)
 six-symbols (pusc-ul h) n₁ n₂ n₃ = absurd (n₃ refl)
 six-symbols (ofusc w h) n₁ n₂ n₃ = absurd (n₁ refl)
@@ -60,7 +60,7 @@ pub record Ranges (c : Setup) (cells subchannels′ used : ℕ) : Type 0 where
   pub used-are : band c .used ≡ used
 
 pub cell-in : {c : Setup} → Valid c → c .cell < cells c
-unfolding cells width
+unfolding cellsOf widthOf
 cell-in (pusc-dl h) = h
 cell-in (pusc-ul h) = h
 cell-in (ofusc {n = n} w h) = rw (width-is n) h
@@ -68,19 +68,19 @@ cell-in (amc q w h) = simp amc-column h
 
 module _ {c : Setup} (v : Valid c) where
   pub in-pusc-dl : c .mode ≡ 0 → Ranges c 32 60 1680
-  unfolding cells subchannels band
+  unfolding cellsOf subchannelsOf bandOf
   in-pusc-dl e = record { cell-lt = rw e at (cell-in v); subchannels-are = rw e; used-are = rw e }
 
   pub in-pusc-ul : c .mode ≡ 1 → Ranges c 70 70 1680
-  unfolding cells subchannels band
+  unfolding cellsOf subchannelsOf bandOf
   in-pusc-ul e = record { cell-lt = rw e at (cell-in v); subchannels-are = rw e; used-are = rw e }
 
   pub in-ofusc : c .mode ≡ 2 → Ranges c (width c * width c) (width c) (54 * width c)
-  unfolding cells subchannels band width
+  unfolding cellsOf subchannelsOf bandOf widthOf
   in-ofusc e = record { cell-lt = rw e at (cell-in v); subchannels-are = rw e; used-are = rw e }
 
   pub in-amc : IsAmc (c .mode) → Ranges c 2352 (width c * shapeOf (c .mode) .symbols) (54 * width c)
-  unfolding cells
+  unfolding cellsOf
   in-amc q =
       record {
         cell-lt = simp amc-column at (cell-in v);
@@ -90,7 +90,7 @@ module _ {c : Setup} (v : Valid c) where
 
 -- the modes over bins have a width N
 pub bin-width : {c : Setup} → Valid c → OverBins (c .mode) → Width (width c)
-unfolding width
+unfolding widthOf
 bin-width (pusc-dl h) o = absurd (omega arith)
 bin-width (pusc-ul h) o = absurd (omega arith)
 bin-width (ofusc {n = n} w h) o = rw (width-is n) w
@@ -143,7 +143,7 @@ pub record Few (c : Setup) : Type 0 where
   pub used-few : band c .used ≤ 1728
 
 pub few : {c : Setup} → Valid c → Few c
-unfolding symbols subchannels band width
+unfolding symbolsOf subchannelsOf bandOf widthOf
 few (pusc-dl h) = omega arith
 few (pusc-ul h) = omega arith
 few (ofusc w h) = let b = size w .most in omega arith

@@ -7,7 +7,7 @@ use Rattle.centre.proofs.Law.{centre-law}
 use Rattle.clusters.proofs.Tables.{pilot-parity}
 use Rattle.pusc_ul.specs.Tile.{isTilePilot}
 use Rattle.ofusc.proofs.Sequence.{pos}
-use Rattle.map.specs.{Setup.Setup, Mode.{shapeOf, width, subchannels, symbols, band, isPilot, spotOf, addressOf}}
+use Rattle.map.specs.{Setup.Setup, Mode.{shapeOf, widthOf, subchannels, subchannelsOf, symbols, symbolsOf, band, bandOf, isPilot, spotOf, addressOf}}
 use Rattle.map.specs.Model.{Valid, pusc-dl, pusc-ul, ofusc, amc}
 use Rattle.map.proofs.{Choice.{amc-shape, amc-column}, Accept.width-is}
 use Rattle.pusc_dl.specs.Map as dl
@@ -33,7 +33,7 @@ offset-3 : (slot o : ℕ) → o < 3 → (slot * 3 + o) % 3 ≡ o
 offset-3 slot o h = omega arith
 
 pub slot-law : {c : Setup} → Valid c → (slot : ℕ) → LawOf c slot
-unfolding symbols subchannels band isPilot spotOf addressOf width
+unfolding symbolsOf subchannelsOf bandOf isPilot spotOf addressOf widthOf
 slot-law (pusc-dl {cell = cell} h) slot =
     relabel
     (λ o u l. pilot-parity slot o u)
@@ -58,7 +58,7 @@ slot-law (amc {mode = mode} {n = n} {cell = cell} q w h) slot =
 
 -- the band takes up the symbol
 pub band-law : {c : Setup} → Valid c → Whole (band c) (c .size)
-unfolding band width
+unfolding bandOf widthOf
 band-law (pusc-dl h) = pusc-band
 band-law (pusc-ul h) = pusc-band
 band-law (ofusc {n = n} w h) = rw (width-is n) (bin-band n (pos w))
@@ -66,7 +66,7 @@ band-law (amc {n = n} q w h) = simp (amc-column, width-is n) (bin-band n (pos w)
 
 -- every size is even, and DC stands in its middle
 pub centred : {c : Setup} → Valid c → CentreLaw (c .size) × (band c .dc ≡ c .size / 2)
-unfolding band width
+unfolding bandOf widthOf
 centred (pusc-dl h) = (centre-law 2048 refl, refl)
 centred (pusc-ul h) = (centre-law 2048 refl, refl)
 centred (ofusc {n = n} w h) = (centre-law (64 * n) (omega arith), rw (width-is n) (omega arith))

@@ -39,22 +39,37 @@ byMode mode dl ul spread adjacent other =
     other)))
 
 -- N of the modes over bins: the size is 64N
-unfoldable pub width : (setup : Setup) → ℕ
-width setup = setup .size / 64
+unfoldable pub widthOf : (size : ℕ) → ℕ
+widthOf size = size / 64
 
-unfoldable pub cells : (setup : Setup) → ℕ
-cells setup = byMode (setup .mode) 32 70 (width setup * width setup) 2352 0
+abbrev pub width : (setup : Setup) → ℕ
+width setup = widthOf (setup .size)
+
+unfoldable pub cellsOf : (mode size : ℕ) → ℕ
+cellsOf mode size = byMode mode 32 70 (widthOf size * widthOf size) 2352 0
+
+abbrev pub cells : (setup : Setup) → ℕ
+cells setup = cellsOf (setup .mode) (setup .size)
 
 -- Modes 2 and 3 have N; document 02, wish 2: modes 4, 5 and 6 have 3N, 2N and 6N, N for each symbol of the slot.
-unfoldable pub subchannels : (setup : Setup) → ℕ
-subchannels setup = byMode (setup .mode) 60 70 (width setup) (width setup * shapeOf (setup .mode) .symbols) 0
+unfoldable pub subchannelsOf : (mode size : ℕ) → ℕ
+subchannelsOf mode size = byMode mode 60 70 (widthOf size) (widthOf size * shapeOf mode .symbols) 0
+
+abbrev pub subchannels : (setup : Setup) → ℕ
+subchannels setup = subchannelsOf (setup .mode) (setup .size)
 
 -- symbols a slot
-unfoldable pub symbols : (setup : Setup) → ℕ
-symbols setup = byMode (setup .mode) 2 3 1 (shapeOf (setup .mode) .symbols) 0
+unfoldable pub symbolsOf : (mode : ℕ) → ℕ
+symbolsOf mode = byMode mode 2 3 1 (shapeOf mode .symbols) 0
 
-unfoldable pub band : (setup : Setup) → Band
-band setup = byMode (setup .mode) puscBand puscBand (binBand (width setup)) (binBand (width setup)) noBand
+abbrev pub symbols : (setup : Setup) → ℕ
+symbols setup = symbolsOf (setup .mode)
+
+unfoldable pub bandOf : (mode size : ℕ) → Band
+bandOf mode size = byMode mode puscBand puscBand (binBand (widthOf size)) (binBand (widthOf size)) noBand
+
+abbrev pub band : (setup : Setup) → Band
+band setup = bandOf (setup .mode) (setup .size)
 
 -- Is a used number a pilot in a symbol of the zone? (Tiles go by the symbol in the slot.)
 unfoldable pub isPilot : (setup : Setup) (symbol used : ℕ) → Bool

@@ -12,7 +12,7 @@ use Rattle.pusc_dl_lit.specs.Lit.{hasGroup}
 use Rattle.pusc_dl.specs.Map.{logicalOf, usedGroup}
 use Rattle.pusc_dl.proofs.Law.{point-group}
 use Rattle.pusc_dl_lit.proofs.Lit.{all-groups}
-use Rattle.map.specs.{Setup.{Setup, setupWith}, Mode.{subchannels, band, spotOf}, Place.{Place, usedCarrier, placeAt, contentOf}, Law.PlacedAt}
+use Rattle.map.specs.{Setup.{Setup, setupWith}, Mode.{subchannels, subchannelsOf, band, spotOf}, Place.{Place, usedCarrier, placeAt, contentOf}, Law.PlacedAt}
 use Rattle.map.specs.Model.{Valid, pusc-dl, pusc-ul, ofusc, amc}
 use Rattle.map.proofs.{Choice.amc-not-0, ByMode.few, Slot.{slot-law, band-law, centred}, Law.placing}
 use Rattle.mask.specs.{Mask.{isMask, isLit, isUsedLit, litContent, litSubchannels, litRank, ofLitRank, allLit}, Law.MaskLaw}
@@ -20,7 +20,7 @@ use Rattle.mask.specs.{Mask.{isMask, isLit, isUsedLit, litContent, litSu
 -- A POINT'S USED NUMBER IS LIT EXACTLY WHEN ITS SUBCHANNEL IS, by its spot.
 pub point-lit : {setup : Setup} → Valid setup → (mask slot s m : ℕ) → s < subchannels setup → m < 48
     → isUsedLit setup mask (spotOf setup slot s m .used) ≡ isLit setup mask s
-unfolding isUsedLit isLit spotOf subchannels
+unfolding isUsedLit isLit spotOf subchannelsOf
 point-lit (pusc-dl {cell = cell} h) mask slot s m hs hm = ap (hasGroup mask) (point-group cell s m hs hm)
 point-lit (pusc-ul h) mask slot s m hs hm = refl
 point-lit (ofusc w h) mask slot s m hs hm = refl
@@ -125,7 +125,7 @@ unfolding isLit
 others-count setup mask ne = rank-all (isLit setup mask) (subchannels setup) (λ s h. rw (ne-eqb (setup .mode) 0 ne))
 
 pub groups-count : (setup : Setup) (mask : ℕ) → setup .mode ≡ 0 → (n : ℕ) → n ≡ rank (λ s. hasGroup mask (groupIn subchannelStarts s)) 60 → n ≡ litSubchannels setup mask
-unfolding isLit subchannels
+unfolding isLit subchannelsOf
 groups-count setup mask e n q =
     rw (eq-eqb (setup .mode) 0 e) (q ∙ rank-as _ (isLit setup mask) 60 (λ s. rw (eq-eqb (setup .mode) 0 e)))
 

@@ -7,7 +7,7 @@ use Rattle.carriers.proofs.Bin.{data-used}
 use Rattle.ofusc.specs.Width.{Width}
 use Rattle.ofusc.proofs.Sequence.{size}
 use Rattle.amc.specs.{declared.Shape.Shape, Model.IsShape}
-use Rattle.map.specs.{Setup.{Setup, setupLent}, Mode.{shapeOf, width, symbols, addressOf}}
+use Rattle.map.specs.{Setup.{Setup, setupLent}, Mode.{shapeOf, width, symbols, symbolsOf, addressOf}}
 use Rattle.map.specs.Model.{OverBins, IsAmc, Valid, pusc-dl, pusc-ul, ofusc, amc}
 use Rattle.map.proofs.{Choice.{amc-shape, at-0, at-1, at-2, at-amc, at-bins, by-mode}, ByMode.{shape-symbols, in-pusc-ul, bin-width}}
 use Rattle.mask.specs.Mask.{isLit, isUsedLit}
@@ -86,7 +86,7 @@ cluster-place slot row j = let e : (slot * 2 + row) % 2 ≡ row % 2 = omega arit
 module _ (mask slot row i : ℕ) (r : List ℕ) where
   pub numbers-0 : {c : Setup} → Valid c → c .mode ≡ 0 → row < symbols c → (hasGroup mask (usedGroup (c .cell) (i * 14)) ≡ true → Starts 12 (dl.clusterNumber (c .cell) mask row i) r)
       → isUsedLit c mask (i * runStep c) ≡ true → Starts (runPoints (runsOf c (slot * symbols c + row))) (runNumber c mask (slot * symbols c + row) i) r
-  unfolding symbols runFirst runSecond runStep runCount runPlace numberAt isLit isUsedLit addressOf dl.clusterNumber
+  unfolding symbolsOf runFirst runSecond runStep runCount runPlace numberAt isLit isUsedLit addressOf dl.clusterNumber
   numbers-0 (pusc-dl {cell = cell} h) q hr s lit =
       λ j hj.
       let y = slot * 2 + row in
@@ -136,7 +136,7 @@ module _ (mask slot row : ℕ) (r : List ℕ) where
   pub numbers-1 : {c : Setup} → Valid c → c .mode ≡ 1 → row < symbols c
       → ((p j : ℕ) → p < 420 → j < ul.tilePoints row → entry r (j * 420 + p) ≡ addressNumber (ul-map.addressOf (c .cell) row (p * 4 + ul.tilePlace row j)))
       → RowNumbers c mask (slot * symbols c + row) r
-  unfolding symbols runFirst runSecond runStep runCount runStride pointStride addressOf
+  unfolding symbolsOf runFirst runSecond runStep runCount runStride pointStride addressOf
   numbers-1 (pusc-dl h) q hr s = absurd (omega arith)
   numbers-1 (pusc-ul {cell = cell} {pilots = lent} h) q hr s =
       λ i j hi hj lit.
@@ -186,7 +186,7 @@ module _ (mask slot row i : ℕ) (r : List ℕ) where
 
 module _ {c : Setup} (v : Valid c) (row i : ℕ) (hr : row < symbols c) (hi : i < runCount c) (mask : ℕ) (runs places : List ℕ) (tr : RunTable c mask runs) (tp : PlaceTable c places) where
   pub asks-0 : c .mode ≡ 0 → ((row < 2) × (i < 120)) × (Starts 120 (dl.clusterEntry (c .cell) mask) runs × Starts 48 (dl.inverseEntry (c .cell)) places)
-  unfolding symbols runCount
+  unfolding symbolsOf runCount
   asks-0 q = ((rw q at hr, rw q at hi), (from-table runs (clusters-as c mask q) tr, from-table places (inverses-as c q) tp))
 
   bin-lt : OverBins (c .mode) → i < 6 * width c
@@ -205,5 +205,5 @@ module _ {c : Setup} (v : Valid c) (row i : ℕ) (hr : row < symbols c) (hi : i 
 
 pub asks-1 : {c : Setup} → Valid c → (row : ℕ) → row < symbols c → (mask : ℕ) (runs : List ℕ) → RunTable c mask runs → c .mode ≡ 1
     → ((c .cell < 70) × (row < 3)) × Starts 70 (tileSubchannel (c .cell)) runs
-unfolding symbols
+unfolding symbolsOf
 asks-1 {c} v row hr mask runs tr q = ((in-pusc-ul v q .cell-lt, rw q at hr), from-table runs (tiles-as c mask q) tr)

@@ -12,7 +12,7 @@ use Rattle.amc_rows.specs.Model.{EvenWidth}
 use Rattle.amc_rows.proofs.Row.{carrier-at}
 use Rattle.pusc_ul_rows.proofs.Row.{number-on-place}
 use Rattle.carriers.proofs.Row.{step-carrier}
-use Rattle.map.specs.{Setup.Setup, Mode.{isAmc, shapeOf, width, subchannels, symbols, band, isPilot, spotOf}}
+use Rattle.map.specs.{Setup.Setup, Mode.{isAmc, shapeOf, width, widthOf, subchannels, symbols, symbolsOf, band, bandOf, isPilot, spotOf}}
 use Rattle.map.specs.Model.{IsAmc, Valid, pusc-dl, pusc-ul, ofusc, amc}
 use Rattle.rows.specs.Model.{shiftOf, pointPlace}
 use Rattle.map.proofs.Choice.{amc-shape, at-0, at-1, at-2, at-amc, by-mode}
@@ -58,7 +58,7 @@ module _ {c : Setup} (v : Valid c) (s : ℕ) (hs : s < subchannels c) where
 
 -- the size is 64N
 bin-size : {c : Setup} → Valid c → IsAmc (c .mode) → c .size ≡ 64 * width c
-unfolding width
+unfolding widthOf
 bin-size (pusc-dl h) q = absurd (omega arith)
 bin-size (pusc-ul h) q = absurd (omega arith)
 bin-size (ofusc w h) q = absurd (omega arith)
@@ -76,7 +76,7 @@ module _ (c : Setup) (slot s : ℕ) where
       (λ m h. ap (λ (k : ℕ). spotNumber (pusc-dl-map.spotOf (c .cell) s k)) (shift-none m h (sym (by-mode (at-0 q)))) ∙ ap spotNumber (by-mode (at-0 q)))
 
   pub spot-2 : c .mode ≡ 2 → (m : ℕ) → m < 48 → record { offset = 0; used = usedOfData slot (ofusc.groupNumber (width c) (c .cell) s ((m + shiftOf c s) % 48)) } ≡ spotOf c slot s m
-  unfolding spotOf shiftOf symbols
+  unfolding spotOf shiftOf symbolsOf
   spot-2 q m h =
       let d = ofusc-map.dataNumber (width c) (c .cell) s m in
       ap (λ (by : ℕ). at slot (ofusc.groupNumber (width c) (c .cell) s ((m + by) % 48))) (sym (by-mode (at-2 q)))
@@ -91,7 +91,7 @@ module _ (c : Setup) (slot s : ℕ) where
   pub row-amc : Valid c → IsAmc (c .mode) → (shape : Shape) → shape ≡ shapeOf (c .mode) → (n : ℕ) → n ≡ width c
       → (row : List ℕ) → Starts 48 (amc.sequenceCarrier shape n (slot * shape .symbols) (c .cell) s) row
       → Turned (shiftOf c s) (pointPlace c slot s) row
-  unfolding shiftOf band amc.trafficCarrier amc-map.dataNumber
+  unfolding shiftOf bandOf amc.trafficCarrier amc-map.dataNumber
   row-amc v q shape e n f row starts m h =
       let first = slot * shape .symbols in
       let size-is : 64 * n ≡ c .size = ap (λ (x : ℕ). 64 * x) f ∙ sym (bin-size v q) in
@@ -120,14 +120,14 @@ shift-lt c s =
 
 -- in the modes before AMC a row starts at the same number in the grid as in the numbers of spots: either the size is 2048 or there is one row
 row-start : {c : Setup} → Valid c → c .mode < 3 → (row : ℕ) → row < symbols c → row * 2048 ≡ row * c .size
-unfolding symbols
+unfolding symbolsOf
 row-start (pusc-dl h) l row r = omega arith
 row-start (pusc-ul h) l row r = omega arith
 row-start (ofusc {n = n} w h) l row r = let z : row ≡ 0 = omega arith in rw z (omega arith)
 row-start (amc q w h) l row r = absurd (omega arith)
 
 early-symbols : {c : Setup} → Valid c → c .mode < 3 → symbols c ≤ 3
-unfolding symbols
+unfolding symbolsOf
 early-symbols (pusc-dl h) l = omega arith
 early-symbols (pusc-ul h) l = omega arith
 early-symbols (ofusc w h) l = omega arith
@@ -142,7 +142,7 @@ module _ {c : Setup} (v : Valid c) (early : c .mode < 3) (slot s : ℕ) (hs : s 
 
   pub row-1 : c .mode ≡ 1 → (row : List ℕ) → row ≡ tabulate 48 (pusc-ul.placeNumber (c .cell) s)
       → Turned (shiftOf c s) (pointPlace c slot s) row
-  unfolding spotOf shiftOf band
+  unfolding spotOf shiftOf bandOf
   row-1 q row e =
       turned-row (shiftOf c s) _ (pusc-ul.placeNumber (c .cell) s) row e
       (λ m h. ap (λ (by : ℕ). pusc-ul.placeNumber (c .cell) s ((m + by) % 48)) (sym (by-mode (at-1 q)))

@@ -12,7 +12,7 @@ use Rattle.clusters.specs.Cluster.{isClusterPilot, firstPilot, secondPilot}
 use Rattle.pusc_dl.specs.Map.{usedGroup, logicalOf}
 use Rattle.pusc_dl_lit.specs.Model.{clusterLit}
 use Rattle.pusc_ul.specs.Tile.{isTilePilot}
-use Rattle.map.specs.{Setup.{Setup, setupLent, setupWith}, Mode.{width, band, isPilot}}
+use Rattle.map.specs.{Setup.{Setup, setupLent, setupWith}, Mode.{width, widthOf, band, bandOf, isPilot}}
 use Rattle.map.specs.Model.{IsListed, OverBins, Valid, pusc-dl, pusc-ul, ofusc, amc}
 use Rattle.map.proofs.{Choice.{amc-not-0, amc-column, bins-column, none-column}, Accept.width-is}
 use Rattle.mask.specs.Mask.{isUsedLit}
@@ -224,7 +224,7 @@ module _ (n y : ℕ) where
 
 -- each kind of run
 pub run-law : {c : Setup} → Valid c → (y : ℕ) → RunLaw c y
-unfolding runStep runCount runFirst runSecond band isPilot isUsedLit width
+unfolding runStep runCount runFirst runSecond bandOf isPilot isUsedLit widthOf
 run-law (pusc-dl {cell = cell} h) y =
     let b : Runs = record { first = firstPilot y; second = secondPilot y; step = 14; count = 120 } in
     let a = cluster-apart y in

@@ -1,12 +1,12 @@
 -- `collision::amc` meets its contract.
 use Rattle.base.proofs.{Prelude.needs, Chain.by-answer}
-use Rattle.map.specs.{Mode.cells, Question.isCell}
+use Rattle.map.specs.{Mode.cellsOf, Question.isCell}
 use Rattle.collision.specs.Collision.{amcOf}
 use Rattle.collision.proofs.{Outcome.gives, amc.Statement.statement}
 use Rattle.collision.proofs.amc.Tie as tie
 
 pub amc-spec : {M : Type 1} → statement M
-unfolding amcOf isCell cells
+unfolding amcOf isCell cellsOf
 amc-spec =
     tie.close
     (tie.spec

@@ -1,6 +1,6 @@
 -- `collision::ofusc` meets its contract.
 use Rattle.base.proofs.{Prelude.{_≡_, true, arith, needs}, Test.told-yes, Chain.by-answer}
-use Rattle.map.specs.{Mode.{width, cells, subchannels}, Question.{isFourSizes, isCell, isSubchannel}}
+use Rattle.map.specs.{Mode.{widthOf, cellsOf, subchannelsOf}, Question.{isFourSizes, isCell, isSubchannel}}
 use Rattle.collision.specs.Collision.{ofuscOf}
 use Rattle.collision.proofs.{Outcome.{wide, gives, same-size}, ofusc.Statement.statement}
 use Rattle.collision.proofs.ofusc.Tie as tie
@@ -12,7 +12,7 @@ ofusc-hits-requires : tie.Need-ofusc-hits-requires
 ofusc-hits-requires c κs = (wide _ (four (c .before .before .before .before)) .is-width, ((c .before .before .before .if2 .left, c .before .before .if3 .left), (c .before .if4 .left, c .if5 .left)))
 
 pub ofusc-spec : {M : Type 1} → statement M
-unfolding ofuscOf isCell isSubchannel cells subchannels width
+unfolding ofuscOf isCell isSubchannel cellsOf subchannelsOf widthOf
 ofusc-spec =
     tie.close
     (tie.spec

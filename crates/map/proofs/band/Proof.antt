@@ -2,14 +2,14 @@
 use Rattle.base.proofs.Prelude.{arith, needs}
 use Rattle.map.proofs.{Choice.{told-bins, choosing}, ByMode.bin-width, band.Statement.statement}
 use Rattle.ofusc.proofs.Sequence.{size}
-use Rattle.map.specs.Mode.{band}
+use Rattle.map.specs.Mode.{band, bandOf}
 use Rattle.map.proofs.band.Tie as tie
 
 bin-band-requires : tie.Need-bin-band-requires
 bin-band-requires c κs = omega (arith, size (bin-width (c .before .before .before .before .before .before .before .pre) (search (told-bins, needs))))
 
 pub band-spec : {M : Type 1} → statement M
-unfolding band
+unfolding bandOf
 band-spec =
     tie.close
     (tie.spec

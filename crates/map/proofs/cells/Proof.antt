@@ -1,15 +1,15 @@
 -- `map::cells` meets its contract.
 use Rattle.base.proofs.Prelude.{mul-le-mul, arith, needs}
-use Rattle.map.specs.Mode.{width, cells}
+use Rattle.map.specs.Mode.{widthOf, cells, cellsOf}
 use Rattle.map.proofs.{Choice.choosing, cells.Statement.statement}
 use Rattle.map.proofs.cells.Tie as tie
 
 mul-result : tie.Need-mul-result
-unfolding width
+unfolding widthOf
 mul-result c = omega (arith, mul-le-mul {n₁ = c .before .width .result} {m₁ = c .width2 .result} {n₂ = 32} {m₂ = 32} (omega arith) (omega arith))
 
 pub cells-spec : {M : Type 1} → statement M
-unfolding cells
+unfolding cellsOf
 cells-spec =
     tie.close
     (tie.spec

@@ -2,18 +2,18 @@
 use Rattle.base.proofs.Prelude.{mul-le-mul, arith, needs}
 use Rattle.amc.proofs.Parts.{symbols-few}
 use Rattle.map.proofs.{Choice.{amc-shape, told-amc, choosing}, subchannels.Statement.statement}
-use Rattle.map.specs.Mode.{width, subchannels}
+use Rattle.map.specs.Mode.{widthOf, subchannels, subchannelsOf}
 use Rattle.map.proofs.subchannels.Tie as tie
 
 -- N is below 2^58, whatever the size
 mul-result : tie.Need-mul-result
-unfolding width
+unfolding widthOf
 mul-result c =
     let few = symbols-few _ (amc-shape _ (told-amc _ (c .before .before .before .before .is-amc .ensures) (c .before .before .before .if4 .taken))) in
     omega (arith, mul-le-mul {n₁ = c .before .before .width2 .result} {m₁ = c .before .shape .result .symbols} {n₂ = 288230376151711744} {m₂ = 6} (omega arith) (rw (c .before .shape .ensures) few))
 
 pub subchannels-spec : {M : Type 1} → statement M
-unfolding subchannels
+unfolding subchannelsOf
 subchannels-spec =
     tie.close
     (tie.spec

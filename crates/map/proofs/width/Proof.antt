@@ -1,11 +1,11 @@
 -- `map::width` meets its contract.
 use Rattle.base.proofs.Prelude.{needs}
-use Rattle.map.specs.Mode.{width}
+use Rattle.map.specs.Mode.{width, widthOf}
 use Rattle.map.proofs.width.Statement.{statement}
 use Rattle.map.proofs.width.Tie as tie
 
 returns : tie.Need-returns
-unfolding width
+unfolding widthOf
 returns c = search needs
 
 pub width-spec : {M : Type 1} → statement M
