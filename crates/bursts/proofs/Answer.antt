@@ -2,8 +2,8 @@
 use Rattle.base.proofs.{Prelude.{_≡_, sym, ap, _∙_, List, [], ℕ, _<_, _≤_, arith, ltb, ltb-false}, Test.cases}
 use Rattle.base.proofs.Tabulate.{getD-tabulate, tabulated, length-tabulate}
 use Rattle.base.specs.{Answer.{Answer, accepted, refused}, Tabulate.tabulate}
-use Rattle.map.specs.{Mode.subchannels, Question.isSubchannel}
-use Rattle.map.proofs.ByMode.{few}
+use Rattle.modes.specs.{Mode.subchannels, Question.isSubchannel}
+use Rattle.modes.proofs.ByMode.{few}
 use Rattle.zone.specs.{declared.Zone.Zone, Zone.{setupOf, fieldsRefusal}}
 use Rattle.zone.proofs.Judge.{fields-valid, fields-slots}
 use Rattle.burst.specs.Burst.{burstAt, isCovering}

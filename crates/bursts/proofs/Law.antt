@@ -4,7 +4,7 @@ use Rattle.base.proofs.Prelude.{eqb-true, eqb-false, lt-ltb, le-ltb, ltb-true, 
 use Rattle.base.proofs.{Test.{cases, true-false}, Tabulate.{length-tabulate, entry-of}, First.{first-most, first-passes, none-is, none-not}}
 use Rattle.base.proofs.Chain.{Questions, askAll, firstNo, counted, all-numbered, all-yes, numbered-zero}
 use Rattle.base.specs.{Answer.{Answer, accepted, refused, refusalOf}, Steps.entry, Tabulate.tabulate, First.firstOf}
-use Rattle.map.specs.{Mode.subchannels, Question.{isSlot, isSubchannel}}
+use Rattle.modes.specs.{Mode.subchannels, Question.{isSlot, isSubchannel}}
 use Rattle.zone.specs.{declared.Zone.Zone, Zone.{setupOf, askFields, fieldsRefusal}}
 use Rattle.burst.specs.Burst.{burstAt, isCovering, isInside, isOverlap}
 use Rattle.burst.proofs.Cover.{inside-covers, inside-first, inside-is, overlap-is, overlap-common}

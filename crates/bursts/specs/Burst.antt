@@ -2,7 +2,7 @@
 use mathlib.Core.List.{List}
 use Prim.Native.Nat.{ℕ}
 use Rattle.base.specs.Answer.{Answer, accepted, refusalOf}
-use Rattle.map.specs.Mode.{subchannels}
+use Rattle.modes.specs.Mode.{subchannels}
 use Rattle.zone.specs.declared.Zone.{Zone}
 use Rattle.zone.specs.Zone.{setupOf, askFields}
 use Rattle.burst_list.specs.List.{askList}

@@ -5,7 +5,7 @@ use mathlib.Core.List.{List}
 use Prim.Native.Nat.{ℕ, _+_, _%_, _<_, _≤_}
 use lib.ListN.{length}
 use Rattle.base.specs.Steps.{entry}
-use Rattle.map.specs.Mode.{subchannels}
+use Rattle.modes.specs.Mode.{subchannels}
 use Rattle.mask.specs.Mask.{isMask}
 use Rattle.zone.specs.declared.Zone.{Zone}
 use Rattle.zone.specs.Zone.{setupOf, fieldsRefusal}

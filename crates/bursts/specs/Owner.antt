@@ -4,7 +4,7 @@ use Prim.Native.Nat.{ℕ}
 use Rattle.base.specs.Choice.{pick}
 use Rattle.base.specs.Answer.{Answer, accepted, refused, ask}
 use Rattle.base.specs.Tabulate.{tabulate}
-use Rattle.map.specs.Question.{isSlot, isSubchannel}
+use Rattle.modes.specs.Question.{isSlot, isSubchannel}
 use Rattle.zone.specs.declared.Zone.{Zone}
 use Rattle.zone.specs.Zone.{setupOf, askFields}
 use Rattle.burst_owner.specs.declared.Owned.{Owned}

@@ -1,10 +1,10 @@
 // Bursts in a zone: the check of a list of them, and which owns a subchannel in a slot.
 use burst_owner::Owned;
-use map::Setup;
+use modes::Setup;
 use zone::Zone;
 ghost use mathlib.Core.Path.{_≡_};
 ghost use Rattle.base.specs.Tabulate.{tabulate};
-ghost use Rattle.map.specs.Mode.{subchannels as Subchannels};
+ghost use Rattle.modes.specs.Mode.{subchannels as Subchannels};
 ghost use Rattle.zone.specs.Zone.{setupOf};
 ghost use Rattle.burst_owner.specs.Owner.{noOwner};
 ghost use Rattle.bursts.specs.Burst.{checkOf};
@@ -20,7 +20,7 @@ pub struct OwnerRow {
 fn subchannels(size: usize, zone: Zone) -> usize
     ensures { λ r. ⌜ r ≡ Subchannels (setupOf size zone) ⌝ }
 {
-    map::subchannels(Setup {
+    modes::subchannels(Setup {
         mode: zone.mode,
         size: size,
         cell: zone.cell,

@@ -1,7 +1,7 @@
 // What the C calls of several crates share.
-use map::Setup;
+use modes::Setup;
 ghost use mathlib.Core.Path.{_≡_};
-ghost use Rattle.map.specs.declared.Setup.{Setup};
+ghost use Rattle.modes.specs.declared.Setup.{Setup};
 
 // A setup from its numbers in C.
 pub fn setup(mode: u32, size: u32, cell: u32) -> Setup

@@ -2,7 +2,7 @@
 // returns 0, or document 01's refusal number; on a refusal nothing is written.
 use points::Point;
 ghost use mathlib.Core.Path.{_≡_};
-ghost use Rattle.map.specs.Setup.{setupWith};
+ghost use Rattle.modes.specs.Setup.{setupWith};
 ghost use Rattle.ground.specs.Ground.{groundOf};
 ghost use Rattle.lay.specs.Lay.{layOf};
 ghost use Rattle.empty.specs.Empty.{emptyOf, emptyFirstOf};

@@ -2,7 +2,7 @@
 use Rattle.base.proofs.Prelude.{_≡_, sym, ap, _∙_, List, ℕ, _<_}
 use lib.{IntN.ℤ, Ieee.Float}
 use Rattle.base.specs.Answer.{Answer}
-use Rattle.map.specs.Setup.{Setup}
+use Rattle.modes.specs.Setup.{Setup}
 use Rattle.map.proofs.Law.{point-small}
 use Rattle.points.specs.declared.Point.{Point}
 use Rattle.look.specs.{declared.Seen.Seen, declared.Seen.the-variants.Data, Look.{Sight, lookOf, seen}}

@@ -1,7 +1,7 @@
 // The C call that looks at a grid. It returns 0, or document 01's refusal number; on a refusal nothing is written.
 use look::Seen;
 ghost use mathlib.Core.Path.{_≡_};
-ghost use Rattle.map.specs.Setup.{setupWith};
+ghost use Rattle.modes.specs.Setup.{setupWith};
 ghost use Rattle.look.specs.Look.{lookOf};
 ghost use Rattle.capi_look.specs.Look.{lookOut};
 

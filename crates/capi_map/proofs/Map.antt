@@ -3,7 +3,8 @@ use Rattle.base.proofs.Prelude.{_≡_, sym, ap, _∙_, ℕ, _<_, arith}
 use lib.IntN.{ℤ}
 use mir.{Syntax.w32, Val.SFits}
 use Rattle.base.specs.Answer.{Answer}
-use Rattle.map.specs.{Setup.Setup, declared.Placed.Placed, declared.Placed.the-variants.At, declared.Located.Located}
+use Rattle.modes.specs.Setup.{Setup}
+use Rattle.map.specs.{declared.Placed.Placed, declared.Placed.the-variants.At, declared.Located.Located}
 use Rattle.map.specs.{declared.Located.the-variants.Data, Place.{Place, Content, placed, located, placeOf, locateOf}}
 use Rattle.map.proofs.Law.{place-small, point-small}
 use Rattle.capi_map.specs.Map.{placeOut, locateOut}

@@ -2,7 +2,7 @@
 use map::Located;
 use map::Placed;
 ghost use mathlib.Core.Path.{_≡_};
-ghost use Rattle.map.specs.Setup.{setupWith};
+ghost use Rattle.modes.specs.Setup.{setupWith};
 ghost use Rattle.map.specs.Place.{placeOf, locateOf};
 ghost use Rattle.capi_map.specs.Map.{PlaceOut, placeOut, LocateOut, locateOut};
 

@@ -10,8 +10,9 @@ use Rattle.ofusc.specs.{Width.Width, Map.{groupOf, cellTerm, dataNumber}}
 use Rattle.ofusc_rows.specs.Model.{cellNumber, groupNumber}
 use Rattle.ofusc.proofs.{Sequence.pos, Law.element-lt}
 use Rattle.ofusc_rows.proofs.Row.{with-subchannel}
-use Rattle.map.specs.{Setup.setupWith, Mode.{widthOf, symbolsOf, bandOf, spotOf}}
-use Rattle.map.proofs.Accept.{width-is}
+use Rattle.modes.specs.{Setup.setupWith, Mode.{widthOf, symbolsOf, bandOf}}
+use Rattle.map.specs.Formula.{spotOf}
+use Rattle.modes.proofs.Accept.{width-is}
 use Rattle.collision.specs.Collision.{indexIn, columnIn, ofuscHit}
 
 -- two tests agree where the one equation holds just when the other does

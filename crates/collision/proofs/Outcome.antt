@@ -2,8 +2,8 @@
 use Rattle.base.proofs.Prelude.{_≡_, ap, _∙_, Bool, true, ℕ, _*_, _/_, _≤_, arith}
 use Rattle.base.specs.Answer.{Answer, accepted}
 use Rattle.ofusc.specs.Width.{Width, n4, n8, n16, n32}
-use Rattle.map.specs.Question.{isFourSizes}
-use Rattle.map.proofs.Accept.{Sized, sized, four-sizes, width-is}
+use Rattle.modes.specs.Question.{isFourSizes}
+use Rattle.modes.proofs.Accept.{Sized, sized, four-sizes, width-is}
 use Rattle.collision.specs.{declared.Collisions.Collisions, Collision.{ofuscHit, answerOf}}
 
 -- N of an accepted size, and its cells

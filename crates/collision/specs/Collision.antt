@@ -9,9 +9,10 @@ use Rattle.base.specs.Steps.{unrotate}
 use Rattle.base.specs.Tabulate.{tabulate}
 use Rattle.carriers.specs.Band.{carrierOf}
 use Rattle.amc.specs.Map.{traffic}
-use Rattle.map.specs.Setup.{Setup, setupWith}
-use Rattle.map.specs.Mode.{band, spotOf}
-use Rattle.map.specs.Question.{isFourSizes, isCell, isSubchannel}
+use Rattle.modes.specs.Setup.{Setup, setupWith}
+use Rattle.modes.specs.Mode.{band}
+use Rattle.map.specs.Formula.{spotOf}
+use Rattle.modes.specs.Question.{isFourSizes, isCell, isSubchannel}
 use Rattle.collision.specs.declared.Collisions.{Collisions}
 
 -- how many marks are set

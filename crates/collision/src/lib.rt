@@ -84,7 +84,7 @@ pub fn ofusc(
 ) -> Collisions
     ensures { λ r. ⌜ r ≡ ofuscOf size «cell_a» «subchannel_a» «cell_b» «subchannel_b» ⌝ }
 {
-    if !map::is_four_sizes(size) {
+    if !modes::is_four_sizes(size) {
         return refused(2);
     }
     let n = size / 64;

@@ -3,7 +3,7 @@ use Rattle.base.proofs.Prelude.{_≡_, refl, sym, ap, _∙_, List, ℕ, _*_, _<
 use Rattle.base.proofs.Test.{cases}
 use lib.Ieee.{Float}
 use Rattle.base.specs.Answer.{accepted}
-use Rattle.map.specs.Setup.{Setup}
+use Rattle.modes.specs.Setup.{Setup}
 use Rattle.mask.specs.Mask.{litSubchannels}
 use Rattle.points.specs.{declared.Point.Point, Points.{pointAt, floatsOf}}
 use Rattle.points.proofs.Points.{length-floats, point-floats, by-points}

@@ -2,7 +2,7 @@
 use Rattle.base.proofs.{Prelude.{_≡_, refl, _∙_, List, ℕ, _+_, _*_, _<_, _≤_, arith, ltb, length, ltb-true, ltb-false, lt-ltb}, Test.cases}
 use lib.Ieee.{Float}
 use Rattle.base.specs.Choice.{pick}
-use Rattle.map.specs.{Setup.Setup, Mode.symbols, Model.Valid}
+use Rattle.modes.specs.{Setup.Setup, Mode.symbols, Model.Valid}
 use Rattle.mask.specs.Mask.{litSubchannels}
 use Rattle.points.specs.{declared.Point.Point, Points.{pointAt, floatsOf}}
 use Rattle.points.proofs.Points.{length-floats, point-floats, by-points}

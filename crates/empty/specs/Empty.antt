@@ -6,7 +6,7 @@ use lib.ListN.{length}
 use lib.Ieee.{Float}
 use Rattle.base.specs.Answer.{accepted}
 use Rattle.base.specs.Choice.{pick}
-use Rattle.map.specs.Setup.{Setup}
+use Rattle.modes.specs.Setup.{Setup}
 use Rattle.mask.specs.Mask.{litSubchannels, ofLitRank}
 use Rattle.points.specs.Points.{pointAt, floatsOf}
 use Rattle.lengths.specs.Question.{askEmpty}

@@ -1,10 +1,10 @@
 // The lit subchannels' points taken off a slot's grid, row after row.
-use map::Setup;
+use modes::Setup;
 ghost use mathlib.Core.Path.{_≡_};
 ghost use Prim.Native.Nat.{_*_, _<_};
 ghost use lib.ListN.{length};
-ghost use Rattle.map.specs.Setup.{alone};
-ghost use Rattle.map.specs.Model.{Valid};
+ghost use Rattle.modes.specs.Setup.{alone};
+ghost use Rattle.modes.specs.Model.{Valid};
 ghost use Rattle.mask.specs.Mask.{litSubchannels};
 ghost use Rattle.lengths.specs.Length.{gridPoints};
 ghost use Rattle.empty.specs.Empty.{emptiedFirst, emptyOf, emptyFirstOf};
@@ -25,7 +25,7 @@ fn empty_rows(
     let lit = runs::lit_runs(setup, mask);
     let runs = point_numbers::run_table(setup, mask);
     let places = point_numbers::place_table(setup);
-    let symbols = map::symbols(setup);
+    let symbols = modes::symbols(setup);
     let mut row = 0;
     while row < symbols {
         row_walk::empty_row(

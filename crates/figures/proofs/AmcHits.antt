@@ -5,9 +5,11 @@ use Rattle.ofusc.specs.Width.{Width}
 use Rattle.ofusc.proofs.Sequence.{pos}
 use Rattle.amc.specs.{declared.Shape.Shape, Model.IsShape, Map.{traffic, trafficNumber, dataNumber}}
 use Rattle.amc.proofs.Law.{traffic-lt, traffic-back, offset-lt, number-below}
-use Rattle.map.specs.{Place.{Place, usedCarrier, placeAt, placeOf}, Setup.setupWith, Mode.{shapeOf, widthOf, subchannels, subchannelsOf, symbolsOf, bandOf, spotOf}}
-use Rattle.map.specs.Model.{IsAmc, amc}
-use Rattle.map.proofs.{Accept.width-is, Choice.{amc-shape, amc-column}, Law.place-accepts}
+use Rattle.map.specs.{Place.{Place, usedCarrier, placeAt, placeOf}, Formula.spotOf}
+use Rattle.modes.specs.{Setup.setupWith, Mode.{shapeOf, widthOf, subchannels, subchannelsOf, symbolsOf, bandOf}}
+use Rattle.modes.specs.Model.{IsAmc, amc}
+use Rattle.modes.proofs.{Accept.width-is, Choice.{amc-shape, amc-column}}
+use Rattle.map.proofs.Law.{place-accepts}
 use Rattle.collision.specs.Collision.{amcHit}
 use Rattle.collision.proofs.Group.{carrierAt, numberOf, number-at}
 use Rattle.figures.specs.Word.{SamePlace}

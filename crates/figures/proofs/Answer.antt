@@ -1,8 +1,8 @@
 -- What the two calls answer where they accept: the marks, one by one, and their count.
 use Rattle.base.proofs.{Prelude.{_≡_, refl, sym, ap, _∙_, Bool, false, List, ℕ, _*_, _<_, getD, lt-ltb}, Tabulate.getD-tabulate}
 use Rattle.base.specs.{Answer.{Answer, accepted, refused}, Tabulate.tabulate}
-use Rattle.map.specs.{Mode.{widthOf, cellsOf, subchannelsOf}, Question.{isCell, isSubchannel}}
-use Rattle.map.proofs.Accept.{size-passes, width-is}
+use Rattle.modes.specs.{Mode.{widthOf, cellsOf, subchannelsOf}, Question.{isCell, isSubchannel}}
+use Rattle.modes.proofs.Accept.{size-passes, width-is}
 use Rattle.collision.specs.{declared.Collisions.Collisions, Collision.{countOf, ofuscHit, amcHit, answerOf, ofuscOf, amcOf}}
 use Rattle.figures.specs.Word.{Pair}
 

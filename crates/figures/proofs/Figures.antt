@@ -7,9 +7,11 @@ use Rattle.carriers.specs.{Band.carrierOf, Bin.{binPilotPlace, usedOfData}}
 use Rattle.ofusc.specs.{Width.{Width, n4, n8, n16, n32}, Field.{modulus, coefficient, product, remainder, times, power, p1, p2}}
 use Rattle.ofusc.specs.Map.{groupOf, term, cellTerm, dataNumber}
 use Rattle.amc.specs.{Element.{add, sequence, times as product′}, Map.{off, zeroRule, elementOf, traffic}}
-use Rattle.map.specs.{Setup.setupWith, Mode.{width, widthOf, cellsOf, subchannelsOf, symbolsOf, bandOf, spotOf}, Question.{isFourSizes, isCell, isSubchannel}}
+use Rattle.modes.specs.{Setup.setupWith, Mode.{width, widthOf, cellsOf, subchannelsOf, symbolsOf, bandOf}, Question.{isFourSizes, isCell, isSubchannel}}
+use Rattle.map.specs.Formula.{spotOf}
 use Rattle.map.specs.Place.{Place, placeOf}
-use Rattle.map.proofs.{Accept.width-is, Law.placing, ByMode.in-ofusc}
+use Rattle.modes.proofs.{Accept.width-is, ByMode.in-ofusc}
+use Rattle.map.proofs.Law.{placing}
 use Rattle.collision.specs.Collision.{countOf, indexIn, columnIn, ofuscHit, amcHit, answerOf, ofuscOf, amcOf}
 use Rattle.figures.specs.{Word.{Pair, InGroup, Marked, Reached, most}, Figures.Figures}
 use Rattle.figures.proofs.Count.{count-all, count-rows, sum-same}

@@ -5,7 +5,8 @@ use lib.Bits.{bitXor}
 use Rattle.base.specs.{Answer.accepted, Tabulate.tabulate}
 use Rattle.ofusc.specs.{Width.Width, Map.{cellTerm, dataNumber}}
 use Rattle.ofusc.proofs.{Sequence.{sum-lt, cell-term-lt}, Law.element-lt}
-use Rattle.map.specs.{Place.{Place, placeOf}, Setup.setupWith}
+use Rattle.map.specs.Place.{Place, placeOf}
+use Rattle.modes.specs.Setup.{setupWith}
 use Rattle.map.proofs.Law.{placing}
 use Rattle.collision.specs.Collision.{countOf, indexIn, ofuscHit}
 use Rattle.figures.specs.Word.{Allowed, Pair, InGroup, Marked, inRow, SameInGroup, sum}

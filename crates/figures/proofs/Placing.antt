@@ -3,8 +3,10 @@ use Rattle.base.proofs.{Prelude.{_≡_, refl, sym, ap, _∙_, ℕ, _+_, _-_, _*
 use Rattle.base.specs.Answer.{accepted}
 use Rattle.ofusc.specs.{Width.Width, Map.{groupOf, dataNumber}}
 use Rattle.ofusc.proofs.{Sequence.pos, Law.{element-lt, group-digit, law}}
-use Rattle.map.specs.{Setup.setupWith, Mode.{widthOf, symbolsOf, subchannelsOf, bandOf, spotOf}, Place.{Place, usedCarrier, placeAt, placeOf}, Model.ofusc}
-use Rattle.map.proofs.{Accept.width-is, Law.place-accepts}
+use Rattle.modes.specs.{Setup.setupWith, Mode.{widthOf, symbolsOf, subchannelsOf, bandOf}, Model.ofusc}
+use Rattle.map.specs.{Formula.spotOf, Place.{Place, usedCarrier, placeAt, placeOf}}
+use Rattle.modes.proofs.Accept.{width-is}
+use Rattle.map.proofs.Law.{place-accepts}
 use Rattle.collision.specs.Collision.{indexIn}
 use Rattle.figures.specs.Word.{InGroup}
 use Rattle.collision.proofs.Group.{carrierAt, one-symbol, same-number, element, number-in}

@@ -6,8 +6,8 @@ use Rattle.base.specs.Answer.{accepted}
 use Rattle.ofusc.specs.Width.{Width}
 use Rattle.amc.specs.Map.{traffic}
 use Rattle.map.specs.Place.{Place, placeOf}
-use Rattle.map.specs.Setup.{setupWith}
-use Rattle.map.specs.Mode.{subchannels}
+use Rattle.modes.specs.Setup.{setupWith}
+use Rattle.modes.specs.Mode.{subchannels}
 use Rattle.collision.specs.Collision.{countOf, indexIn, ofuscOf, amcOf}
 use Rattle.figures.specs.Word.{Allowed, Pair, InGroup, Marked, inRow, SamePlace, SameInGroup, Reached, sum, most}
 

@@ -8,9 +8,12 @@ use Rattle.carriers.specs.{declared.Band.Band, declared.Spot.Spot, Band.{carrie
 use Rattle.carriers.proofs.Guards.{carrier-lt, used-carrier}
 use Rattle.centre.specs.Centre.{fromDc}
 use Rattle.centre.proofs.Law.{one-column}
-use Rattle.map.specs.{Setup.Setup, Mode.{subchannels, symbols, band, isPilot, spotOf}}
-use Rattle.map.specs.{Place.{Content, guard, point, Place, usedCarrier, placeAt, contentOf}, Model.Valid}
-use Rattle.map.proofs.{Slot.{slot-law, band-law, centred}, Law.{content-placed, locate-column, placed-where-located, placing}}
+use Rattle.modes.specs.{Setup.Setup, Mode.{subchannels, symbols, band}}
+use Rattle.map.specs.Formula.{isPilot, spotOf}
+use Rattle.map.specs.Place.{Content, guard, point, Place, usedCarrier, placeAt, contentOf}
+use Rattle.modes.specs.Model.{Valid}
+use Rattle.map.proofs.{Slot.slot-law, Law.{content-placed, locate-column, placed-where-located, placing}}
+use Rattle.modes.proofs.Whole.{band-law, centred}
 use Rattle.mask.specs.Mask.{isLit, isUsedLit, litContent}
 use Rattle.mask.proofs.Law.{point-lit}
 use Rattle.lengths.specs.Length.{gridPoints}

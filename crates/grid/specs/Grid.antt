@@ -5,8 +5,9 @@ use Prim.Native.Nat.{ℕ, _+_, _*_, _%_}
 use lib.Ieee.{Float}
 use Rattle.base.specs.Answer.{Answer, accepted, refused}
 use Rattle.centre.specs.Centre.{fromDc}
-use Rattle.map.specs.Setup.{Setup}
-use Rattle.map.specs.Mode.{symbols, spotOf}
+use Rattle.modes.specs.Setup.{Setup}
+use Rattle.modes.specs.Mode.{symbols}
+use Rattle.map.specs.Formula.{spotOf}
 use Rattle.map.specs.Place.{Content}
 use Rattle.map.specs.Law.{PlacedAt}
 use Rattle.mask.specs.Mask.{litContent}

@@ -3,8 +3,8 @@ use Prim.Native.Nat.{ℕ, _+_, _*_, _/_, _%_}
 use lib.IntN.{ℤ}
 use Rattle.carriers.specs.Band.{carrierOf}
 use Rattle.centre.specs.Centre.{onRow}
-use Rattle.map.specs.Setup.{Setup}
-use Rattle.map.specs.Mode.{band}
+use Rattle.modes.specs.Setup.{Setup}
+use Rattle.modes.specs.Mode.{band}
 
 -- where a column of a row stands in the grid, row r being symbol r of the slot
 unfoldable pub columnPosition : (setup : Setup) (row column : ℕ) → ℕ

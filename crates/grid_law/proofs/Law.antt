@@ -7,10 +7,13 @@ use Rattle.base.specs.{Choice.pick, Answer.accepted}
 use Rattle.carriers.specs.Band.{carrierOf, usedOf}
 use Rattle.carriers.proofs.Guards.{carrier-lt, used-carrier}
 use Rattle.centre.specs.Centre.{fromDc}
-use Rattle.map.specs.{Setup.Setup, Mode.{subchannels, symbols, band, isPilot, spotOf}, Law.Passes}
+use Rattle.modes.specs.{Setup.Setup, Mode.{subchannels, symbols, band}}
+use Rattle.map.specs.{Formula.{isPilot, spotOf}, Law.Passes}
 use Rattle.map.specs.Place.{Place, Content, guard, dc, pilot, point, usedCarrier, placeAt, placeOf, contentOf}
-use Rattle.map.proofs.{ByMode.few, Slot.{slot-law, band-law, centred}}
-use Rattle.map.proofs.Law.{setup-asked, placing, place-accepts, content-placed, dc-content, pilot-content}
+use Rattle.modes.proofs.{ByMode.few, Whole.{band-law, centred}}
+use Rattle.map.proofs.Slot.{slot-law}
+use Rattle.modes.proofs.Accept.{setup-asked}
+use Rattle.map.proofs.Law.{placing, place-accepts, content-placed, dc-content, pilot-content}
 use Rattle.mask.specs.Mask.{isMask, isLit, isUsedLit, litContent, litSubchannels, litRank, ofLitRank, allLit}
 use Rattle.mask.proofs.Law.{mask-law, point-lit}
 use Rattle.points.specs.{declared.Point.Point, Points.{zeroPoint, pointAt, floatsOf}}

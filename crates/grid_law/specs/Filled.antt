@@ -2,8 +2,8 @@
 use mathlib.Core.List.{List}
 use Prim.Native.Nat.{ℕ, _+_, _*_}
 use lib.Ieee.{Float}
-use Rattle.map.specs.Setup.{Setup}
-use Rattle.map.specs.Mode.{symbols}
+use Rattle.modes.specs.Setup.{Setup}
+use Rattle.modes.specs.Mode.{symbols}
 use Rattle.map.specs.Place.{Content, guard, dc, pilot, point, contentOf}
 use Rattle.mask.specs.Mask.{litRank}
 use Rattle.points.specs.declared.Point.{Point}

@@ -10,8 +10,9 @@ use lib.Ieee.{Float}
 use Rattle.base.specs.Choice.{pick}
 use Rattle.base.specs.Answer.{accepted}
 use Rattle.carriers.specs.Band.{carrierOf, isGuard}
-use Rattle.map.specs.Setup.{Setup, setupLent}
-use Rattle.map.specs.Mode.{subchannels, symbols, band, isPilot}
+use Rattle.modes.specs.Setup.{Setup, setupLent}
+use Rattle.modes.specs.Mode.{subchannels, symbols, band}
+use Rattle.map.specs.Formula.{isPilot}
 use Rattle.map.specs.Place.{Place, usedCarrier, placeOf}
 use Rattle.map.specs.Law.{Passes}
 use Rattle.mask.specs.Mask.{isMask, isLit, isUsedLit, litRank, allLit}

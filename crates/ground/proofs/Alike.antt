@@ -4,8 +4,10 @@ use mathlib.Core.Logic.{_⊎_, ⊎-elim}
 use lib.Ieee.{Float}
 use Rattle.base.specs.Answer.{Answer, accepted, ask}
 use Rattle.carriers.specs.Band.{usedOf, isGuard, isDc}
-use Rattle.map.specs.{Setup.{Setup, setupLent}, Mode.{symbols, band, isPilot}, Question.isSlot, Place.{dataAt, contentOf}, Model.Valid}
-use Rattle.map.proofs.{Accept.passes, Alike.{alike-mod-3, alike-by-threes, pilots-down, pilots-alike, same-symbols, same-band, same-pilots}}
+use Rattle.modes.specs.{Setup.{Setup, setupLent}, Mode.{symbols, band}, Question.isSlot, Model.Valid}
+use Rattle.map.specs.{Formula.isPilot, Place.{dataAt, contentOf}}
+use Rattle.modes.proofs.Accept.{passes}
+use Rattle.map.proofs.Alike.{alike-mod-3, alike-by-threes, pilots-down, pilots-alike, same-pilots}
 use Rattle.mask.specs.Mask.{isMask, isUsedLit, litContent, allLit}
 use Rattle.mask.proofs.Law.{mask-law}
 use Rattle.points.specs.{declared.Point.Point, Points.floatsOf}
@@ -70,7 +72,7 @@ module _ (mode size cell other slot : ℕ) (pilots : List ℕ) (p : Point) (old 
   unfolding contentOf dataAt bare
   same-bare y column =
       let used = usedOf (band b) column in
-      rw (mask-law .all-content a y column, mask-law .all-content b y column, same-band mode size cell other pilots, same-pilots mode size cell other pilots y used)
+      rw (mask-law .all-content a y column, mask-law .all-content b y column, same-pilots mode size cell other pilots y used)
       (cases (isGuard (band b) size column)
       (λ g. rw g)
       (λ g. cases (isDc (band b) column)
@@ -80,7 +82,7 @@ module _ (mode size cell other slot : ℕ) (pilots : List ℕ) (p : Point) (old 
   pub every-cell : Valid a → Valid b → groundOf a (allLit mode) slot p old ≡ groundOf b (allLit mode) slot p old
   unfolding groundOf grounded isGrid gridPoints rowOf columnOf
   every-cell va vb =
-      rw (passes va, passes vb, same-symbols mode size cell other pilots) (λ i. ground (λ n. same-bare (slot * symbols b + rowOf b n) (columnOf b n) i))
+      rw (passes va, passes vb) (λ i. ground (λ n. same-bare (slot * symbols b + rowOf b n) (columnOf b n) i))
     where
       ground : (ℕ → Point) → Outcome
       ground f =

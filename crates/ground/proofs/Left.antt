@@ -2,7 +2,7 @@
 use Rattle.base.proofs.Prelude.{_≡_, refl, ap, _∙_, List, ℕ, _*_, _<_, length}
 use lib.Ieee.{Float}
 use Rattle.base.specs.Answer.{accepted}
-use Rattle.map.specs.Setup.{Setup}
+use Rattle.modes.specs.Setup.{Setup}
 use Rattle.points.specs.{declared.Point.Point, Points.pointAt}
 use Rattle.points.proofs.Points.{point-floats}
 use Rattle.lengths.specs.{Length.gridPoints, Model.groundRefusal}

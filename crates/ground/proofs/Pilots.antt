@@ -8,8 +8,10 @@ use native.Mathlib.Nat.{mul-le-mul-right}
 use lib.Ieee.{Float}
 use Rattle.carriers.specs.Band.{usedOf}
 use Rattle.carriers.proofs.Guards.{used-carrier}
-use Rattle.map.specs.{Setup.Setup, Mode.{symbols, band, isPilot}, Place.{Content, guard, dc, pilot, point}, Model.Valid}
-use Rattle.map.proofs.{Slot.band-law, Law.{pilot-content, pilot-at}}
+use Rattle.modes.specs.{Setup.Setup, Mode.{symbols, band}, Model.Valid}
+use Rattle.map.specs.{Formula.isPilot, Place.{Content, guard, dc, pilot, point}}
+use Rattle.modes.proofs.Whole.{band-law}
+use Rattle.map.proofs.Law.{pilot-content, pilot-at}
 use Rattle.mask.specs.Mask.{isUsedLit, litContent}
 use Rattle.points.specs.{declared.Point.Point, Points.{zero32, zeroPoint, pointAt}, Model.putPoint}
 use Rattle.points.proofs.Points.{by-points, point-cleared, length-put, put-same, put-other}

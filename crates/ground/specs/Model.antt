@@ -7,8 +7,9 @@ use lib.Dec.{ltb}
 use lib.ListN.{length}
 use lib.Ieee.{Float}
 use Rattle.base.specs.Choice.{pick}
-use Rattle.map.specs.Setup.{Setup}
-use Rattle.map.specs.Mode.{symbols, isPilot}
+use Rattle.modes.specs.Setup.{Setup}
+use Rattle.modes.specs.Mode.{symbols}
+use Rattle.map.specs.Formula.{isPilot}
 use Rattle.runs.specs.declared.Runs.{Runs}
 use Rattle.points.specs.declared.Point.{Point}
 use Rattle.points.specs.Points.{pointAt}

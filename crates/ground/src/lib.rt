@@ -1,13 +1,13 @@
 // The ground of a slot's grid: pilots and zeros.
-use map::Setup;
+use modes::Setup;
 use points::Point;
 use runs::Runs;
 ghost use mathlib.Core.Path.{_≡_};
 ghost use Prim.Native.Nat.{_+_, _*_, _<_};
 ghost use lib.ListN.{length};
-ghost use Rattle.map.specs.Setup.{alone};
-ghost use Rattle.map.specs.Mode.{symbols, band};
-ghost use Rattle.map.specs.Model.{Valid};
+ghost use Rattle.modes.specs.Setup.{alone};
+ghost use Rattle.modes.specs.Mode.{symbols, band};
+ghost use Rattle.modes.specs.Model.{Valid};
 ghost use Rattle.runs.specs.Model.{LitRuns, runStep, runCount};
 ghost use Rattle.points.specs.Model.{putPoint};
 ghost use Rattle.lengths.specs.Length.{gridPoints};
@@ -30,7 +30,7 @@ fn put_pilot(
     ensures { λ _. ⌜ now (grid .exit) ≡ putPoint (now (grid .entry)) (usedPosition (alone setup) row (i * runStep (alone setup) + place)) p ⌝ }
 {
     let used = i * step + place;
-    let at = row * setup.size + carriers::carrier(map::band(setup), used);
+    let at = row * setup.size + carriers::carrier(modes::band(setup), used);
     points::put_point(grid, at, p);
 }
 
@@ -59,7 +59,7 @@ fn pilot_row(
     requires { ⌜ LitRuns (alone setup) mask (now lit) ⌝ }
     ensures { λ _. ⌜ PilotsBelow (alone setup) mask slot p row (band (alone setup) .used) (now (grid .entry)) (now (grid .exit)) ⌝ }
 {
-    let shape = runs::symbol_runs(setup, slot * map::symbols(setup) + row);
+    let shape = runs::symbol_runs(setup, slot * modes::symbols(setup) + row);
     if shape.step <= shape.first {
         return;
     }
@@ -82,7 +82,7 @@ fn zeros_and_pilots(setup: Setup, mask: usize, slot: usize, p: Point, grid: &mut
 {
     points::clear(grid);
     let lit = runs::lit_runs(setup, mask);
-    let symbols = map::symbols(setup);
+    let symbols = modes::symbols(setup);
     let mut row = 0;
     while row < symbols {
         pilot_row(setup, mask, &lit, slot, row, p, grid);

@@ -23,23 +23,24 @@ use Rattle.ofusc.specs.Map as ofusc
 use Rattle.ofusc.specs.Field as field
 use Rattle.amc.specs.Map as amc
 use Rattle.amc.specs.Element as element
-use Rattle.map.specs.Mode as mode
-use Rattle.map.specs.Question as question
+use Rattle.modes.specs.Mode as mode
+use Rattle.map.specs.Formula as formula
+use Rattle.modes.specs.Question as question
 use Rattle.burst.specs.Burst as burst
 use Rattle.burst_list.specs.List as list
 
 any-cell : (cell : ℕ) → cell < 32 → AnyCell cell
-unfolding skip unskip inRange onRow locateOf contentOf dataAt mode.cellsOf mode.symbolsOf mode.bandOf mode.isPilot question.isMode question.isSize question.isCell question.isSymbol question.isCarrier band.usedOf band.isGuard band.isDc cluster.isClusterPilot cluster.firstPilot cluster.secondPilot
+unfolding skip unskip inRange onRow locateOf contentOf dataAt mode.cellsOf mode.symbolsOf mode.bandOf formula.isPilot question.isMode question.isSize question.isCell question.isSymbol question.isCarrier band.usedOf band.isGuard band.isDc cluster.isClusterPilot cluster.firstPilot cluster.secondPilot
 any-cell cell h =
     let e = lt-ltb cell 32 h in
     record { data-in-symbol-0 = rw e; pilot-in-symbol-1 = rw e; guard-below = λ y l. rw (e, lt-ltb y 1024 l); dc-in-the-middle = λ y l. rw (e, lt-ltb y 1024 l) }
 
 counts : (ofuscOf 1024 0 6 17 0 .count ≡ 7) × (ofuscOf 1024 0 2 244 0 .count ≡ 8)
-unfolding countOf tabulate skip ofuscOf answerOf ofuscHit columnIn indexIn question.isFourSizes question.isCell question.isSubchannel mode.widthOf mode.cellsOf mode.subchannelsOf mode.symbolsOf mode.bandOf mode.spotOf band.carrierOf bin.binPilotPlace bin.usedOfData ofusc.groupOf ofusc.term ofusc.cellTerm ofusc.dataNumber field.modulus field.coefficient field.product field.remainder field.times field.power field.p1 field.p2
+unfolding countOf tabulate skip ofuscOf answerOf ofuscHit columnIn indexIn question.isFourSizes question.isCell question.isSubchannel mode.widthOf mode.cellsOf mode.subchannelsOf mode.symbolsOf mode.bandOf formula.spotOf band.carrierOf bin.binPilotPlace bin.usedOfData ofusc.groupOf ofusc.term ofusc.cellTerm ofusc.dataNumber field.modulus field.coefficient field.product field.remainder field.times field.power field.p1 field.p2
 counts = (refl, refl)
 
 at-2048 : setFrom 0 (ofuscOf 2048 0 2 1010 0 .hits) ≡ groups
-unfolding setFrom tabulate skip ofuscOf answerOf ofuscHit columnIn indexIn question.isFourSizes question.isCell question.isSubchannel mode.widthOf mode.cellsOf mode.subchannelsOf mode.symbolsOf mode.bandOf mode.spotOf band.carrierOf bin.binPilotPlace bin.usedOfData ofusc.groupOf ofusc.term ofusc.cellTerm ofusc.dataNumber field.modulus field.coefficient field.product field.remainder field.times field.power field.p1 field.p2
+unfolding setFrom tabulate skip ofuscOf answerOf ofuscHit columnIn indexIn question.isFourSizes question.isCell question.isSubchannel mode.widthOf mode.cellsOf mode.subchannelsOf mode.symbolsOf mode.bandOf formula.spotOf band.carrierOf bin.binPilotPlace bin.usedOfData ofusc.groupOf ofusc.term ofusc.cellTerm ofusc.dataNumber field.modulus field.coefficient field.product field.remainder field.times field.power field.p1 field.p2
 at-2048 = refl
 
 adjacent : setFrom 0 (amcOf 48 176 .hits) ≡ indices
@@ -55,7 +56,7 @@ unfolding isUpTo mode.widthOf mode.cellsOf mode.subchannelsOf question.isFourSiz
 zone-owner = (refl, refl, refl, refl, refl, refl)
 
 pub known : Known
-unfolding each tabulate skip fromDc placeOf usedCarrier placeAt mode.shapeOf mode.widthOf mode.cellsOf mode.subchannelsOf mode.symbolsOf mode.bandOf mode.spotOf question.isMode question.isFourSizes question.isSize question.isCell question.isSlot question.isSubchannel question.isIndex band.carrierOf bin.binPilotPlace bin.usedOfData dl.groupUsed dl.spotOf group.groupIn group.groupSize group.ofSize group.baseOf inner.groupData cluster.unrenumber cluster.firstPilot cluster.secondPilot cluster.clusterPlace ul.spotOf tile.tileOf tile.placeSymbol tile.placeTile tile.placeCarrier ofusc.groupOf ofusc.term ofusc.cellTerm ofusc.dataNumber field.modulus field.coefficient field.product field.remainder field.times field.power field.p1 field.p2 amc.off amc.zeroRule amc.elementOf amc.traffic amc.trafficNumber amc.dataNumber element.add element.times element.sequence
+unfolding each tabulate skip fromDc placeOf usedCarrier placeAt mode.shapeOf mode.widthOf mode.cellsOf mode.subchannelsOf mode.symbolsOf mode.bandOf formula.spotOf question.isMode question.isFourSizes question.isSize question.isCell question.isSlot question.isSubchannel question.isIndex band.carrierOf bin.binPilotPlace bin.usedOfData dl.groupUsed dl.spotOf group.groupIn group.groupSize group.ofSize group.baseOf inner.groupData cluster.unrenumber cluster.firstPilot cluster.secondPilot cluster.clusterPlace ul.spotOf tile.tileOf tile.placeSymbol tile.placeTile tile.placeCarrier ofusc.groupOf ofusc.term ofusc.cellTerm ofusc.dataNumber field.modulus field.coefficient field.product field.remainder field.times field.power field.p1 field.p2 amc.off amc.zeroRule amc.elementOf amc.traffic amc.trafficNumber amc.dataNumber element.add element.times element.sequence
 known =
     record {
       line-1 = (refl, refl);

@@ -8,7 +8,7 @@ use lib.ListN.{length}
 use Rattle.base.specs.Answer.{Answer, accepted, refused}
 use Rattle.base.specs.Tabulate.{tabulate}
 use Rattle.pusc_ul.specs.Tile.{tileOf}
-use Rattle.map.specs.Setup.{setupWith}
+use Rattle.modes.specs.Setup.{setupWith}
 use Rattle.map.specs.Place.{Place, Content, guard, dc, pilot, point, placeOf, locateOf}
 use Rattle.collision.specs.Collision.{ofuscOf, amcOf}
 use Rattle.zone.specs.declared.Zone.{Zone}

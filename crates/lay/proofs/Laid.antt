@@ -2,7 +2,8 @@
 use Rattle.base.proofs.{Prelude.{_≡_, refl, sym, ap, _∙_, Bool, true, List, ℕ, _*_, _<_, arith, eqb, length, eqb-true, eqb-false}, Test.cases}
 use lib.Ieee.{Float}
 use Rattle.base.specs.Choice.{pick}
-use Rattle.map.specs.{Setup.Setup, Mode.subchannels, Place.{Content, guard, dc, pilot, point}, Model.Valid}
+use Rattle.modes.specs.{Setup.Setup, Mode.subchannels, Model.Valid}
+use Rattle.map.specs.Place.{Content, guard, dc, pilot, point}
 use Rattle.mask.specs.Mask.{isLit}
 use Rattle.points.specs.{declared.Point.Point, Points.pointAt, Model.puts}
 use Rattle.points.proofs.Points.{by-points, length-puts, puts-miss, puts-hit}

@@ -1,7 +1,7 @@
 // A subchannel's points laid on a slot's grid.
-use map::Setup;
+use modes::Setup;
 ghost use mathlib.Core.Path.{_≡_};
-ghost use Rattle.map.specs.Setup.{alone};
+ghost use Rattle.modes.specs.Setup.{alone};
 ghost use Rattle.lay.specs.Lay.{layOf};
 
 // Lays a lit subchannel's 48 points on a slot's grid and leaves the rest of it; or the first refusal of 1, 2, 3, 17, 4, 5, 8,

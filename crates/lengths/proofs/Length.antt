@@ -1,8 +1,8 @@
 -- The lengths by mode and size. Cell 0 is a cell of every listed mode and size, so the first refusal with it tells whether the map has them.
 use Rattle.base.proofs.{Prelude.{_≡_, refl, ap, _∙_, ℕ, _*_, lt-ltb}, Test.cases}
-use Rattle.map.specs.{Setup.{Setup, setupWith}, Mode.{widthOf, cells, subchannelsOf, symbolsOf}, Question.{isListed, isMode, isSizeOf, isSize, isCell}}
-use Rattle.map.specs.Model.{setupRefusal, Valid}
-use Rattle.map.proofs.Accept.{some-cell, setup-yes}
+use Rattle.modes.specs.{Setup.{Setup, setupWith}, Mode.{widthOf, cells, subchannelsOf, symbolsOf}, Question.{isListed, isMode, isSizeOf, isSize, isCell}}
+use Rattle.modes.specs.Model.{setupRefusal, Valid}
+use Rattle.modes.proofs.Accept.{some-cell, setup-yes}
 use Rattle.mask.specs.Mask.{isMask, isLit, litSubchannels, allLit}
 use Rattle.mask.proofs.Law.{mask-law}
 use Rattle.lengths.specs.{Length.{gridPoints, whereListed, pointsLength, litPointsLength, gridLength}, Model.maskRefusal}

@@ -5,8 +5,8 @@ use Rattle.base.proofs.{Test.both-true, Chain.{numbered, Questions, AllYes, all
 use lib.IntN.{ℤ}
 use Rattle.base.specs.Answer.{Answer, refusalOf}
 use Rattle.centre.specs.Centre.{inRange}
-use Rattle.map.specs.{Setup.Setup, Mode.{subchannels, symbols}, Question.{isSlot, isSymbol, isSubchannel, isCarrier}, Model.Valid}
-use Rattle.map.proofs.{Accept.{valid, passes, setupQuestions}, ByMode.few}
+use Rattle.modes.specs.{Setup.Setup, Mode.{subchannels, symbols}, Question.{isSlot, isSymbol, isSubchannel, isCarrier}, Model.Valid}
+use Rattle.modes.proofs.{Accept.{valid, passes, setupQuestions}, ByMode.few}
 use Rattle.mask.specs.Mask.{isMask, isLit, litSubchannels}
 use Rattle.mask.proofs.Law.{mask-small}
 use Rattle.lengths.specs.Length.{gridPoints}

@@ -1,9 +1,9 @@
 -- How long the lent buffers of a slot are. Document 01, "Grids": the points of all its subchannels, or of the lit ones, and a point a carrier for each of its symbols.
 use Prim.Native.Nat.{ℕ, _*_}
 use Rattle.base.specs.Choice.{pick}
-use Rattle.map.specs.Setup.{Setup, setupWith}
-use Rattle.map.specs.Mode.{subchannels, symbols}
-use Rattle.map.specs.Question.{isListed, isSizeOf}
+use Rattle.modes.specs.Setup.{Setup, setupWith}
+use Rattle.modes.specs.Mode.{subchannels, symbols}
+use Rattle.modes.specs.Question.{isListed, isSizeOf}
 use Rattle.mask.specs.Mask.{isMask, litSubchannels}
 
 -- the points of a slot's grid

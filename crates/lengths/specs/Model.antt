@@ -2,7 +2,7 @@
 use Prim.Native.Nat.{ℕ}
 use lib.IntN.{ℤ}
 use Rattle.base.specs.Answer.{accepted, ask, refusalOf}
-use Rattle.map.specs.Setup.{Setup}
+use Rattle.modes.specs.Setup.{Setup}
 use Rattle.lengths.specs.Question.{isGrid, askMask, askSlot, askGround, askLay, askEmpty, askLook}
 
 -- the number of the first of questions 1, 2, 3 and 17 that is answered no, 0 where none is

@@ -5,8 +5,8 @@ use lib.Dec.{eqb}
 use lib.IntN.{ℤ}
 use Rattle.base.specs.Choice.{pick}
 use Rattle.base.specs.Answer.{Answer, ask}
-use Rattle.map.specs.Setup.{Setup}
-use Rattle.map.specs.Question.{askSetup, isSlot, isSubchannel, askCarrier}
+use Rattle.modes.specs.Setup.{Setup}
+use Rattle.modes.specs.Question.{askSetup, isSlot, isSubchannel, askCarrier}
 use Rattle.mask.specs.Mask.{isMask, isLit, litSubchannels}
 use Rattle.lengths.specs.Length.{gridPoints}
 

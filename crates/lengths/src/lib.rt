@@ -1,9 +1,9 @@
 // The lengths of a slot's buffers, and the questions of a slot with its buffers.
-use map::Setup;
+use modes::Setup;
 ghost use mathlib.Core.Path.{_≡_};
 ghost use Prim.Native.Nat.{_<_};
-ghost use Rattle.map.specs.Setup.{alone};
-ghost use Rattle.map.specs.Model.{Valid};
+ghost use Rattle.modes.specs.Setup.{alone};
+ghost use Rattle.modes.specs.Model.{Valid};
 ghost use Rattle.lengths.specs.Length.{gridPoints, pointsLength, litPointsLength, gridLength};
 ghost use Rattle.lengths.specs.Model.{maskRefusal, slotRefusal, gridRefusal, groundRefusal, layRefusal, emptyRefusal, lookRefusal};
 
@@ -12,7 +12,7 @@ pub fn grid_points(setup: Setup) -> usize
     requires { ⌜ Valid (alone setup) ⌝ }
     ensures { λ r. ⌜ (r ≡ gridPoints (alone setup)) × (r < 65536) ⌝ }
 {
-    map::symbols(setup) * setup.size
+    modes::symbols(setup) * setup.size
 }
 
 // The floats of a slot's points; 0 for a mode and size that the map does not have.
@@ -24,10 +24,10 @@ pub fn points_length(mode: usize, size: usize) -> usize
         size,
         cell: 0,
     };
-    if map::refusal(setup) != 0 {
+    if modes::refusal(setup) != 0 {
         return 0;
     }
-    96 * map::subchannels(setup)
+    96 * modes::subchannels(setup)
 }
 
 // The floats of the lit subchannels' points; 0 likewise, and for a mask out of its range.
@@ -54,7 +54,7 @@ pub fn grid_length(mode: usize, size: usize) -> usize
         size,
         cell: 0,
     };
-    if map::refusal(setup) != 0 {
+    if modes::refusal(setup) != 0 {
         return 0;
     }
     2 * grid_points(setup)
@@ -64,7 +64,7 @@ pub fn grid_length(mode: usize, size: usize) -> usize
 fn mask_refusal(setup: Setup, mask: usize) -> u8
     ensures { λ r. ⌜ r ≡ maskRefusal (alone setup) mask ⌝ }
 {
-    let k = map::refusal(setup);
+    let k = modes::refusal(setup);
     if k != 0 {
         return k;
     }
@@ -125,7 +125,7 @@ pub fn lay_refusal(
     if k != 0 {
         return k;
     }
-    if map::subchannels(setup) <= subchannel {
+    if modes::subchannels(setup) <= subchannel {
         return 5;
     }
     if !mask::is_lit(setup, mask, subchannel) {
@@ -159,7 +159,7 @@ pub fn look_refusal(setup: Setup, mask: usize, symbol: usize, carrier: i32, grid
     if k != 0 {
         return k;
     }
-    if 512 * map::symbols(setup) <= symbol {
+    if 512 * modes::symbols(setup) <= symbol {
         return 4;
     }
     if !centre::in_range(setup.size, carrier) {

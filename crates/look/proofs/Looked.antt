@@ -5,8 +5,10 @@ use lib.{IntN.ℤ, Ieee.Float}
 use Rattle.base.specs.{Choice.pick, Answer.{Answer, accepted, refused}}
 use Rattle.carriers.specs.Band.{usedOf}
 use Rattle.centre.specs.Centre.{onRow}
-use Rattle.map.specs.{Setup.Setup, Mode.{symbols, band}, Question.isCarrier, Place.{Content, guard, dc, pilot, point, contentOf, locateOf}}
-use Rattle.map.proofs.{Slot.centred, Law.locate-accepts}
+use Rattle.modes.specs.{Setup.Setup, Mode.{symbols, band}, Question.isCarrier}
+use Rattle.map.specs.Place.{Content, guard, dc, pilot, point, contentOf, locateOf}
+use Rattle.modes.proofs.Whole.{centred}
+use Rattle.map.proofs.Law.{locate-accepts}
 use Rattle.mask.specs.Mask.{isUsedLit, litContent}
 use Rattle.points.specs.{declared.Point.Point, Points.pointAt}
 use Rattle.lengths.specs.Model.{lookRefusal}

@@ -6,8 +6,8 @@ use lib.IntN.{ℤ}
 use lib.Ieee.{Float}
 use Rattle.base.specs.Answer.{Answer, accepted, refused}
 use Rattle.centre.specs.Centre.{onRow}
-use Rattle.map.specs.Setup.{Setup}
-use Rattle.map.specs.Mode.{symbols}
+use Rattle.modes.specs.Setup.{Setup}
+use Rattle.modes.specs.Mode.{symbols}
 use Rattle.map.specs.Place.{Content, guard, dc, pilot, point}
 use Rattle.mask.specs.Mask.{litContent}
 use Rattle.points.specs.declared.Point.{Point}

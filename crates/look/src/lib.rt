@@ -1,14 +1,14 @@
 // A look at one carrier of a slot's grid.
 use map::Located;
-use map::Setup;
+use modes::Setup;
 use points::Point;
 ghost use mathlib.Core.Path.{_≡_};
 ghost use Prim.Native.Nat.{_*_, _%_, _<_};
 ghost use Rattle.base.specs.Answer.{accepted};
-ghost use Rattle.map.specs.Setup.{alone};
-ghost use Rattle.map.specs.Mode.{symbols};
+ghost use Rattle.modes.specs.Setup.{alone};
+ghost use Rattle.modes.specs.Mode.{symbols};
 ghost use Rattle.map.specs.Place.{Content, located};
-ghost use Rattle.map.specs.Model.{Valid};
+ghost use Rattle.modes.specs.Model.{Valid};
 ghost use Rattle.lengths.specs.Length.{gridPoints};
 ghost use Rattle.grid.specs.Row.{columnPosition};
 ghost use Rattle.look.specs.Look.{sight as sightOf, seen, lookOf};
@@ -54,7 +54,7 @@ fn column_position(setup: Setup, symbol: usize, column: usize) -> usize
     requires { ⌜ column < setup .size ⌝ }
     ensures { λ r. ⌜ (r ≡ columnPosition (alone setup) (symbol % symbols (alone setup)) column) × (r < gridPoints (alone setup)) ⌝ }
 {
-    map::offset_of(setup, symbol) * setup.size + column
+    modes::offset_of(setup, symbol) * setup.size + column
 }
 
 // The point on a lit carrier of a zone's symbol, and whose it is; or the first refusal of 1, 2, 3, 17, 4, 7, 9.

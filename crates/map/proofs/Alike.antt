@@ -3,7 +3,8 @@ use Rattle.base.proofs.{Prelude.{_≡_, refl, sym, ap, _∙_, List, ℕ, _+_, _
 use native.Mathlib.Nat.{add-assoc, add-mul, mul-assoc, mul-right-comm, mul-add-mod-self-right}
 use Rattle.carriers.specs.Bin.{binPilotPlace, isBinPilot}
 use Rattle.clusters.proofs.Tables.{pilot-parity}
-use Rattle.map.specs.{Setup.{Setup, setupLent}, Mode.{widthOf, symbols, symbolsOf, band, bandOf, isPilot}}
+use Rattle.modes.specs.{Setup.{Setup, setupLent}, Mode.{symbols, symbolsOf}}
+use Rattle.map.specs.Formula.{isPilot}
 
 -- the number of a symbol mod 3, by its slot mod 3, and where a slot has three or six
 mod-3 : (a k o : ℕ) → (a * k + o) % 3 ≡ (a % 3 * k + o) % 3
@@ -44,14 +45,6 @@ pilots-alike setup slot other e o used =
 -- ---- what of a symbol does not take the cell
 
 module _ (mode size cell other : ℕ) (pilots : List ℕ) where
-  pub same-symbols : symbols (setupLent mode size cell pilots) ≡ symbols (setupLent mode size other pilots)
-  unfolding symbolsOf
-  same-symbols = refl
-
-  pub same-band : band (setupLent mode size cell pilots) ≡ band (setupLent mode size other pilots)
-  unfolding bandOf widthOf
-  same-band = refl
-
   pub same-pilots : (symbol used : ℕ) → isPilot (setupLent mode size cell pilots) symbol used ≡ isPilot (setupLent mode size other pilots) symbol used
   unfolding isPilot
   same-pilots symbol used = refl

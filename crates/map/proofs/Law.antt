@@ -4,23 +4,18 @@ use Rattle.base.proofs.Prelude.{arith, digits-div, digits-lt, lt-ltb, le-ltb, e
 use Rattle.base.proofs.{Test.cases, Chain.{ask-yes, same-accepted}}
 use lib.{IntN.ℤ, Signed.mag}
 use borrow.Author.Tests.{lt-leb}
-use Rattle.base.specs.Answer.{Answer, accepted}
+use Rattle.base.specs.Answer.{accepted}
 use Rattle.carriers.specs.{declared.Spot.Spot, declared.Address.Address, Band.{carrierOf, usedOf, isGuard, isDc}, Law.PointOf}
 use Rattle.carriers.proofs.Guards.{carrier-lt, carrier-no-guard, carrier-no-dc, used-carrier, used-lt, carrier-used}
 use Rattle.centre.specs.Centre.{fromDc, inRange, onRow}
 use Rattle.centre.proofs.Law.{in-range-mag}
-use Rattle.map.specs.{Setup.Setup, Mode.{subchannels, symbols, band, isPilot, spotOf, addressOf}}
-use Rattle.map.specs.Question.{askSetup, isMode, isSize, isCell, isSlot, isSymbol, isSubchannel, isIndex, isCarrier}
-use Rattle.map.specs.{Place.{Place, Content, dc, pilot, point, usedCarrier, placeAt, placeOf, dataAt, contentOf, locateOf}, Model.Valid}
-use Rattle.map.proofs.{Accept.{valid, passes}, ByMode.few, Slot.{LawOf, slot-law, band-law, centred}}
-
--- what an accepted setup is
-pub setup-asked : {A : Type 0} (c : Setup) (rest : Answer A) {a : A} → askSetup c rest ≡ accepted a → Valid c × (rest ≡ accepted a)
-setup-asked c rest e =
-    let q₁ = ask-yes (isMode c) 1 _ e in
-    let q₂ = ask-yes (isSize c) 2 _ (q₁ .1) in
-    let q₃ = ask-yes (isCell c) 3 rest (q₂ .1) in
-    (valid c (q₁ .0) (q₂ .0) (q₃ .0), q₃ .1)
+use Rattle.modes.specs.{Setup.Setup, Mode.{subchannels, symbols, band}}
+use Rattle.map.specs.Formula.{isPilot, spotOf, addressOf}
+use Rattle.modes.specs.Question.{isSlot, isSymbol, isSubchannel, isIndex, isCarrier}
+use Rattle.map.specs.Place.{Place, Content, dc, pilot, point, usedCarrier, placeAt, placeOf, dataAt, contentOf, locateOf}
+use Rattle.modes.specs.Model.{Valid}
+use Rattle.modes.proofs.{Accept.{setup-asked, passes}, ByMode.few, Whole.{band-law, centred}}
+use Rattle.map.proofs.Slot.{LawOf, slot-law}
 
 -- an accepted request to place, and one to locate
 pub record Placing (c : Setup) (slot s m : ℕ) (p : Place) : Type 0 where

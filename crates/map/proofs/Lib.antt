@@ -1,7 +1,5 @@
 -- Laws of the map.
-pub mod Choice
-pub mod Accept
-pub mod ByMode
+pub mod Asks
 pub mod Slot
 pub mod Alike
 pub mod Law

@@ -1,15 +1,13 @@
--- Every valid setup meets the law of a slot, the law of its band and the law of the centre: one clause a case of validity. All that is said of the map above rests on these three.
-use Rattle.base.proofs.Prelude.{_≡_, refl, ap, subst⁻¹, ℕ, _+_, _*_, _/_, _%_, _<_, arith, digits-mod}
-use Rattle.carriers.specs.{Bin.{isBinPilot, dataOfUsed, binSpot, inOnlySymbol}, Law.{Whole, SlotLaw}}
-use Rattle.carriers.proofs.{Guards.{pusc-band, bin-band}, Bin.bin-law, Relabel.relabel}
-use Rattle.centre.specs.Law.{CentreLaw}
-use Rattle.centre.proofs.Law.{centre-law}
+-- Every valid setup meets the law of a slot: one clause a case of validity. All that is said of the map above rests on this law, on that of its band and on that of the centre.
+use Rattle.base.proofs.Prelude.{_≡_, refl, ap, subst⁻¹, ℕ, _+_, _*_, _%_, _<_, arith, digits-mod}
+use Rattle.carriers.specs.{Bin.{isBinPilot, dataOfUsed, binSpot, inOnlySymbol}, Law.SlotLaw}
+use Rattle.carriers.proofs.{Bin.bin-law, Relabel.relabel}
 use Rattle.clusters.proofs.Tables.{pilot-parity}
 use Rattle.pusc_ul.specs.Tile.{isTilePilot}
-use Rattle.ofusc.proofs.Sequence.{pos}
-use Rattle.map.specs.{Setup.Setup, Mode.{shapeOf, widthOf, subchannels, subchannelsOf, symbols, symbolsOf, band, bandOf, isPilot, spotOf, addressOf}}
-use Rattle.map.specs.Model.{Valid, pusc-dl, pusc-ul, ofusc, amc}
-use Rattle.map.proofs.{Choice.{amc-shape, amc-column}, Accept.width-is}
+use Rattle.modes.specs.{Setup.Setup, Mode.{shapeOf, widthOf, subchannels, subchannelsOf, symbols, symbolsOf, band, bandOf}}
+use Rattle.map.specs.Formula.{isPilot, spotOf, addressOf}
+use Rattle.modes.specs.Model.{Valid, pusc-dl, pusc-ul, ofusc, amc}
+use Rattle.modes.proofs.{Choice.{amc-shape, amc-column}, Accept.width-is}
 use Rattle.pusc_dl.specs.Map as dl
 use Rattle.pusc_dl.proofs.Law as dl-law
 use Rattle.pusc_ul.specs.Map as ul
@@ -55,19 +53,3 @@ slot-law (amc {mode = mode} {n = n} {cell = cell} q w h) slot =
     (λ o u l. refl)
     (λ o u l. ap (λ (y : ℕ). adjacent.addressOf shape cell y (dataOfUsed (first + o) u)) (digits-mod slot l))
     (bin-law first n (adjacent-law.law shape (amc-shape mode q) cell h n)))
-
--- the band takes up the symbol
-pub band-law : {c : Setup} → Valid c → Whole (band c) (c .size)
-unfolding bandOf widthOf
-band-law (pusc-dl h) = pusc-band
-band-law (pusc-ul h) = pusc-band
-band-law (ofusc {n = n} w h) = rw (width-is n) (bin-band n (pos w))
-band-law (amc {n = n} q w h) = simp (amc-column, width-is n) (bin-band n (pos w))
-
--- every size is even, and DC stands in its middle
-pub centred : {c : Setup} → Valid c → CentreLaw (c .size) × (band c .dc ≡ c .size / 2)
-unfolding bandOf widthOf
-centred (pusc-dl h) = (centre-law 2048 refl, refl)
-centred (pusc-ul h) = (centre-law 2048 refl, refl)
-centred (ofusc {n = n} w h) = (centre-law (64 * n) (omega arith), rw (width-is n) (omega arith))
-centred (amc {n = n} q w h) = (centre-law (64 * n) (omega arith), simp (amc-column, width-is n) (omega arith))

@@ -7,9 +7,10 @@ use lib.IntN.{ℤ, pos}
 use lib.Signed.{_<ℤ_}
 use Rattle.base.specs.Answer.{accepted}
 use Rattle.centre.specs.Centre.{fromDc}
-use Rattle.map.specs.Setup.{Setup}
-use Rattle.map.specs.Mode.{subchannels, symbols, band, isPilot}
-use Rattle.map.specs.Question.{askSetup}
+use Rattle.modes.specs.Setup.{Setup}
+use Rattle.modes.specs.Mode.{subchannels, symbols, band}
+use Rattle.map.specs.Formula.{isPilot}
+use Rattle.modes.specs.Question.{askSetup}
 use Rattle.map.specs.Place.{Place, Content, dc, pilot, point, usedCarrier, placeOf, locateOf}
 
 -- questions 1, 2 and 3 let the setup pass

@@ -1,6 +1,3 @@
-pub mod Setup
-pub mod Mode
-pub mod Question
+pub mod Formula
 pub mod Place
-pub mod Model
 pub mod Law

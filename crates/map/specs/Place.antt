@@ -7,13 +7,14 @@ use Rattle.carriers.specs.declared.Spot.{Spot}
 use Rattle.carriers.specs.declared.Address.{Address}
 use Rattle.carriers.specs.Band.{carrierOf, usedOf, isGuard, isDc}
 use Rattle.centre.specs.Centre.{fromDc, onRow}
-use Rattle.map.specs.Setup.{Setup}
+use Rattle.modes.specs.Setup.{Setup}
 use Rattle.map.specs.declared.Placed.{Placed}
 use Rattle.map.specs.declared.Placed.the-variants.{At, Refused}
 use Rattle.map.specs.declared.Located.{Located}
 use Rattle.map.specs.declared.Located.the-variants.{Guard, Dc, Pilot, Data, Refused as RefusedToLocate}
-use Rattle.map.specs.Mode.{symbols, band, isPilot, spotOf, addressOf}
-use Rattle.map.specs.Question.{askSetup, isSlot, isSubchannel, isIndex, askCarrier}
+use Rattle.modes.specs.Mode.{symbols, band}
+use Rattle.map.specs.Formula.{isPilot, spotOf, addressOf}
+use Rattle.modes.specs.Question.{askSetup, isSlot, isSubchannel, isIndex, askCarrier}
 
 -- a symbol of the zone and a carrier
 pub record Place : Type 0 where

@@ -1,27 +1,19 @@
-// The map: ranges, refusals, placing a point and locating a carrier, in all modes.
-use amc::Shape;
+// The map: placing a point and locating a carrier, in all modes.
 use carriers::Address;
-use carriers::Band;
 use carriers::DataNumber;
 use carriers::Spot;
+use modes::Setup;
 ghost use mathlib.Core.Path.{_≡_};
 ghost use mathlib.Core.Bool.{false};
-ghost use Prim.Native.Nat.{_*_, _/_, _%_, _<_, _≤_};
+ghost use Prim.Native.Nat.{_*_, _%_, _<_};
 ghost use Rattle.base.specs.Answer.{accepted};
 ghost use Rattle.carriers.specs.Bin.{binSpot, inOnlySymbol};
 ghost use Rattle.ofusc.specs.Map.{dataNumber as ofuscNumber};
-ghost use Rattle.map.specs.Setup.{alone};
-ghost use Rattle.map.specs.Mode.{isAmc, shapeOf, width as WidthOf, cells as Cells, subchannels as Subchannels, symbols as Symbols, band as BandOf, isPilot, spotOf, addressOf};
-ghost use Rattle.map.specs.Question.{isFourSizes, isSize};
-ghost use Rattle.map.specs.Model.{isOverBins, setupRefusal, Valid};
+ghost use Rattle.modes.specs.Setup.{alone};
+ghost use Rattle.modes.specs.Mode.{width as WidthOf, subchannels as Subchannels, symbols as Symbols, band as BandOf};
+ghost use Rattle.map.specs.Formula.{isPilot, spotOf, addressOf};
+ghost use Rattle.modes.specs.Model.{Valid};
 ghost use Rattle.map.specs.Place.{placed, placeAt, placeOf, located, contentOf, locateOf};
-
-// What a zone fixes: mode, FFT size and cell.
-pub struct Setup {
-    pub mode: usize,
-    pub size: usize,
-    pub cell: usize,
-}
 
 // Where a point is placed, or the first refusal.
 pub enum Placed {
@@ -40,218 +32,6 @@ pub enum Located {
         index: usize,
     },
     Refused(u8),
-}
-
-// Is a mode one of AMC's?
-pub fn is_amc(mode: usize) -> bool
-    ensures { λ r. ⌜ r ≡ isAmc mode ⌝ }
-{
-    if mode < 3 {
-        return false;
-    }
-    mode < 7
-}
-
-// Is a mode one over bins: optional FUSC or AMC?
-pub fn is_over_bins(mode: usize) -> bool
-    ensures { λ r. ⌜ r ≡ isOverBins mode ⌝ }
-{
-    if mode < 2 {
-        return false;
-    }
-    mode < 7
-}
-
-// The shape of AMC's slots; no other mode has one.
-pub fn shape(mode: usize) -> Shape
-    ensures { λ r. ⌜ r ≡ shapeOf mode ⌝ }
-{
-    if mode == 3 {
-        return Shape {
-            bins: 6,
-            symbols: 1,
-        };
-    }
-    if mode == 4 {
-        return Shape {
-            bins: 2,
-            symbols: 3,
-        };
-    }
-    if mode == 5 {
-        return Shape {
-            bins: 3,
-            symbols: 2,
-        };
-    }
-    if mode == 6 {
-        return Shape {
-            bins: 1,
-            symbols: 6,
-        };
-    }
-    Shape {
-        bins: 0,
-        symbols: 0,
-    }
-}
-
-// N of the modes over bins.
-pub fn width(setup: Setup) -> usize
-    ensures { λ r. ⌜ r ≡ WidthOf (alone setup) ⌝ }
-{
-    setup.size / 64
-}
-
-fn cells(setup: Setup) -> usize
-    requires { ⌜ setup .size ≤ 2048 ⌝ }
-    ensures { λ r. ⌜ r ≡ Cells (alone setup) ⌝ }
-{
-    if setup.mode == 0 {
-        return 32;
-    }
-    if setup.mode == 1 {
-        return 70;
-    }
-    if setup.mode == 2 {
-        return width(setup) * width(setup);
-    }
-    if is_amc(setup.mode) {
-        return 2352;
-    }
-    0
-}
-
-pub fn subchannels(setup: Setup) -> usize
-    ensures { λ r. ⌜ r ≡ Subchannels (alone setup) ⌝ }
-{
-    if setup.mode == 0 {
-        return 60;
-    }
-    if setup.mode == 1 {
-        return 70;
-    }
-    if setup.mode == 2 {
-        return width(setup);
-    }
-    if is_amc(setup.mode) {
-        return width(setup) * shape(setup.mode).symbols;
-    }
-    0
-}
-
-// Symbols a slot.
-pub fn symbols(setup: Setup) -> usize
-    ensures { λ r. ⌜ r ≡ Symbols (alone setup) ⌝ }
-{
-    if setup.mode == 0 {
-        return 2;
-    }
-    if setup.mode == 1 {
-        return 3;
-    }
-    if setup.mode == 2 {
-        return 1;
-    }
-    if is_amc(setup.mode) {
-        return shape(setup.mode).symbols;
-    }
-    0
-}
-
-// The slot of a zone's symbol, by a constant for each number of symbols.
-fn slot_of(setup: Setup, symbol: usize) -> usize
-    requires { ⌜ Valid (alone setup) ⌝ }
-    ensures { λ r. ⌜ r ≡ symbol / Symbols (alone setup) ⌝ }
-{
-    let n = symbols(setup);
-    if n == 1 {
-        return symbol;
-    }
-    if n == 2 {
-        return symbol / 2;
-    }
-    if n == 3 {
-        return symbol / 3;
-    }
-    symbol / 6
-}
-
-// The offset of a zone's symbol in its slot.
-pub fn offset_of(setup: Setup, symbol: usize) -> usize
-    requires { ⌜ Valid (alone setup) ⌝ }
-    ensures { λ r. ⌜ r ≡ symbol % Symbols (alone setup) ⌝ }
-{
-    symbol - slot_of(setup, symbol) * symbols(setup)
-}
-
-pub fn band(setup: Setup) -> Band
-    requires { ⌜ Valid (alone setup) ⌝ }
-    ensures { λ r. ⌜ r ≡ BandOf (alone setup) ⌝ }
-{
-    if setup.mode == 0 {
-        return carriers::pusc_band();
-    }
-    if setup.mode == 1 {
-        return carriers::pusc_band();
-    }
-    if is_over_bins(setup.mode) {
-        return carriers::bin_band(width(setup));
-    }
-    Band {
-        left: 0,
-        right: 0,
-        dc: 0,
-        used: 0,
-        half: 0,
-    }
-}
-
-// Is it one of the four sizes of the modes over bins?
-pub fn is_four_sizes(size: usize) -> bool
-    ensures { λ r. ⌜ r ≡ isFourSizes size ⌝ }
-{
-    if size == 256 {
-        return true;
-    }
-    if size == 512 {
-        return true;
-    }
-    if size == 1024 {
-        return true;
-    }
-    size == 2048
-}
-
-fn is_size(setup: Setup) -> bool
-    ensures { λ r. ⌜ r ≡ isSize (alone setup) ⌝ }
-{
-    if setup.mode == 0 {
-        return setup.size == 2048;
-    }
-    if setup.mode == 1 {
-        return setup.size == 2048;
-    }
-    if is_over_bins(setup.mode) {
-        return is_four_sizes(setup.size);
-    }
-    false
-}
-
-// The number of the first of questions 1, 2 and 3 that is answered no, or 0.
-pub fn refusal(setup: Setup) -> u8
-    ensures { λ r. ⌜ r ≡ setupRefusal (alone setup) ⌝ }
-{
-    if 7 <= setup.mode {
-        return 1;
-    }
-    if !is_size(setup) {
-        return 2;
-    }
-    if cells(setup) <= setup.cell {
-        return 3;
-    }
-    0
 }
 
 // Where a data number of a slot lies, whose first symbol has the number `first` in the zone.
@@ -273,7 +53,7 @@ fn ofusc_number(setup: Setup, subchannel: usize, index: usize) -> DataNumber
 {
     DataNumber {
         offset: 0,
-        number: ofusc::data_number(width(setup), setup.cell, subchannel, index),
+        number: ofusc::data_number(modes::width(setup), setup.cell, subchannel, index),
     }
 }
 
@@ -289,12 +69,12 @@ fn spot(setup: Setup, slot: usize, subchannel: usize, index: usize) -> Spot
     if setup.mode == 1 {
         return pusc_ul::spot(setup.cell, subchannel, index);
     }
-    let first = slot * symbols(setup);
+    let first = slot * modes::symbols(setup);
     if setup.mode == 2 {
         return bin_spot(first, ofusc_number(setup, subchannel, index));
     }
-    if is_amc(setup.mode) {
-        let x = amc::data_number(shape(setup.mode), setup.cell, subchannel, index);
+    if modes::is_amc(setup.mode) {
+        let x = amc::data_number(modes::shape(setup.mode), setup.cell, subchannel, index);
         return bin_spot(first, x);
     }
     Spot { offset: 0, used: 0 }
@@ -310,7 +90,7 @@ fn is_pilot(setup: Setup, symbol: usize, used: usize) -> bool
     if setup.mode == 1 {
         return pusc_ul::is_pilot(symbol % 3, used);
     }
-    if is_over_bins(setup.mode) {
+    if modes::is_over_bins(setup.mode) {
         return carriers::is_bin_pilot(symbol, used);
     }
     false
@@ -331,10 +111,15 @@ fn address(setup: Setup, symbol: usize, used: usize) -> Address
     }
     let d = carriers::data_of_used(symbol, used);
     if setup.mode == 2 {
-        return ofusc::address(width(setup), setup.cell, d);
+        return ofusc::address(modes::width(setup), setup.cell, d);
     }
-    if is_amc(setup.mode) {
-        return amc::address(shape(setup.mode), setup.cell, offset_of(setup, symbol), d);
+    if modes::is_amc(setup.mode) {
+        return amc::address(
+            modes::shape(setup.mode),
+            setup.cell,
+            modes::offset_of(setup, symbol),
+            d,
+        );
     }
     Address {
         subchannel: 0,
@@ -348,9 +133,9 @@ fn at(setup: Setup, slot: usize, x: Spot) -> Placed
     requires { ⌜ (slot < 512) × (x .offset < Symbols (alone setup)) × (x .used < BandOf (alone setup) .used) ⌝ }
     ensures { λ r. ⌜ placed r ≡ accepted (placeAt (alone setup) slot x) ⌝ }
 {
-    let column = carriers::carrier(band(setup), x.used);
+    let column = carriers::carrier(modes::band(setup), x.used);
     Placed::At {
-        symbol: slot * symbols(setup) + x.offset,
+        symbol: slot * modes::symbols(setup) + x.offset,
         carrier: centre::from_dc(setup.size, column),
     }
 }
@@ -359,14 +144,14 @@ fn at(setup: Setup, slot: usize, x: Spot) -> Placed
 pub fn place(setup: Setup, slot: usize, subchannel: usize, index: usize) -> Placed
     ensures { λ r. ⌜ placed r ≡ placeOf (alone setup) slot subchannel index ⌝ }
 {
-    let k = refusal(setup);
+    let k = modes::refusal(setup);
     if k != 0 {
         return Placed::Refused(k);
     }
     if 512 <= slot {
         return Placed::Refused(4);
     }
-    if subchannels(setup) <= subchannel {
+    if modes::subchannels(setup) <= subchannel {
         return Placed::Refused(5);
     }
     if 48 <= index {
@@ -381,7 +166,7 @@ pub fn content(setup: Setup, symbol: usize, column: usize) -> Located
     requires { ⌜ column < setup .size ⌝ }
     ensures { λ r. ⌜ located r ≡ accepted (contentOf (alone setup) symbol column) ⌝ }
 {
-    let b = band(setup);
+    let b = modes::band(setup);
     if carriers::is_guard(b, setup.size, column) {
         return Located::Guard;
     }
@@ -394,7 +179,7 @@ pub fn content(setup: Setup, symbol: usize, column: usize) -> Located
     }
     let a = address(setup, symbol, used);
     Located::Data {
-        slot: slot_of(setup, symbol),
+        slot: modes::slot_of(setup, symbol),
         subchannel: a.subchannel,
         index: a.index,
     }
@@ -404,11 +189,11 @@ pub fn content(setup: Setup, symbol: usize, column: usize) -> Located
 pub fn locate(setup: Setup, symbol: usize, carrier: i32) -> Located
     ensures { λ r. ⌜ located r ≡ locateOf (alone setup) symbol carrier ⌝ }
 {
-    let k = refusal(setup);
+    let k = modes::refusal(setup);
     if k != 0 {
         return Located::Refused(k);
     }
-    if 512 * symbols(setup) <= symbol {
+    if 512 * modes::symbols(setup) <= symbol {
         return Located::Refused(4);
     }
     if !centre::in_range(setup.size, carrier) {

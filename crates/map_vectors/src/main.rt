@@ -9,7 +9,7 @@
 // made by tests/vectors.py.
 use map::Located;
 use map::Placed;
-use map::Setup;
+use modes::Setup;
 use vector_lines::fields;
 use vector_lines::line_end;
 use vector_lines::print;

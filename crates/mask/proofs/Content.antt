@@ -5,8 +5,10 @@ use Rattle.base.specs.{Choice.pick, Answer.{accepted, refused}, Steps.unskip}
 use Rattle.carriers.specs.{declared.Band.Band, Band.{usedOf, isGuard, isDc}, Law.Whole}
 use Rattle.carriers.proofs.Guards.{used-left, used-lt}
 use Rattle.centre.specs.Centre.{fromDc}
-use Rattle.map.specs.{Setup.Setup, declared.Located.Located, Mode.{symbols, band}, Place.{Content, guard, point, contentOf, located}, Model.Valid}
-use Rattle.map.proofs.{Slot.{band-law, centred}, Law.{locate-column, placed-where-located}}
+use Rattle.modes.specs.{Setup.Setup, Mode.{symbols, band}, Model.Valid}
+use Rattle.map.specs.{declared.Located.Located, Place.{Content, guard, point, contentOf, located}}
+use Rattle.modes.proofs.Whole.{band-law, centred}
+use Rattle.map.proofs.Law.{locate-column, placed-where-located}
 use Rattle.mask.specs.Mask.{isLit, isUsedLit, litContent}
 use Rattle.mask.proofs.Law.{placed-lit}
 

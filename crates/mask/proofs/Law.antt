@@ -12,9 +12,11 @@ use Rattle.pusc_dl_lit.specs.Lit.{hasGroup}
 use Rattle.pusc_dl.specs.Map.{logicalOf, usedGroup}
 use Rattle.pusc_dl.proofs.Law.{point-group}
 use Rattle.pusc_dl_lit.proofs.Lit.{all-groups}
-use Rattle.map.specs.{Setup.{Setup, setupWith}, Mode.{subchannels, subchannelsOf, band, spotOf}, Place.{Place, usedCarrier, placeAt, contentOf}, Law.PlacedAt}
-use Rattle.map.specs.Model.{Valid, pusc-dl, pusc-ul, ofusc, amc}
-use Rattle.map.proofs.{Choice.amc-not-0, ByMode.few, Slot.{slot-law, band-law, centred}, Law.placing}
+use Rattle.modes.specs.{Setup.{Setup, setupWith}, Mode.{subchannels, subchannelsOf, band}}
+use Rattle.map.specs.{Formula.spotOf, Place.{Place, usedCarrier, placeAt, contentOf}, Law.PlacedAt}
+use Rattle.modes.specs.Model.{Valid, pusc-dl, pusc-ul, ofusc, amc}
+use Rattle.modes.proofs.{Choice.amc-not-0, ByMode.few, Whole.{band-law, centred}}
+use Rattle.map.proofs.{Slot.slot-law, Law.placing}
 use Rattle.mask.specs.{Mask.{isMask, isLit, isUsedLit, litContent, litSubchannels, litRank, ofLitRank, allLit}, Law.MaskLaw}
 
 -- A POINT'S USED NUMBER IS LIT EXACTLY WHEN ITS SUBCHANNEL IS, by its spot.

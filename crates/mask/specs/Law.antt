@@ -7,8 +7,8 @@ use Rattle.clusters.specs.declared.Physical.{Physical}
 use Rattle.clusters.specs.Cluster.{renumber}
 use Rattle.clusters.specs.Group.{clusterStarts, groupIn}
 use Rattle.pusc_dl_lit.specs.Lit.{hasGroup}
-use Rattle.map.specs.Setup.{Setup, setupWith}
-use Rattle.map.specs.Mode.{subchannels, band}
+use Rattle.modes.specs.Setup.{Setup, setupWith}
+use Rattle.modes.specs.Mode.{subchannels, band}
 use Rattle.map.specs.Place.{usedCarrier, contentOf}
 use Rattle.map.specs.Law.{PlacedAt}
 use Rattle.mask.specs.Mask.{isMask, isLit, isUsedLit, litContent, litSubchannels, litRank, ofLitRank, allLit}

@@ -8,8 +8,8 @@ use Rattle.carriers.specs.Band.{usedOf}
 use Rattle.clusters.specs.Group.{subchannelStarts, groupIn}
 use Rattle.pusc_dl_lit.specs.Lit.{hasGroup}
 use Rattle.pusc_dl.specs.Map.{usedGroup}
-use Rattle.map.specs.Setup.{Setup}
-use Rattle.map.specs.Mode.{subchannels, band}
+use Rattle.modes.specs.Setup.{Setup}
+use Rattle.modes.specs.Mode.{subchannels, band}
 use Rattle.map.specs.Place.{Content, guard, contentOf}
 
 -- 17 Is the mask in its range? 1..63 in mode 0, zero in the others (where all is lit).

@@ -1,14 +1,14 @@
 // Masks: which major groups a sector lights, and what that makes of subchannels and used numbers.
 use map::Located;
-use map::Setup;
+use modes::Setup;
 ghost use mathlib.Core.Path.{_≡_};
 ghost use Prim.Native.Nat.{_*_, _<_, _≤_};
 ghost use Rattle.base.specs.Answer.{accepted};
 ghost use Rattle.carriers.specs.Band.{usedOf};
-ghost use Rattle.map.specs.Setup.{alone};
-ghost use Rattle.map.specs.Mode.{symbols, band};
+ghost use Rattle.modes.specs.Setup.{alone};
+ghost use Rattle.modes.specs.Mode.{symbols, band};
 ghost use Rattle.map.specs.Place.{located};
-ghost use Rattle.map.specs.Model.{Valid};
+ghost use Rattle.modes.specs.Model.{Valid};
 ghost use Rattle.mask.specs.Mask.{isMask, isLit, isUsedLit, litContent, litSubchannels};
 
 // Is the mask in its range?
@@ -49,7 +49,7 @@ fn is_column_lit(setup: Setup, mask: usize, column: usize) -> bool
     requires { ⌜ (band (alone setup) .left ≤ column) × (usedOf (band (alone setup)) column < band (alone setup) .used) ⌝ }
     ensures { λ r. ⌜ r ≡ isUsedLit (alone setup) mask (usedOf (band (alone setup)) column) ⌝ }
 {
-    is_used_lit(setup, mask, carriers::used(map::band(setup), column))
+    is_used_lit(setup, mask, carriers::used(modes::band(setup), column))
 }
 
 // What stands in a column of an accepted symbol's row, where what is not lit counts as a guard: data is lit by its subchannel.
@@ -99,7 +99,7 @@ pub fn lit_subchannels(setup: Setup, mask: usize) -> usize
     ensures { λ r. ⌜ r ≡ litSubchannels (alone setup) mask ⌝ }
 {
     if setup.mode != 0 {
-        return map::subchannels(setup);
+        return modes::subchannels(setup);
     }
     pusc_dl_lit::lit_subchannels(mask)
 }

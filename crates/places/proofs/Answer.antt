@@ -1,8 +1,8 @@
 -- What a row of places comes to, by the numbers of its questions.
 use Rattle.base.proofs.{Prelude.{_≡_, sym, ap, _∙_, List, ℕ, _<_}, Tabulate.{tabulated, length-tabulate, getD-tabulate}}
 use Rattle.base.specs.{Answer.{accepted, refused}, Tabulate.tabulate}
-use Rattle.map.specs.{Setup.Setup, Mode.subchannels, Model.Valid}
-use Rattle.map.proofs.Accept.{passes, slot-yes, subchannel-yes}
+use Rattle.modes.specs.{Setup.Setup, Mode.subchannels, Model.Valid}
+use Rattle.modes.proofs.Accept.{passes, slot-yes, subchannel-yes}
 use Rattle.points.specs.Model.{turned}
 use Rattle.rows.specs.{declared.CarrierRow.CarrierRow, Model.RowOf}
 use Rattle.grid.specs.Grid.{standsAt}

@@ -5,9 +5,11 @@ use mathlib.Core.Logic.{_⊎_, ⊎-elim}
 use lib.Ieee.{Float}
 use Rattle.base.specs.{Answer.{Answer, accepted, refused, refusalOf}, Steps.entry, Tabulate.tabulate}
 use Rattle.carriers.specs.Bin.{binPilotPlace, usedOfData}
-use Rattle.map.specs.{Setup.Setup, Mode.{subchannels, symbols, spotOf}, Question.{isSlot, isSubchannel, isIndex}, Place.{placeAt, placeOf}}
-use Rattle.map.specs.Model.{Valid}
-use Rattle.map.proofs.{Accept.{valid, setupQuestions}, Alike.{Alike, alike-mod-3, alike-by-threes}, Law.placing}
+use Rattle.modes.specs.{Setup.Setup, Mode.{subchannels, symbols}, Question.{isSlot, isSubchannel, isIndex}}
+use Rattle.map.specs.{Formula.spotOf, Place.{placeAt, placeOf}}
+use Rattle.modes.specs.Model.{Valid}
+use Rattle.modes.proofs.Accept.{valid, setupQuestions}
+use Rattle.map.proofs.{Alike.{Alike, alike-mod-3, alike-by-threes}, Law.placing}
 use Rattle.points.specs.Points.{pointAt}
 use Rattle.lengths.specs.Length.{gridPoints}
 use Rattle.grid.specs.{Row.columnPosition, Grid.{standsAt, Leaves, PlacedIn}}

@@ -7,8 +7,8 @@ use lib.ListN.{length}
 use lib.Ieee.{Float}
 use Rattle.base.specs.Answer.{refusalOf}
 use Rattle.base.specs.Steps.{entry}
-use Rattle.map.specs.Setup.{Setup}
-use Rattle.map.specs.Mode.{symbols}
+use Rattle.modes.specs.Setup.{Setup}
+use Rattle.modes.specs.Mode.{symbols}
 use Rattle.map.specs.Place.{placeOf}
 use Rattle.points.specs.Points.{pointAt}
 use Rattle.lengths.specs.Length.{gridPoints}

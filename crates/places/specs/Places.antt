@@ -2,8 +2,8 @@
 use Prim.Native.Nat.{ℕ}
 use Rattle.base.specs.Answer.{Answer, accepted, refused, ask}
 use Rattle.base.specs.Tabulate.{tabulate}
-use Rattle.map.specs.Setup.{Setup}
-use Rattle.map.specs.Question.{askSetup, isSlot, isSubchannel}
+use Rattle.modes.specs.Setup.{Setup}
+use Rattle.modes.specs.Question.{askSetup, isSlot, isSubchannel}
 use Rattle.grid.specs.Grid.{standsAt}
 use Rattle.places.specs.declared.PlaceRow.{PlaceRow}
 

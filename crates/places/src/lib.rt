@@ -1,10 +1,10 @@
 // The places of a subchannel's points in a slot's grid, as a row that a caller keeps and copies through.
 use base::reduce;
-use map::Setup;
+use modes::Setup;
 ghost use mathlib.Core.Path.{_≡_};
 ghost use Prim.Native.Nat.{_<_};
 ghost use Rattle.base.specs.Tabulate.{tabulate};
-ghost use Rattle.map.specs.Setup.{alone};
+ghost use Rattle.modes.specs.Setup.{alone};
 ghost use Rattle.points.specs.Model.{turned};
 ghost use Rattle.places.specs.Places.{placesOf};
 
@@ -47,14 +47,14 @@ fn refused(number: u8) -> PlaceRow
 pub fn row(setup: Setup, slot: usize, subchannel: usize) -> PlaceRow
     ensures { λ r. ⌜ r ≡ placesOf (alone setup) slot subchannel ⌝ }
 {
-    let k = map::refusal(setup);
+    let k = modes::refusal(setup);
     if k != 0 {
         return refused(k);
     }
     if 512 <= slot {
         return refused(4);
     }
-    if map::subchannels(setup) <= subchannel {
+    if modes::subchannels(setup) <= subchannel {
         return refused(5);
     }
     let row = rows::subchannel_row(setup, slot, subchannel);

@@ -2,8 +2,8 @@
 use Rattle.base.proofs.Prelude.{_≡_, refl, sym, ap, _∙_, true, List, [], _∷_, _++_, ℕ, zero, suc, _+_, _<_, _≤_, T, length, take, drop, getD}
 use Rattle.base.proofs.{Chain.{Questions, askAll, firstNo, AllYes, counted, all-yes, yes-parts, all-accepted, all-pass, is-refused}, Test.up-to}
 use Rattle.base.specs.Answer.{Answer, accepted, refused, refusalOf}
-use Rattle.map.specs.{Setup.setupWith, Question.{isFourSizes, isSize}}
-use Rattle.map.proofs.Accept.{size-most}
+use Rattle.modes.specs.{Setup.setupWith, Question.{isFourSizes, isSize}}
+use Rattle.modes.proofs.Accept.{size-most}
 use Rattle.zone.specs.{declared.Zone.Zone, declared.Before.Before, declared.Before.the-variants.{First, After}, Zone.{askZone, unused}}
 use Rattle.zone.specs.Model.{zoneRefusal, Small}
 use Rattle.zone.proofs.{Number.{zoneQuestions, zone-no, zone-passed}, Judge.{small, small-unused}}

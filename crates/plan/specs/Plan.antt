@@ -5,7 +5,7 @@ use Prim.Native.Nat.{ℕ, zero, suc}
 use lib.ListN.{take, drop}
 use Rattle.base.specs.Choice.{pick, isUpTo}
 use Rattle.base.specs.Answer.{Answer, ask}
-use Rattle.map.specs.Question.{isFourSizes}
+use Rattle.modes.specs.Question.{isFourSizes}
 use Rattle.zone.specs.declared.Zone.{Zone}
 use Rattle.zone.specs.declared.Before.{Before}
 use Rattle.zone.specs.declared.Before.the-variants.{First, After}

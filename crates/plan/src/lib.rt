@@ -62,7 +62,7 @@ pub fn plan_refusal(plan: Plan) -> u8
     if !are_unused(plan) {
         return 12;
     }
-    if !map::is_four_sizes(plan.size) {
+    if !modes::is_four_sizes(plan.size) {
         return 2;
     }
     zones_refusal(plan)

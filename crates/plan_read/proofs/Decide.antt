@@ -2,7 +2,7 @@
 use Rattle.base.proofs.{Prelude.{_≡_, refl, ap, _∙_, List, [], _∷_, ℕ, zero, suc, _+_, _-_, _*_, _≤_, arith, length, take, drop, ne-eqb}, Test.cases}
 use lib.{ListN.{length-append, length-drop}, Seq.{drop-at, take-add, length-take-le}}
 use Rattle.base.specs.{Choice.pick, Answer.{Answer, accepted, refused, ask}}
-use Rattle.map.specs.Question.{isFourSizes}
+use Rattle.modes.specs.Question.{isFourSizes}
 use Rattle.value.specs.Value.{Value, valueOf, encodeIn}
 use Rattle.value.proofs.Laws.{no-longer, bytes-within, again, first-decide, at-most-three}
 use Rattle.zone.specs.{declared.Zone.Zone, declared.Before.Before, declared.Before.the-variants.{First, After}, Zone.{zoneOf, askZone}}

@@ -1,7 +1,7 @@
 -- The plans that documents 01 and 02 name, and others that show which question comes first.
 use Rattle.base.proofs.Prelude.{_≡_, refl, [], _∷_, ℕ, _<_, _≤_, arith, lt-ltb, ne-eqb}
 use Rattle.base.specs.{Choice.isUpTo, Answer.{Answer, accepted, refused}}
-use Rattle.map.specs.{Question.{isSize, isCell, isFourSizes}, Mode.{cellsOf, widthOf}}
+use Rattle.modes.specs.{Question.{isSize, isCell, isFourSizes}, Mode.{cellsOf, widthOf}}
 use Rattle.mask.specs.Mask.{isMask}
 use Rattle.value.specs.Value.{valueIn}
 use Rattle.zone.specs.{declared.Zone.Zone, Zone.{isZoneMode, isOpening, isAmc, isFollowing}}

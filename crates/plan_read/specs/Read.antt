@@ -6,7 +6,7 @@ use Prim.Native.Nat.{ℕ, zero, suc}
 use lib.Dec.{eqb}
 use lib.ListN.{length, drop}
 use Rattle.base.specs.Answer.{Answer, accepted, refused, ask}
-use Rattle.map.specs.Question.{isFourSizes}
+use Rattle.modes.specs.Question.{isFourSizes}
 use Rattle.value.specs.Value.{Value, valueOf}
 use Rattle.zone.specs.declared.Zone.{Zone}
 use Rattle.plan.specs.declared.Plan.{Plan}

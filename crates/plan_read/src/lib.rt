@@ -121,7 +121,7 @@ pub fn read(bytes: &[u8]) -> ReadPlan
                     value: size,
                     bytes: n,
                 } => {
-                    if !map::is_four_sizes(size) {
+                    if !modes::is_four_sizes(size) {
                         return refused(2);
                     }
                     zones_at(bytes, at + n, count, size)

@@ -6,7 +6,7 @@ use mathlib.Core.List.{append-assoc, append-nil}
 use lib.Seq.{drop-append-seam, take-append-seam, take-all, length-take-le}
 use borrow.Author.Tests.{le-leb}
 use Rattle.base.specs.{Answer.{Answer, accepted, refused, ask}, Tabulate.tabulate}
-use Rattle.map.specs.Question.{isFourSizes}
+use Rattle.modes.specs.Question.{isFourSizes}
 use Rattle.value.specs.Value.{Bytes, Value, valueOf, encode}
 use Rattle.value.proofs.Laws.{read-written, Again, again, again-then}
 use Rattle.zone.specs.{declared.Zone.Zone, declared.Before.Before, declared.Before.the-variants.{First, After}, Zone.zoneOf}

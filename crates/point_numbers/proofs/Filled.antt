@@ -4,8 +4,8 @@ use Rattle.base.proofs.Prelude.{length-replicate, eqb-true, eqb-false}
 use Rattle.base.proofs.{Test.cases, Tabulate.WrittenOver}
 use Rattle.base.specs.{Steps.entry, Model.Starts}
 use Rattle.ofusc.proofs.Sequence.{size}
-use Rattle.map.specs.{Setup.Setup, Mode.width, Model.{OverBins, Valid, pusc-dl, pusc-ul, ofusc, amc}}
-use Rattle.map.proofs.{Choice.{at-1, at-bins, by-mode}, ByMode.bin-width}
+use Rattle.modes.specs.{Setup.Setup, Mode.width, Model.{OverBins, Valid, pusc-dl, pusc-ul, ofusc, amc}}
+use Rattle.modes.proofs.{Choice.{at-1, at-bins, by-mode}, ByMode.bin-width}
 use Rattle.mask.specs.Mask.{isUsedLit}
 use Rattle.clusters.specs.Cluster.{firstPilot, secondPilot}
 use Rattle.runs.specs.Model.{runStep, runCount, tileRuns, runFirst, runSecond, runsOf, runPoints}

@@ -7,9 +7,10 @@ use Rattle.carriers.proofs.Bin.{data-used}
 use Rattle.ofusc.specs.Width.{Width}
 use Rattle.ofusc.proofs.Sequence.{size}
 use Rattle.amc.specs.{declared.Shape.Shape, Model.IsShape}
-use Rattle.map.specs.{Setup.{Setup, setupLent}, Mode.{shapeOf, width, symbols, symbolsOf, addressOf}}
-use Rattle.map.specs.Model.{OverBins, IsAmc, Valid, pusc-dl, pusc-ul, ofusc, amc}
-use Rattle.map.proofs.{Choice.{amc-shape, at-0, at-1, at-2, at-amc, at-bins, by-mode}, ByMode.{shape-symbols, in-pusc-ul, bin-width}}
+use Rattle.modes.specs.{Setup.{Setup, setupLent}, Mode.{shapeOf, width, symbols, symbolsOf}}
+use Rattle.map.specs.Formula.{addressOf}
+use Rattle.modes.specs.Model.{OverBins, IsAmc, Valid, pusc-dl, pusc-ul, ofusc, amc}
+use Rattle.modes.proofs.{Choice.{amc-shape, at-0, at-1, at-2, at-amc, at-bins, by-mode}, ByMode.{shape-symbols, in-pusc-ul, bin-width}}
 use Rattle.mask.specs.Mask.{isLit, isUsedLit}
 use Rattle.clusters.specs.Cluster.{firstPilot, secondPilot, clusterPlace}
 use Rattle.pusc_dl_lit.specs.Lit.{hasGroup}

@@ -7,8 +7,9 @@ use lib.ListN.{length}
 use Rattle.base.specs.Steps.{entry}
 use Rattle.base.specs.Model.{Starts}
 use Rattle.pusc_ul.specs.Tile.{tileSubchannel}
-use Rattle.map.specs.Setup.{Setup}
-use Rattle.map.specs.Mode.{byMode, width, addressOf}
+use Rattle.modes.specs.Setup.{Setup}
+use Rattle.modes.specs.Mode.{byMode, width}
+use Rattle.map.specs.Formula.{addressOf}
 use Rattle.mask.specs.Mask.{isUsedLit, litRank}
 use Rattle.runs.specs.Model.{runStep, runCount, runsOf, runPlace, runPoints}
 use Rattle.pusc_dl_points.specs.Model as pusc-dl

@@ -1,13 +1,13 @@
 // The numbers of the points on the runs of a row, among those of the lit subchannels. The map's own definitions say what they are.
-use map::Setup;
+use modes::Setup;
 ghost use mathlib.Core.Path.{_≡_};
 ghost use mathlib.Core.Bool.{true};
 ghost use Prim.Native.Nat.{_+_, _*_, _<_, _≤_};
 ghost use lib.ListN.{length};
 ghost use Rattle.base.specs.Model.{Starts};
-ghost use Rattle.map.specs.Setup.{alone};
-ghost use Rattle.map.specs.Mode.{symbols};
-ghost use Rattle.map.specs.Model.{Valid};
+ghost use Rattle.modes.specs.Setup.{alone};
+ghost use Rattle.modes.specs.Mode.{symbols};
+ghost use Rattle.modes.specs.Model.{Valid};
 ghost use Rattle.mask.specs.Mask.{isUsedLit};
 ghost use Rattle.runs.specs.Model.{runStep, runCount, runsOf, runPoints};
 ghost use Rattle.point_numbers.specs.Model.{runNumber, runStride, pointStride, RowNumbers, RunPut, RunTable, PlaceTable};
@@ -39,9 +39,9 @@ pub fn place_table(setup: Setup) -> [u16; 48]
         return [0; 48];
     }
     if setup.mode == 2 {
-        return ofusc_rows::table(map::width(setup), setup.cell);
+        return ofusc_rows::table(modes::width(setup), setup.cell);
     }
-    if map::is_amc(setup.mode) {
+    if modes::is_amc(setup.mode) {
         return amc_rows::indices(setup.cell);
     }
     [0; 48]
@@ -63,7 +63,7 @@ pub fn row_strides(setup: Setup) -> Strides
     if setup.mode == 1 {
         return Strides { run: 1, point: 420 };
     }
-    if map::is_over_bins(setup.mode) {
+    if modes::is_over_bins(setup.mode) {
         return Strides { run: 8, point: 1 };
     }
     Strides { run: 0, point: 0 }
@@ -88,10 +88,10 @@ fn run_numbers(
         return pusc_dl_points::cluster_points(setup.cell, mask, row, i, runs, places);
     }
     if setup.mode == 2 {
-        return ofusc_rows::bin_points(map::width(setup), setup.cell, i, places);
+        return ofusc_rows::bin_points(modes::width(setup), setup.cell, i, places);
     }
-    if map::is_amc(setup.mode) {
-        return amc_rows::bin_points(map::shape(setup.mode), setup.cell, row, i, places);
+    if modes::is_amc(setup.mode) {
+        return amc_rows::bin_points(modes::shape(setup.mode), setup.cell, row, i, places);
     }
     [0; 12]
 }

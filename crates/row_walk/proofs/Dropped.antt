@@ -4,7 +4,7 @@ use mir.{Syntax.w64, Val.Fits}
 use lib.Ieee.{Float}
 use Rattle.base.specs.{Steps.entry, Tabulate.tabulate}
 use Rattle.carriers.specs.Band.{carrierOf}
-use Rattle.map.specs.{Setup.Setup, Mode.{symbols, band}, Model.Valid}
+use Rattle.modes.specs.{Setup.Setup, Mode.{symbols, band}, Model.Valid}
 use Rattle.mask.specs.Mask.{isUsedLit, litSubchannels}
 use Rattle.points.specs.{Points.pointAt, Model.{puts, RunWithin}}
 use Rattle.points.proofs.Points.{puts-as}

@@ -7,8 +7,10 @@ use lib.Ieee.{Float}
 use Rattle.base.specs.Steps.{skip}
 use Rattle.carriers.specs.{declared.Spot.Spot, declared.Address.Address, Band.carrierOf, Law.{DataSpot, PointOf}}
 use Rattle.carriers.proofs.Guards.{carrier-lt}
-use Rattle.map.specs.{Setup.Setup, Mode.{subchannels, symbols, band, isPilot, spotOf, addressOf}, Model.Valid}
-use Rattle.map.proofs.Slot.{slot-law, band-law}
+use Rattle.modes.specs.{Setup.Setup, Mode.{subchannels, symbols, band}, Model.Valid}
+use Rattle.map.specs.Formula.{isPilot, spotOf, addressOf}
+use Rattle.map.proofs.Slot.{slot-law}
+use Rattle.modes.proofs.Whole.{band-law}
 use Rattle.mask.specs.Mask.{isLit, isUsedLit, litSubchannels, litRank, ofLitRank}
 use Rattle.mask.proofs.Law.{mask-law, point-lit}
 use Rattle.points.specs.{declared.Point.Point, Points.pointAt, Model.puts}

@@ -4,7 +4,7 @@ use mathlib.Core.List.{List}
 use Prim.Native.Nat.{ℕ, _*_, _/_, _%_, _<_, _≤_}
 use lib.ListN.{length}
 use lib.Ieee.{Float}
-use Rattle.map.specs.Setup.{Setup}
+use Rattle.modes.specs.Setup.{Setup}
 use Rattle.mask.specs.Mask.{litSubchannels, ofLitRank}
 use Rattle.runs.specs.Model.{runStep}
 use Rattle.points.specs.Points.{pointAt}

@@ -1,14 +1,14 @@
 // The points on one row of a slot's grid taken off, by rising carrier: run after run, each point dropped at its number.
-use map::Setup;
+use modes::Setup;
 use point_numbers::Strides;
 use runs::Runs;
 ghost use mathlib.Core.Path.{_≡_};
 ghost use Prim.Native.Nat.{_+_, _*_, _<_, _≤_};
 ghost use lib.ListN.{length};
 ghost use Rattle.base.specs.Tabulate.{tabulate};
-ghost use Rattle.map.specs.Setup.{alone};
-ghost use Rattle.map.specs.Mode.{symbols};
-ghost use Rattle.map.specs.Model.{Valid};
+ghost use Rattle.modes.specs.Setup.{alone};
+ghost use Rattle.modes.specs.Mode.{symbols};
+ghost use Rattle.modes.specs.Model.{Valid};
 ghost use Rattle.mask.specs.Mask.{litSubchannels};
 ghost use Rattle.runs.specs.Model.{LitRuns, runCount, runsOf, runPlace, runPoints};
 ghost use Rattle.point_numbers.specs.Model.{runStride, pointStride, RowNumbers, RunTable, PlaceTable};
@@ -78,12 +78,12 @@ pub fn empty_row(
     if carriers <= first {
         return;
     }
-    let shape = runs::symbol_runs(setup, slot * map::symbols(setup) + row);
+    let shape = runs::symbol_runs(setup, slot * modes::symbols(setup) + row);
     let all = runs::run_points(shape);
     let its_places = runs::run_places(shape);
     let strides = point_numbers::row_strides(setup);
     let numbers = point_numbers::row_numbers(setup, mask, slot, row, shape.count, runs, places);
-    let band = map::band(setup);
+    let band = modes::band(setup);
     let mut i = 0;
     while i < shape.count {
         let start = first + carriers::carrier(band, i * shape.step);

@@ -2,8 +2,9 @@
 use Prim.Native.Nat.{ℕ, _*_, _%_, _<_}
 use Rattle.base.specs.Model.{Turned}
 use Rattle.carriers.specs.Model.{carrierNumber}
-use Rattle.map.specs.Setup.{Setup}
-use Rattle.map.specs.Mode.{byMode, band, spotOf}
+use Rattle.modes.specs.Setup.{Setup}
+use Rattle.modes.specs.Mode.{byMode, band}
+use Rattle.map.specs.Formula.{spotOf}
 use Rattle.rows.specs.declared.CarrierRow.{CarrierRow}
 
 -- how far a subchannel's row is shifted round: by data place in PUSC uplink, by group in optional FUSC, by the places of P in AMC

@@ -1,13 +1,14 @@
 // Where a subchannel's points stand, found fast: a row of 48 carriers, in the order that is cheapest for its mode, and where in
 // it index 0 stands. The map's own definitions say what they are.
-use map::Setup;
+use modes::Setup;
 ghost use mathlib.Core.Path.{_≡_};
 ghost use Prim.Native.Nat.{_<_};
 ghost use Rattle.base.specs.Model.{Turned};
 ghost use Rattle.carriers.specs.Model.{spotNumber};
-ghost use Rattle.map.specs.Setup.{alone};
-ghost use Rattle.map.specs.Mode.{subchannels, spotOf};
-ghost use Rattle.map.specs.Model.{Valid};
+ghost use Rattle.modes.specs.Setup.{alone};
+ghost use Rattle.modes.specs.Mode.{subchannels};
+ghost use Rattle.map.specs.Formula.{spotOf};
+ghost use Rattle.modes.specs.Model.{Valid};
 ghost use Rattle.rows.specs.Model.{shiftOf, pointPlace, RowOf};
 
 // The carriers of a subchannel's points as numbers, the size for each symbol of the slot: index 0 at place `shift`, the others
@@ -46,7 +47,7 @@ fn spots(setup: Setup, slot: usize, subchannel: usize) -> [u16; 48]
     if setup.mode == 0 {
         return pusc_dl_rows::spots(setup.cell, subchannel);
     }
-    let width = map::width(setup);
+    let width = modes::width(setup);
     let table = ofusc_rows::table(width, setup.cell);
     carriers::used_numbers(
         slot,
@@ -63,14 +64,14 @@ fn carrier_row(setup: Setup, slot: usize, subchannel: usize) -> [u16; 48]
     if setup.mode == 1 {
         return pusc_ul_rows::carrier_row(setup.cell, subchannel);
     }
-    if map::is_amc(setup.mode) {
-        let shape = map::shape(setup.mode);
-        let width = map::width(setup);
+    if modes::is_amc(setup.mode) {
+        let shape = modes::shape(setup.mode);
+        let width = modes::width(setup);
         let table = amc_rows::table(shape, width, slot, setup.cell);
         return amc_rows::carrier_row(shape, width, slot, setup.cell, subchannel, &table);
     }
     let row = spots(setup, slot, subchannel);
-    carriers::carrier_row(map::band(setup), row)
+    carriers::carrier_row(modes::band(setup), row)
 }
 
 // The row of a subchannel.

@@ -12,9 +12,10 @@ use Rattle.clusters.specs.Cluster.{isClusterPilot, firstPilot, secondPilot}
 use Rattle.pusc_dl.specs.Map.{usedGroup, logicalOf}
 use Rattle.pusc_dl_lit.specs.Model.{clusterLit}
 use Rattle.pusc_ul.specs.Tile.{isTilePilot}
-use Rattle.map.specs.{Setup.{Setup, setupLent, setupWith}, Mode.{width, widthOf, band, bandOf, isPilot}}
-use Rattle.map.specs.Model.{IsListed, OverBins, Valid, pusc-dl, pusc-ul, ofusc, amc}
-use Rattle.map.proofs.{Choice.{amc-not-0, amc-column, bins-column, none-column}, Accept.width-is}
+use Rattle.modes.specs.{Setup.{Setup, setupLent, setupWith}, Mode.{width, widthOf, band, bandOf}}
+use Rattle.map.specs.Formula.{isPilot}
+use Rattle.modes.specs.Model.{IsListed, OverBins, Valid, pusc-dl, pusc-ul, ofusc, amc}
+use Rattle.modes.proofs.{Choice.{amc-not-0, amc-column, bins-column, none-column}, Accept.width-is}
 use Rattle.mask.specs.Mask.{isUsedLit}
 use Rattle.runs.specs.Model.{runStep, runCount, tileRuns, runFirst, runSecond, runsOf, runPlace, pointsBelow, runPoints, pointsWithin, LitRuns}
 use Rattle.runs.specs.Model.{IsRun, runLit}

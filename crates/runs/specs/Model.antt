@@ -9,8 +9,8 @@ use Rattle.base.specs.Tabulate.{tabulate}
 use Rattle.carriers.specs.Bin.{binPilotPlace}
 use Rattle.clusters.specs.Cluster.{firstPilot, secondPilot}
 use Rattle.pusc_dl_lit.specs.Model.{clusterLit}
-use Rattle.map.specs.Setup.{Setup}
-use Rattle.map.specs.Mode.{byMode, width}
+use Rattle.modes.specs.Setup.{Setup}
+use Rattle.modes.specs.Mode.{byMode, width}
 use Rattle.runs.specs.declared.Runs.{Runs}
 
 -- Which runs are lit, 1 each: a table of the clusters in PUSC downlink. In the other modes all are, and the table is not read.

@@ -1,11 +1,11 @@
 // The runs of a symbol's carriers (clusters, tiles, bins): where their pilots and points stand, and which are lit. The map's own
 // definitions say what they are.
-use map::Setup;
+use modes::Setup;
 ghost use mathlib.Core.Path.{_≡_};
 ghost use Prim.Native.Nat.{_<_};
 ghost use Rattle.base.specs.Tabulate.{tabulate};
-ghost use Rattle.map.specs.Setup.{alone};
-ghost use Rattle.map.specs.Model.{Valid};
+ghost use Rattle.modes.specs.Setup.{alone};
+ghost use Rattle.modes.specs.Model.{Valid};
 ghost use Rattle.runs.specs.Model.{LitRuns, IsRun, runLit, tileRuns, runsOf, runPlace, pointsBelow, runPoints, pointsWithin};
 
 // The runs of a symbol's used numbers: `count` runs of `step` numbers, and in each the places of its two pilots, rising. One that
@@ -34,12 +34,12 @@ pub fn symbol_runs(setup: Setup, symbol: usize) -> Runs
     if setup.mode == 1 {
         return tile_runs(symbol);
     }
-    if map::is_over_bins(setup.mode) {
+    if modes::is_over_bins(setup.mode) {
         return Runs {
             first: carriers::bin_pilot_place(symbol),
             second: 9,
             step: 9,
-            count: 6 * map::width(setup),
+            count: 6 * modes::width(setup),
         };
     }
     Runs {

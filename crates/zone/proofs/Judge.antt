@@ -2,8 +2,8 @@
 use Rattle.base.proofs.Prelude.{_≡_, true, false, [], _∷_, ℕ, _<_, _≤_, mul-le-mul, arith, eqb, ltb, eqb-true, lt-ltb}
 use Rattle.base.proofs.{Chain.{AllYes, all-yes, yes-parts}, Test.{cases, both-true, up-to}}
 use Rattle.base.specs.Choice.{pick}
-use Rattle.map.specs.{Setup.Setup, Question.isMode, Model.{Valid, pusc-dl, pusc-ul, ofusc, amc}}
-use Rattle.map.proofs.{Accept.valid, ByMode.few}
+use Rattle.modes.specs.{Setup.Setup, Question.isMode, Model.{Valid, pusc-dl, pusc-ul, ofusc, amc}}
+use Rattle.modes.proofs.{Accept.valid, ByMode.few}
 use Rattle.mask.proofs.Law.{mask-small}
 use Rattle.zone.specs.{declared.Zone.Zone, declared.Before.Before, Zone.{isZoneMode, setupOf, isOrder, fieldsRefusal, unused, isUnused}}
 use Rattle.zone.specs.Model.{Small}

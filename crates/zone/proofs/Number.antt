@@ -1,7 +1,7 @@
 -- The questions put to a zone as lists, and what they come to by the numbers that functions gave.
 use Rattle.base.proofs.{Prelude.{_≡_, _∙_, [], _∷_, _++_, ℕ, ne-eqb}, Chain.{Questions, is-refused, has-passed}}
 use Rattle.base.specs.Answer.{Answer, accepted, refused, ask, refusalOf}
-use Rattle.map.specs.Question.{isMode, isSize, isCell, askSetup}
+use Rattle.modes.specs.Question.{isMode, isSize, isCell, askSetup}
 use Rattle.mask.specs.Mask.{isMask}
 use Rattle.zone.specs.{declared.Zone.Zone, declared.Before.Before}
 use Rattle.zone.specs.{Zone.{isZoneMode, setupOf, isSlots, isOrder, askFields, fieldsRefusal, askZone}, Model.zoneRefusal}

@@ -6,8 +6,8 @@ use lib.Dec.{eqb, ltb, leb}
 use lib.ListN.{getD}
 use Rattle.base.specs.Choice.{pick, isUpTo}
 use Rattle.base.specs.Answer.{Answer, accepted, ask, refusalOf}
-use Rattle.map.specs.Setup.{Setup, setupWith}
-use Rattle.map.specs.Question.{isSize, isCell}
+use Rattle.modes.specs.Setup.{Setup, setupWith}
+use Rattle.modes.specs.Question.{isSize, isCell}
 use Rattle.mask.specs.Mask.{isMask}
 use Rattle.zone.specs.declared.Zone.{Zone}
 use Rattle.zone.specs.declared.Before.{Before}

@@ -1,5 +1,5 @@
 // A zone of a plan, and the questions put to it: to its own values, and where it stands.
-use map::Setup;
+use modes::Setup;
 ghost use mathlib.Core.Path.{_≡_};
 ghost use Rattle.zone.specs.Zone.{isAmc, isOrder, fieldsRefusal, isUnused};
 ghost use Rattle.zone.specs.Model.{zoneRefusal};
@@ -63,7 +63,7 @@ pub fn fields_refusal(size: usize, zone: Zone) -> u8
     if zone.mode == 1 {
         return 1;
     }
-    let setup = map::refusal(Setup {
+    let setup = modes::refusal(Setup {
         mode: zone.mode,
         size: size,
         cell: zone.cell,

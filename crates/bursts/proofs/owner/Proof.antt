@@ -1,6 +1,6 @@
 -- `bursts::owner` meets its contract.
 use Rattle.base.proofs.{Prelude.{_<_, needs}, Chain.by-answer}
-use Rattle.map.specs.Question.{isSlot, isSubchannel}
+use Rattle.modes.specs.Question.{isSlot, isSubchannel}
 use Rattle.burst_list.proofs.Each.{list-most}
 use Rattle.bursts.specs.Owner.{ownerOf}
 use Rattle.zone.proofs.Number.{fields-no, fields-then}

@@ -1,6 +1,6 @@
 -- `bursts::owners` meets its contract.
 use Rattle.base.proofs.{Prelude.needs, Chain.by-answer}
-use Rattle.map.specs.Question.{isSlot}
+use Rattle.modes.specs.Question.{isSlot}
 use Rattle.bursts.specs.Owner.{ownersOf}
 use Rattle.zone.proofs.Number.{fields-no, fields-then}
 use Rattle.bursts.proofs.{Answer.{list-asks, bursts-no, bursts-then, zone-accepted, row-no, row-yes}, owners.Statement.statement}

@@ -1,6 +1,6 @@
 -- `capi_grid::bp_places` meets its contract.
 use Rattle.base.proofs.Prelude.{_≡_, needs}
-use Rattle.map.specs.Setup.{setupWith}
+use Rattle.modes.specs.Setup.{setupWith}
 use Rattle.places.specs.Places.{placesOf}
 use Rattle.c_boundary.proofs.Row.{row-no, row-yes}
 use Rattle.capi_grid.proofs.bp_places.Statement.{statement}

@@ -1,7 +1,7 @@
 -- `capi_look::bp_look` meets its contract.
 use Rattle.base.proofs.Prelude.{_≡_, arith, needs}
 use denote.Ref.{now}
-use Rattle.map.specs.Setup.{setupWith}
+use Rattle.modes.specs.Setup.{setupWith}
 use Rattle.look.specs.Look.{lookOf, seen}
 use Rattle.capi_look.specs.Look.{lookOut}
 use Rattle.capi_look.proofs.{Look.{seen-small, seen-out}, bp_look.Statement.statement}

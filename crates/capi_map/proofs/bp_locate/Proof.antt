@@ -1,7 +1,8 @@
 -- `capi_map::bp_locate` meets its contract.
 use Rattle.base.proofs.Prelude.{_≡_, arith, needs}
 use mir.{Syntax.w32, ValLaws.toZ-ofZ}
-use Rattle.map.specs.{Setup.setupWith, Place.{located, locateOf}}
+use Rattle.modes.specs.Setup.{setupWith}
+use Rattle.map.specs.Place.{located, locateOf}
 use Rattle.capi_map.specs.Map.{locateOut}
 use Rattle.capi_map.proofs.{Map.{data-small, located-out}, bp_locate.Statement.statement}
 use Rattle.capi_map.proofs.bp_locate.Tie as tie

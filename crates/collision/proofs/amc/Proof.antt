@@ -1,6 +1,6 @@
 -- `collision::amc` meets its contract.
 use Rattle.base.proofs.{Prelude.needs, Chain.by-answer}
-use Rattle.map.specs.{Mode.cellsOf, Question.isCell}
+use Rattle.modes.specs.{Mode.cellsOf, Question.isCell}
 use Rattle.collision.specs.Collision.{amcOf}
 use Rattle.collision.proofs.{Outcome.gives, amc.Statement.statement}
 use Rattle.collision.proofs.amc.Tie as tie

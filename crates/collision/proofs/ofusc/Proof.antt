@@ -1,6 +1,6 @@
 -- `collision::ofusc` meets its contract.
 use Rattle.base.proofs.{Prelude.{_≡_, true, arith, needs}, Test.told-yes, Chain.by-answer}
-use Rattle.map.specs.{Mode.{widthOf, cellsOf, subchannelsOf}, Question.{isFourSizes, isCell, isSubchannel}}
+use Rattle.modes.specs.{Mode.{widthOf, cellsOf, subchannelsOf}, Question.{isFourSizes, isCell, isSubchannel}}
 use Rattle.collision.specs.Collision.{ofuscOf}
 use Rattle.collision.proofs.{Outcome.{wide, gives, same-size}, ofusc.Statement.statement}
 use Rattle.collision.proofs.ofusc.Tie as tie

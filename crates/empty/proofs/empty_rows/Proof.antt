@@ -1,6 +1,6 @@
 -- `empty::empty_rows` meets its contract.
 use Rattle.base.proofs.Prelude.{_∙_, _-_, needs}
-use Rattle.map.specs.Setup.{alone}
+use Rattle.modes.specs.Setup.{alone}
 use Rattle.empty.proofs.{Rows.{SlotTurn, slot-start, slot-next, slot-done}, empty_rows.Statement.statement}
 use Rattle.empty.proofs.empty_rows.Tie as tie
 

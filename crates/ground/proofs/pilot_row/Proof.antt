@@ -1,7 +1,7 @@
 -- `ground::pilot_row` meets its contract.
 use Rattle.base.proofs.Prelude.{_≡_, ap, _∙_, ℕ, _+_, _-_, _*_, _<_, arith, getD, needs}
-use Rattle.map.specs.{Setup.alone, Mode.symbols}
-use Rattle.map.proofs.ByMode.{slot-few, few}
+use Rattle.modes.specs.{Setup.alone, Mode.symbols}
+use Rattle.modes.proofs.ByMode.{slot-few, few}
 use Rattle.points.specs.Points.{zeroPoint}
 use Rattle.runs.specs.{declared.Runs.Runs, Model.{runStep, runCount, runsOf}}
 use Rattle.runs.proofs.Law.{run-is}

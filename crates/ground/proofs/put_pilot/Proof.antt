@@ -1,7 +1,7 @@
 -- `ground::put_pilot` meets its contract.
 use Rattle.base.proofs.Prelude.{_≡_, ap, _∙_, ℕ, _+_, _*_, _<_, arith, needs}
-use Rattle.map.specs.{Setup.alone, Mode.band}
-use Rattle.map.proofs.ByMode.{row-few, few}
+use Rattle.modes.specs.{Setup.alone, Mode.band}
+use Rattle.modes.proofs.ByMode.{row-few, few}
 use Rattle.points.specs.Model.{putPoint}
 use Rattle.lengths.specs.Length.{gridPoints}
 use Rattle.lengths.proofs.Refusal.{grid-few}

@@ -1,7 +1,7 @@
 -- `ground::zeros_and_pilots` meets its contract.
 use Rattle.base.proofs.Prelude.{sym, _∙_, _-_, _<_, arith, needs}
-use Rattle.map.specs.{Setup.alone, Mode.symbols}
-use Rattle.map.proofs.ByMode.{few}
+use Rattle.modes.specs.{Setup.alone, Mode.symbols}
+use Rattle.modes.proofs.ByMode.{few}
 use Rattle.ground.proofs.{Pilots.{GroundTurn, ground-start, ground-next, ground-done}, zeros_and_pilots.Statement.statement}
 use Rattle.ground.proofs.zeros_and_pilots.Tie as tie
 

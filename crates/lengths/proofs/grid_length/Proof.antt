@@ -1,6 +1,6 @@
 -- `lengths::grid_length` meets its contract.
 use Rattle.base.proofs.Prelude.{ap, ℕ, _*_, needs}
-use Rattle.map.proofs.Outcome.{now-valid}
+use Rattle.modes.proofs.Outcome.{now-valid}
 use Rattle.lengths.specs.Length.{gridLength}
 use Rattle.lengths.proofs.{Length.{unlisted, listed}, grid_length.Statement.statement}
 use Rattle.lengths.proofs.grid_length.Tie as tie

@@ -1,6 +1,6 @@
 -- `lengths::lay_refusal` meets its contract.
 use Rattle.base.proofs.{Prelude.needs, Chain.by-number}
-use Rattle.map.specs.Question.{isSubchannel}
+use Rattle.modes.specs.Question.{isSubchannel}
 use Rattle.lengths.specs.{Question.{isLitSubchannel, areLaidPoints}, Model.{layRefusal, gridRefusal}}
 use Rattle.lengths.proofs.{Refusal.{slot-no, slot-then, slot-valid}, lay_refusal.Statement.statement}
 use Rattle.lengths.proofs.lay_refusal.Tie as tie

@@ -1,7 +1,7 @@
 -- `lengths::look_refusal` meets its contract.
 use Rattle.base.proofs.{Prelude.{arith, needs}, Chain.by-number}
-use Rattle.map.specs.Question.{isSymbol}
-use Rattle.map.proofs.{ByMode.few, Outcome.{size-few, carrier-no, carrier-yes}}
+use Rattle.modes.specs.Question.{isSymbol}
+use Rattle.modes.proofs.{ByMode.few, Outcome.{size-few, carrier-no, carrier-yes}}
 use Rattle.lengths.specs.Model.{gridRefusal, lookRefusal}
 use Rattle.lengths.proofs.{Refusal.{mask-no, mask-then, mask-valid}, look_refusal.Statement.statement}
 use Rattle.lengths.proofs.look_refusal.Tie as tie

@@ -1,7 +1,7 @@
 -- `lengths::mask_refusal` meets its contract.
 use Rattle.base.proofs.{Prelude.needs, Chain.by-number}
 use Rattle.lengths.specs.Model.{maskRefusal}
-use Rattle.map.proofs.Outcome.{setup-no, setup-then}
+use Rattle.modes.proofs.Outcome.{setup-no, setup-then}
 use Rattle.lengths.proofs.mask_refusal.Statement.{statement}
 use Rattle.lengths.proofs.mask_refusal.Tie as tie
 

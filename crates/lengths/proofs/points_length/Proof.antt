@@ -1,6 +1,6 @@
 -- `lengths::points_length` meets its contract.
 use Rattle.base.proofs.Prelude.{ap, ℕ, _*_, arith, needs}
-use Rattle.map.proofs.{ByMode.few, Outcome.now-valid}
+use Rattle.modes.proofs.{ByMode.few, Outcome.now-valid}
 use Rattle.lengths.specs.Length.{pointsLength}
 use Rattle.lengths.proofs.{Length.{unlisted, listed}, points_length.Statement.statement}
 use Rattle.lengths.proofs.points_length.Tie as tie

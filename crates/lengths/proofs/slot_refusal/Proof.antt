@@ -1,6 +1,6 @@
 -- `lengths::slot_refusal` meets its contract.
 use Rattle.base.proofs.{Prelude.needs, Chain.by-number}
-use Rattle.map.specs.Question.{isSlot}
+use Rattle.modes.specs.Question.{isSlot}
 use Rattle.lengths.specs.Model.{slotRefusal}
 use Rattle.lengths.proofs.{Refusal.{mask-no, mask-then}, slot_refusal.Statement.statement}
 use Rattle.lengths.proofs.slot_refusal.Tie as tie

@@ -1,6 +1,6 @@
 -- `look::column_position` meets its contract.
 use Rattle.base.proofs.Prelude.{refl, mod-lt, arith, needs}
-use Rattle.map.proofs.ByMode.{few}
+use Rattle.modes.proofs.ByMode.{few}
 use Rattle.lengths.proofs.Refusal.{grid-few}
 use Rattle.grid.proofs.Slot.{position-is}
 use Rattle.look.proofs.column_position.Statement.{statement}

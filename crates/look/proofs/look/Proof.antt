@@ -1,6 +1,6 @@
 -- `look::look` meets its contract.
 use Rattle.base.proofs.Prelude.{refl, arith, needs}
-use Rattle.map.proofs.Outcome.{size-few}
+use Rattle.modes.proofs.Outcome.{size-few}
 use Rattle.look.proofs.{Looked.{look-refused, look-asked, look-column, look-done}, look.Statement.statement}
 use Rattle.look.proofs.look.Tie as tie
 

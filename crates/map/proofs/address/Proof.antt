@@ -1,8 +1,9 @@
 -- `map::address` meets its contract.
 use Rattle.base.proofs.Prelude.{arith, needs}
-use Rattle.map.proofs.{Choice.{told-amc, choosing}, ByMode.{pusc-dl-asks, pusc-ul-asks, ofusc-back-asks, amc-back-asks, amc-address, few}}
+use Rattle.modes.proofs.{Choice.{told-amc, choosing}, ByMode.few}
+use Rattle.map.proofs.Asks.{pusc-dl-asks, pusc-ul-asks, ofusc-back-asks, amc-back-asks, amc-address}
 use Rattle.map.proofs.address.Statement.{statement}
-use Rattle.map.specs.Mode.{addressOf}
+use Rattle.map.specs.Formula.{addressOf}
 use Rattle.map.proofs.address.Tie as tie
 use Rattle.ofusc.proofs.address.Reads as address-reads′
 use Rattle.pusc_dl.proofs.address.Reads as address-reads′′

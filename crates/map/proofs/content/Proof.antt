@@ -1,8 +1,9 @@
 -- `map::content` meets its contract.
 use Rattle.base.proofs.Prelude.{arith, needs}
-use Rattle.map.proofs.{Outcome.{content-left, content-used, no-pilot, content-guard, content-dc, content-pilot, content-point}, Slot.band-law}
+use Rattle.map.proofs.Outcome.{content-left, content-used, no-pilot, content-guard, content-dc, content-pilot, content-point}
+use Rattle.modes.proofs.Whole.{band-law}
 use Rattle.map.proofs.content.Statement.{statement}
-use Rattle.map.specs.Mode.{band}
+use Rattle.modes.specs.Mode.{band}
 use Rattle.map.proofs.content.Tie as tie
 
 is-guard-requires : tie.Need-is-guard-requires

@@ -1,7 +1,9 @@
 -- `map::locate` meets its contract.
 use Rattle.base.proofs.{Prelude.{arith, needs}, Chain.by-answer}
-use Rattle.map.specs.{Question.isSymbol, Place.locateOf}
-use Rattle.map.proofs.{ByMode.few, Outcome.{now-valid, refuses, lets-pass, carrier-no, size-few, carrier-in, column-in, locate-done}}
+use Rattle.modes.specs.Question.{isSymbol}
+use Rattle.map.specs.Place.{locateOf}
+use Rattle.modes.proofs.{ByMode.few, Outcome.{now-valid, refuses, lets-pass, carrier-no, size-few, carrier-in, column-in}}
+use Rattle.map.proofs.Outcome.{locate-done}
 use Rattle.map.proofs.locate.Statement.{statement}
 use Rattle.map.proofs.locate.Tie as tie
 

@@ -1,6 +1,6 @@
 -- `map::ofusc_number` meets its contract.
 use Rattle.base.proofs.Prelude.{needs}
-use Rattle.map.proofs.{ByMode.ofusc-asks, ofusc_number.Statement.statement}
+use Rattle.map.proofs.{Asks.ofusc-asks, ofusc_number.Statement.statement}
 use Rattle.map.proofs.ofusc_number.Tie as tie
 use Rattle.ofusc.proofs.data_number.Reads as data-number-reads
 

@@ -1,7 +1,9 @@
 -- `map::place` meets its contract.
 use Rattle.base.proofs.{Prelude.needs, Chain.by-answer}
-use Rattle.map.specs.{Question.{isSlot, isSubchannel, isIndex}, Place.placeOf}
-use Rattle.map.proofs.{Outcome.{now-valid, refuses, lets-pass, subchannel-in, place-done, spot-asks}, place.Statement.statement}
+use Rattle.modes.specs.Question.{isSlot, isSubchannel, isIndex}
+use Rattle.map.specs.Place.{placeOf}
+use Rattle.modes.proofs.Outcome.{now-valid, refuses, lets-pass}
+use Rattle.map.proofs.{Outcome.{subchannel-in, place-done, spot-asks}, place.Statement.statement}
 use Rattle.map.proofs.place.Tie as tie
 
 spot-requires : tie.Need-spot-requires

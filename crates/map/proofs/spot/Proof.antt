@@ -1,8 +1,9 @@
 -- `map::spot` meets its contract.
 use Rattle.base.proofs.Prelude.{refl, arith, needs}
-use Rattle.map.proofs.Choice.{told-amc, choosing}
-use Rattle.map.proofs.{ByMode.{in-pusc-dl, in-pusc-ul, ofusc-few, ofusc-spot, amc-asks, amc-few, amc-spot, slot-few}, spot.Statement.statement}
-use Rattle.map.specs.Mode.{spotOf}
+use Rattle.modes.proofs.Choice.{told-amc, choosing}
+use Rattle.modes.proofs.ByMode.{in-pusc-dl, in-pusc-ul, slot-few}
+use Rattle.map.proofs.{Asks.{ofusc-few, ofusc-spot, amc-asks, amc-few, amc-spot}, spot.Statement.statement}
+use Rattle.map.specs.Formula.{spotOf}
 use Rattle.map.proofs.spot.Tie as tie
 use Rattle.pusc_ul.proofs.spot.Reads as spot-reads′
 

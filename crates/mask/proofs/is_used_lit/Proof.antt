@@ -1,6 +1,6 @@
 -- `mask::is_used_lit` meets its contract.
 use Rattle.base.proofs.Prelude.{eq-eqb, ne-eqb}
-use Rattle.map.proofs.ByMode.{in-pusc-dl}
+use Rattle.modes.proofs.ByMode.{in-pusc-dl}
 use Rattle.mask.specs.Mask.{isUsedLit}
 use Rattle.mask.proofs.is_used_lit.Statement.{statement}
 use Rattle.mask.proofs.is_used_lit.Tie as tie

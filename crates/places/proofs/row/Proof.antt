@@ -1,7 +1,7 @@
 -- `places::row` meets its contract.
 use Rattle.base.proofs.{Prelude.{_<_, needs}, Chain.by-answer}
-use Rattle.map.specs.{Setup.alone, Mode.subchannels, Question.{isSlot, isSubchannel}, Model.Valid}
-use Rattle.map.proofs.Outcome.{now-valid, refuses, lets-pass}
+use Rattle.modes.specs.{Setup.alone, Mode.subchannels, Question.{isSlot, isSubchannel}, Model.Valid}
+use Rattle.modes.proofs.Outcome.{now-valid, refuses, lets-pass}
 use Rattle.places.proofs.{Answer.{no-row, row-done}, row.Statement.statement}
 use Rattle.places.proofs.row.Tie as tie
 

@@ -1,6 +1,6 @@
 -- `point_numbers::numbers_by_run` meets its contract.
 use Rattle.base.proofs.Prelude.{_+_, _-_, _*_, _<_, _≤_, arith, needs}
-use Rattle.map.specs.{Setup.alone, Mode.symbols}
+use Rattle.modes.specs.{Setup.alone, Mode.symbols}
 use Rattle.runs.specs.Model.{runCount}
 use Rattle.point_numbers.proofs.{Filled.{RunsTurn, by-run, runs-none, runs-next, runs-all}, numbers_by_run.Statement.statement}
 use Rattle.point_numbers.proofs.numbers_by_run.Tie as tie

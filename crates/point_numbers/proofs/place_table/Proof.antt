@@ -1,6 +1,6 @@
 -- `point_numbers::place_table` meets its contract.
 use Rattle.base.proofs.Prelude.{replicate, arith, needs}
-use Rattle.map.proofs.{Choice.{told-amc, at-1, by-mode, choosing}, ByMode.{in-pusc-dl, in-ofusc, in-amc, bin-width}}
+use Rattle.modes.proofs.{Choice.{told-amc, at-1, by-mode, choosing}, ByMode.{in-pusc-dl, in-ofusc, in-amc, bin-width}}
 use Rattle.point_numbers.specs.Model.{placeEntries}
 use Rattle.point_numbers.proofs.{Numbers.{to-table, inverses-as, groups-as, indices-as, no-places}, place_table.Statement.statement}
 use Rattle.point_numbers.proofs.place_table.Tie as tie

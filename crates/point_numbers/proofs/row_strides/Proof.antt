@@ -1,6 +1,6 @@
 -- `point_numbers::row_strides` meets its contract.
 use Rattle.base.proofs.Prelude.{needs}
-use Rattle.map.proofs.Choice.{choosing}
+use Rattle.modes.proofs.Choice.{choosing}
 use Rattle.point_numbers.specs.Model.{runStride, pointStride}
 use Rattle.point_numbers.proofs.row_strides.Statement.{statement}
 use Rattle.point_numbers.proofs.row_strides.Tie as tie

@@ -1,7 +1,7 @@
 -- `point_numbers::run_numbers` meets its contract.
 use Rattle.base.proofs.Prelude.{_≡_, arith, needs}
-use Rattle.map.specs.Setup.{alone}
-use Rattle.map.proofs.Choice.{told-amc, choosing}
+use Rattle.modes.specs.Setup.{alone}
+use Rattle.modes.proofs.Choice.{told-amc, choosing}
 use Rattle.runs.specs.Model.{runCount}
 use Rattle.point_numbers.proofs.{Numbers.{asks-0, asks-2, asks-amc, numbers-0, numbers-2, numbers-amc}, run_numbers.Statement.statement}
 use Rattle.point_numbers.proofs.run_numbers.Tie as tie

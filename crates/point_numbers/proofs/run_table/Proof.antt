@@ -1,6 +1,6 @@
 -- `point_numbers::run_table` meets its contract.
 use Rattle.base.proofs.Prelude.{arith, replicate}
-use Rattle.map.proofs.ByMode.{listed-mode, in-pusc-dl, in-pusc-ul}
+use Rattle.modes.proofs.ByMode.{listed-mode, in-pusc-dl, in-pusc-ul}
 use Rattle.point_numbers.proofs.{Numbers.{to-table, clusters-as, tiles-as, no-runs}, run_table.Statement.statement}
 use Rattle.point_numbers.proofs.run_table.Tie as tie
 

@@ -1,6 +1,6 @@
 -- `row_walk::drop_run` meets its contract.
 use Rattle.base.proofs.Prelude.{_≡_, true, _*_, needs}
-use Rattle.map.specs.Setup.{alone}
+use Rattle.modes.specs.Setup.{alone}
 use Rattle.mask.specs.Mask.{isUsedLit}
 use Rattle.runs.specs.Model.{runStep}
 use Rattle.runs.proofs.Law.{run-is, run-dark, run-bright}

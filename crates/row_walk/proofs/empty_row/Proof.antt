@@ -1,8 +1,8 @@
 -- `row_walk::empty_row` meets its contract.
 use Rattle.base.proofs.Prelude.{_≡_, refl, ap, _∙_, ℕ, _+_, _-_, _*_, _<_, _≤_, arith, needs}
 use Rattle.carriers.specs.{declared.Band.Band, Band.carrierOf}
-use Rattle.map.specs.{Setup.alone, Mode.symbols}
-use Rattle.map.proofs.ByMode.{few, slot-few, row-few}
+use Rattle.modes.specs.{Setup.alone, Mode.symbols}
+use Rattle.modes.proofs.ByMode.{few, slot-few, row-few}
 use Rattle.runs.specs.{declared.Runs.Runs, Model.{runStep, runCount, runsOf}}
 use Rattle.row_walk.specs.Model.{Took, runStart}
 use Rattle.row_walk.proofs.{Taken.{took-then, took-past, row-start, row-done, row-over}, Dropped.{start-used, start-small, start-is}}

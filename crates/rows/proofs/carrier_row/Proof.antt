@@ -1,6 +1,6 @@
 -- `rows::carrier_row` meets its contract.
 use Rattle.base.proofs.Prelude.{arith, needs}
-use Rattle.map.proofs.{Choice.{told-amc, told-early}, ByMode.{listed-mode, few}}
+use Rattle.modes.proofs.{Choice.{told-amc, told-early}, ByMode.{listed-mode, few}}
 use Rattle.rows.proofs.{Row.{asks-1, asks-amc, row-1, row-amc, spots-below, carriers-of}, carrier_row.Statement.statement}
 use Rattle.rows.proofs.carrier_row.Tie as tie
 

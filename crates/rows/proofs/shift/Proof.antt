@@ -1,6 +1,6 @@
 -- `rows::shift` meets its contract.
 use Rattle.base.proofs.Prelude.{arith, needs}
-use Rattle.map.proofs.Choice.{choosing}
+use Rattle.modes.proofs.Choice.{choosing}
 use Rattle.rows.specs.Model.{shiftOf}
 use Rattle.rows.proofs.shift.Statement.{statement}
 use Rattle.rows.proofs.shift.Tie as tie

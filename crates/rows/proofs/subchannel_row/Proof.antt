@@ -1,6 +1,6 @@
 -- `rows::subchannel_row` meets its contract.
 use Rattle.base.proofs.Prelude.{arith}
-use Rattle.map.proofs.ByMode.{few}
+use Rattle.modes.proofs.ByMode.{few}
 use Rattle.rows.proofs.subchannel_row.Statement.{statement}
 use Rattle.rows.proofs.subchannel_row.Tie as tie
 

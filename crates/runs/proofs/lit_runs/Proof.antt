@@ -1,5 +1,5 @@
 -- `runs::lit_runs` meets its contract.
-use Rattle.map.proofs.ByMode.{in-pusc-dl}
+use Rattle.modes.proofs.ByMode.{in-pusc-dl}
 use Rattle.runs.proofs.lit_runs.Statement.{statement}
 use Rattle.runs.proofs.lit_runs.Tie as tie
 

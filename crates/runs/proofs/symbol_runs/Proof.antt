@@ -1,7 +1,7 @@
 -- `runs::symbol_runs` meets its contract.
 use Rattle.base.proofs.Prelude.{_∙_, arith, needs}
 use Rattle.ofusc.proofs.Sequence.{size}
-use Rattle.map.proofs.{ByMode.bin-width, Choice.{told-bins, unlisted-bins}}
+use Rattle.modes.proofs.{ByMode.bin-width, Choice.{told-bins, unlisted-bins}}
 use Rattle.runs.proofs.{Law.{runs-0, runs-1, runs-bins, runs-none}, symbol_runs.Statement.statement}
 use Rattle.runs.proofs.symbol_runs.Tie as tie
 

@@ -1,6 +1,6 @@
 -- `zone::fields_refusal` meets its contract.
 use Rattle.base.proofs.{Prelude.{sym, _∙_, needs}, Test.{told-no, told-yes}}
-use Rattle.map.proofs.Outcome.{setup-no, setup-then}
+use Rattle.modes.proofs.Outcome.{setup-no, setup-then}
 use Rattle.zone.proofs.{Number.{fields-uplink, fields-other}, fields_refusal.Statement.statement}
 use Rattle.zone.proofs.fields_refusal.Tie as tie
 

@@ -1,0 +1,4 @@
+pub mod Setup
+pub mod Mode
+pub mod Question
+pub mod Model
