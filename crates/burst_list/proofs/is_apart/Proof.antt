@@ -6,10 +6,10 @@ use Rattle.burst_list.proofs.is_apart.Statement.{statement}
 use Rattle.burst_list.proofs.is_apart.Tie as tie
 
 abbrev Inv-loop : tie.InvT-loop
-Inv-loop columns i edges overlaps₀ j₀ overlaps j = Asking (λ k. edgesOverlap (edgesAt columns k) edges) i overlaps j
+Inv-loop starts ends slotStarts slotEnds i edges overlaps₀ j₀ overlaps j = Asking (λ k. edgesOverlap (edgesAt starts ends slotStarts slotEnds k) edges) i overlaps j
 
 abbrev μ-loop : tie.MeasureT-loop
-μ-loop columns i edges overlaps₀ j₀ overlaps j = i - j
+μ-loop starts ends slotStarts slotEnds i edges overlaps₀ j₀ overlaps j = i - j
 
 loop-again : tie.Need-loop-again Inv-loop μ-loop
 loop-again c =
