@@ -26,11 +26,15 @@ module _ {numbers starts ends slotStarts slotEnds : List ℕ} (n : ℕ) {edges :
         slot-ends-are = written-next (held .slot-ends-are) h _ (ap (λ (x : Edges). x .«slot_end») e);
       }
 
-  pub held-apart : Held numbers starts ends slotStarts slotEnds (n + 1) → isNone (λ j. edgesOverlap (edgesAt starts ends slotStarts slotEnds j) edges) n ≡ isApart numbers n
-  unfolding isApart
-  held-apart held =
-      ap (λ (k : ℕ). eqb k n)
-      (first-as (λ j. edgesOverlap (edgesAt starts ends slotStarts slotEnds j) edges) (λ j. isOverlap (burstAt numbers j) (burstAt numbers n)) n (λ j lt.
-      let l : j < n + 1 = omega arith in
-      rw (held .starts-are .entries j l, held .ends-are .entries j l, held .slot-starts-are .entries j l, held .slot-ends-are .entries j l)
-      (ap (edgesOverlap (edgesOf (burstAt numbers j))) e ∙ edges-overlap (burstAt numbers j) (burstAt numbers n))))
+pub held-apart : {numbers starts ends slotStarts slotEnds : List ℕ} (n : ℕ) → Held numbers starts ends slotStarts slotEnds (n + 1)
+    → isNone (λ j. edgesOverlap (edgesAt starts ends slotStarts slotEnds j) (edgesAt starts ends slotStarts slotEnds n)) n ≡ isApart numbers n
+unfolding isApart
+held-apart {numbers} {starts} {ends} {slotStarts} {slotEnds} n held =
+    ap (λ (k : ℕ). eqb k n)
+    (first-as (λ j. edgesOverlap (edgesAt starts ends slotStarts slotEnds j) (edgesAt starts ends slotStarts slotEnds n)) (λ j. isOverlap (burstAt numbers j) (burstAt numbers n)) n (λ j lt.
+    let l : j < n + 1 = omega arith in
+    let last : n < n + 1 = omega arith in
+    rw (
+      held .starts-are .entries j l, held .ends-are .entries j l, held .slot-starts-are .entries j l, held .slot-ends-are .entries j l,
+      held .starts-are .entries n last, held .ends-are .entries n last, held .slot-starts-are .entries n last, held .slot-ends-are .entries n last,
+    ) (edges-overlap (burstAt numbers j) (burstAt numbers n))))

@@ -34,11 +34,11 @@ fn is_apart(
     slot_starts: &[u16; 64],
     slot_ends: &[u16; 64],
     i: usize,
-    edges: Edges,
 ) -> bool
     requires { ⌜ i < 64 ⌝ }
-    ensures { λ r. ⌜ r ≡ isNone (λ j. edgesOverlap (edgesAt (now (starts .entry)) (now (ends .entry)) (now («slot_starts» .entry)) (now («slot_ends» .entry)) j) edges) i ⌝ }
+    ensures { λ r. ⌜ r ≡ isNone (λ j. edgesOverlap (edgesAt (now (starts .entry)) (now (ends .entry)) (now («slot_starts» .entry)) (now («slot_ends» .entry)) j) (edgesAt (now (starts .entry)) (now (ends .entry)) (now («slot_starts» .entry)) (now («slot_ends» .entry)) i)) i ⌝ }
 {
+    let edges = kept(starts, ends, slot_starts, slot_ends, i);
     let mut overlaps = false;
     let mut j = 0;
     while j < i {
@@ -74,17 +74,11 @@ pub fn list_refusal(subchannel_end: usize, slot_end: usize, bursts: &[u32]) -> u
         if !burst::is_inside(subchannel_end, slot_end, burst) {
             return 18;
         }
-        let edges = Edges {
-            start: burst.subchannel as u16,
-            end: burst::end_of(burst.subchannel, burst.subchannels) as u16,
-            slot_start: burst.slot as u16,
-            slot_end: burst::end_of(burst.slot, burst.slots) as u16,
-        };
-        starts[i] = edges.start;
-        ends[i] = edges.end;
-        slot_starts[i] = edges.slot_start;
-        slot_ends[i] = edges.slot_end;
-        if !is_apart(&starts, &ends, &slot_starts, &slot_ends, i, edges) {
+        starts[i] = burst.subchannel as u16;
+        ends[i] = burst::end_of(burst.subchannel, burst.subchannels) as u16;
+        slot_starts[i] = burst.slot as u16;
+        slot_ends[i] = burst::end_of(burst.slot, burst.slots) as u16;
+        if !is_apart(&starts, &ends, &slot_starts, &slot_ends, i) {
             return 19;
         }
         i += 1;

@@ -38,7 +38,7 @@ few c = omega (arith, list-of _ (c .before .loop .inv .0), c .loop-test .taken)
 apart : (c : tie.After-is-apart Inv-loop μ-loop) → let e = c .before .before .before .before .before in c .is-apart .result ≡ isApart (e .before .before .before .before .before .before .before .before .before .before .before .before .args .bursts .now) (e .before .before .before .before .before .before .before .before .loop .i)
 apart c =
     let e = c .before .before .before .before .before in
-    c .is-apart .ensures ∙ held-apart _ (edges e) (held-next _ (edges e) (e .before .before .before .before .before .before .before .before .loop .inv .2) (few (e .before .before .before .before .before .before .before)))
+    c .is-apart .ensures ∙ held-apart _ (held-next _ (edges e) (e .before .before .before .before .before .before .before .before .loop .inv .2) (few (e .before .before .before .before .before .before .before)))
 
 loop-holds : tie.Need-loop-holds Inv-loop μ-loop
 loop-holds c = (list-is _ (c .before .if1 .left) (c .if2 .left), below-none _, held-none _)
@@ -71,8 +71,9 @@ list-refusal-spec =
     (tie.spec
     Inv-loop μ-loop (λ c. search (by-number, needs)) (λ c. search (by-number, lt-leb, needs)) loop-holds
     (λ c κs. (few c, omega (arith, c .loop-test .taken))) (λ c κs. search needs) returns-3
-    (λ c. let ends = small (c .before) in omega arith) (λ c κs. search needs) (λ c. let ends = small (c .before .before) in omega (arith, c .end-of .ensures))
-    (λ c. let ends = small (c .before .before .before) in omega arith) (λ c κs. search needs) (λ c. let ends = small (c .before .before .before .before) in omega (arith, c .end-of2 .ensures))
-    (λ c. search needs) (λ c. search needs) (λ c. search needs) (λ c. search needs) (λ c. search needs) (λ c. search needs) (λ c. search needs) (λ c. search needs)
+    (λ c. let ends = small (c .before) in omega arith) (λ c. search needs) (λ c. search needs) (λ c κs. search needs)
+    (λ c. let ends = small (c .before .before) in omega (arith, c .end-of .ensures)) (λ c. search needs) (λ c. search needs)
+    (λ c. let ends = small (c .before .before .before) in omega arith) (λ c. search needs) (λ c. search needs) (λ c κs. search needs)
+    (λ c. let ends = small (c .before .before .before .before) in omega (arith, c .end-of2 .ensures)) (λ c. search needs) (λ c. search needs)
     (λ c κs. few (c .before .before .before .before .before .before .before .before .before .before .before)) returns-4 (λ c. search needs) (λ c. search needs) loop-again
     (λ c. let inv = c .before .loop .inv in all-pass _ _ _ (inv .0) (λ k h. inv .1 k (omega (arith, c .loop-test .left)))))
