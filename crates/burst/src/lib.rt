@@ -1,5 +1,5 @@
 // A burst, a rectangle of subchannels by slots: the one at a position of a list, what it covers, whether it lies in its zone,
-// and whether two overlap.
+// and whether two runs of numbers have one in common.
 ghost use mathlib.Core.Path.{_≡_};
 ghost use Prim.Native.Nat.{_+_, _*_, _<_};
 ghost use lib.ListN.{length};

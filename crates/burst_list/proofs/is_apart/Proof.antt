@@ -6,10 +6,10 @@ use Rattle.burst_list.proofs.is_apart.Statement.{statement}
 use Rattle.burst_list.proofs.is_apart.Tie as tie
 
 abbrev Inv-loop : tie.InvT-loop
-Inv-loop columns i edges overlaps₀ j₀ overlaps j = Asking (λ k. edgesOverlap (edgesAt columns k) edges) i overlaps j
+Inv-loop starts ends slotStarts slotEnds i edges overlaps₀ j₀ overlaps j = Asking (λ k. edgesOverlap (edgesAt starts ends slotStarts slotEnds k) edges) i overlaps j
 
 abbrev μ-loop : tie.MeasureT-loop
-μ-loop columns i edges overlaps₀ j₀ overlaps j = i - j
+μ-loop starts ends slotStarts slotEnds i edges overlaps₀ j₀ overlaps j = i - j
 
 loop-again : tie.Need-loop-again Inv-loop μ-loop
 unfolding edgesOverlap
@@ -22,6 +22,6 @@ is-apart-spec =
     tie.close
     (tie.spec
     Inv-loop μ-loop (λ c. asking)
-    (λ c. search needs) (λ c. search needs) (λ c. search needs) (λ c. search needs) (λ c. search needs) (λ c κs. search needs)
-    (λ c. search needs) (λ c. search needs) (λ c. search needs) (λ c. search needs) (λ c. search needs) (λ c. search needs) (λ c κs. search needs)
+    (λ c. search needs) (λ c. search needs) (λ c. search needs) (λ c. search needs) (λ c κs. search needs)
+    (λ c. search needs) (λ c. search needs) (λ c. search needs) (λ c. search needs) (λ c κs. search needs)
     (λ c. search needs) (λ c. search needs) loop-again (λ c. asked (c .before .loop .inv) (c .loop-test .left)))
