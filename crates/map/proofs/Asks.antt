@@ -12,7 +12,7 @@ use Rattle.pusc_ul.specs.Tile.{isTilePilot}
 use Rattle.amc.specs.{declared.Shape.Shape, Model.IsShape}
 use Rattle.modes.specs.{Setup.Setup, Mode.{shapeOf, width, subchannels, symbols, band}}
 use Rattle.map.specs.Formula.{isPilot, spotOf, addressOf}
-use Rattle.modes.specs.Model.{IsAmc, Valid}
+use Rattle.modes.specs.Model.{IsAmc, Ranged}
 use Rattle.modes.proofs.Choice.{amc-shape, at-0, at-1, at-2, at-amc, by-mode}
 use Rattle.modes.proofs.ByMode.{shape-symbols, shape-subchannels, in-pusc-dl, in-pusc-ul, in-ofusc, in-amc, bin-width, amc-width, few-symbols, few-subchannels, few}
 use Rattle.ofusc.specs.Map as spread
@@ -21,7 +21,7 @@ use Rattle.amc.specs.Map as adjacent
 use Rattle.amc.proofs.Law as adjacent-law
 
 -- what the numberings of the modes over bins ask of a valid setup, and that their numbers are few
-module _ {c : Setup} (v : Valid c) (n : ℕ) (e : n ≡ width c) (s m : ℕ) (hs : s < subchannels c) (hm : m < 48) where
+module _ {c : Setup} (v : Ranged c) (n : ℕ) (e : n ≡ width c) (s m : ℕ) (hs : s < subchannels c) (hm : m < 48) where
   pub ofusc-asks : c .mode ≡ 2 → Width n × ((c .cell < n * n) × (s < n) × (m < 48))
   ofusc-asks q =
       let r = in-ofusc v q in
@@ -32,7 +32,7 @@ module _ {c : Setup} (v : Valid c) (n : ℕ) (e : n ≡ width c) (s m : ℕ) (hs
       let a = ofusc-asks q in
       omega (arith, size (a .0), spread-law.law (a .0) (c .cell) .number-lt s m (a .1 .1) hm)
 
-module _ {c : Setup} (v : Valid c) (q : IsAmc (c .mode)) where
+module _ {c : Setup} (v : Ranged c) (q : IsAmc (c .mode)) where
   module _ (s m : ℕ) (hs : s < subchannels c) (hm : m < 48) (shape : Shape) (e : shape ≡ shapeOf (c .mode)) where
     pub amc-asks : IsShape shape × (c .cell < 2352) × (s < 65536) × (m < 48)
     amc-asks = (rw e (amc-shape (c .mode) q), in-amc v q .cell-lt, omega (arith, few-subchannels v q), hm)
@@ -46,7 +46,7 @@ module _ {c : Setup} (v : Valid c) (q : IsAmc (c .mode)) where
         rw e (omega (arith, few-symbols v q, place-law .offset-lt s m hs′ hm), omega (arith, size (amc-width v q), place-law .number-lt s m hs′ hm))
 
 -- what the modes ask of a used number that is no pilot
-module _ {c : Setup} (v : Valid c) (y u : ℕ) (hu : u < band c .used) (np : isPilot c y u ≡ false) where
+module _ {c : Setup} (v : Ranged c) (y u : ℕ) (hu : u < band c .used) (np : isPilot c y u ≡ false) where
   pub pusc-dl-asks : c .mode ≡ 0 → (c .cell < 32) × (y % 2 < 2) × (u < 1680) × (isClusterPilot (y % 2) u ≡ false)
   unfolding isPilot
   pusc-dl-asks q =

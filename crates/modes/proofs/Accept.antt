@@ -8,7 +8,7 @@ use Rattle.ofusc.specs.Width.{Width, n4, n8, n16, n32}
 use Rattle.ofusc.proofs.Sequence.{size, pos}
 use Rattle.modes.specs.{Setup.{Setup, setupLent, setupWith}, Mode.{widthOf, cells, cellsOf, subchannels}}
 use Rattle.modes.specs.Question.{isListed, isMode, isFourSizes, isSizeOf, isSize, isCell, isSlot, isSubchannel, askSetup}
-use Rattle.modes.specs.Model.{IsListed, IsAmc, Valid, pusc-dl, pusc-ul, ofusc, amc}
+use Rattle.modes.specs.Model.{IsListed, IsAmc, Unlent, pusc-dl, pusc-ul, ofusc, amc, Ranged, own, Valid}
 use Rattle.modes.proofs.Choice.{at-amc, at-none, by-mode, amc-column}
 
 -- N of a size
@@ -41,23 +41,23 @@ four-sizes z h =
     (λ e″. subst⁻¹ Sized (eqb-true z 1024 e″) (sized n16))
     (λ e″. subst⁻¹ Sized (eqb-true z 2048 (rw (e, e′, e″) at h)) (sized n32))))
 
-valid-at : {m : ℕ} (z k : ℕ) (l : List ℕ) → Listed m → isSize (setupLent m z k l) ≡ true → isCell (setupLent m z k l) ≡ true → Valid (setupLent m z k l)
+ranged-at : {m : ℕ} (z k : ℕ) (l : List ℕ) → Listed m → isSize (setupLent m z k l) ≡ true → isCell (setupLent m z k l) ≡ true → Ranged (setupLent m z k l)
 unfolding isSize isCell cellsOf widthOf
-valid-at z k l m0 s e = subst⁻¹ (λ (t : ℕ). Valid (setupLent 0 t k l)) (eqb-true z 2048 s) (pusc-dl (ltb-true k 32 e))
-valid-at z k l m1 s e = subst⁻¹ (λ (t : ℕ). Valid (setupLent 1 t k l)) (eqb-true z 2048 s) (pusc-ul (ltb-true k 70 e))
-valid-at z k l m2 s e = spread (four-sizes z s) (ltb-true k (z / 64 * (z / 64)) e)
+ranged-at z k l m0 s e = subst⁻¹ (λ (t : ℕ). Ranged (setupLent 0 t k l)) (eqb-true z 2048 s) (own (pusc-dl (ltb-true k 32 e)))
+ranged-at z k l m1 s e = subst⁻¹ (λ (t : ℕ). Ranged (setupLent 1 t k l)) (eqb-true z 2048 s) (own (pusc-ul (ltb-true k 70 e)))
+ranged-at z k l m2 s e = spread (four-sizes z s) (ltb-true k (z / 64 * (z / 64)) e)
   where
-    spread : {z : ℕ} → Sized z → k < z / 64 * (z / 64) → Valid (setupLent 2 z k l)
-    spread (sized {n = n} w) h = ofusc w (rw (width-is n) at h)
-valid-at {m = m} z k l (m-amc q) s e =
+    spread : {z : ℕ} → Sized z → k < z / 64 * (z / 64) → Ranged (setupLent 2 z k l)
+    spread (sized {n = n} w) h = own (ofusc w (rw (width-is n) at h))
+ranged-at {m = m} z k l (m-amc q) s e =
     adjacent (four-sizes z (by-mode (at-amc q) ∙ s)) (ltb-true k 2352 (simp amc-column at e))
   where
-    adjacent : {z : ℕ} → Sized z → k < 2352 → Valid (setupLent m z k l)
-    adjacent (sized w) h = amc q w h
+    adjacent : {z : ℕ} → Sized z → k < 2352 → Ranged (setupLent m z k l)
+    adjacent (sized w) h = own (amc q w h)
 
-pub valid : (c : Setup) → isMode c ≡ true → isSize c ≡ true → isCell c ≡ true → Valid c
+pub ranged-by : (c : Setup) → isMode c ≡ true → isSize c ≡ true → isCell c ≡ true → Ranged c
 unfolding isMode
-valid c e₁ e₂ e₃ = valid-at (c .size) (c .cell) (c .pilots) (listed (c .mode) (ltb-true (c .mode) 7 e₁)) e₂ e₃
+ranged-by c e₁ e₂ e₃ = ranged-at (c .size) (c .cell) (c .pilots) (listed (c .mode) (ltb-true (c .mode) 7 e₁)) e₂ e₃
 
 -- cell 0 is a cell of every listed mode and size
 pub some-cell : (m z : ℕ) → isListed m ≡ true → isSizeOf m z ≡ true → 0 < cells (setupWith m z 0)
@@ -74,12 +74,12 @@ some-cell m z e = at (listed m (ltb-true m 7 e))
     at (m-amc q) s = simp amc-column (lit< tt)
 
 -- what an accepted setup is
-pub setup-asked : {A : Type 0} (c : Setup) (rest : Answer A) {a : A} → askSetup c rest ≡ accepted a → Valid c × (rest ≡ accepted a)
+pub setup-asked : {A : Type 0} (c : Setup) (rest : Answer A) {a : A} → askSetup c rest ≡ accepted a → Ranged c × (rest ≡ accepted a)
 setup-asked c rest e =
     let q₁ = ask-yes (isMode c) 1 _ e in
     let q₂ = ask-yes (isSize c) 2 _ (q₁ .1) in
     let q₃ = ask-yes (isCell c) 3 rest (q₂ .1) in
-    (valid c (q₁ .0) (q₂ .0) (q₃ .0), q₃ .1)
+    (ranged-by c (q₁ .0) (q₂ .0) (q₃ .0), q₃ .1)
 
 -- and a valid setup passes
 pub size-passes : {n : ℕ} → Width n → isFourSizes (64 * n) ≡ true
@@ -89,18 +89,18 @@ size-passes n8 = refl
 size-passes n16 = refl
 size-passes n32 = refl
 
-pub passes : {A : Type 0} {c : Setup} {rest : Answer A} → Valid c → askSetup c rest ≡ rest
+pub passes : {A : Type 0} {c : Setup} {rest : Answer A} → Ranged c → askSetup c rest ≡ rest
 unfolding isMode isSize isCell cellsOf widthOf
-passes (pusc-dl h) = rw (lt-ltb _ _ h)
-passes (pusc-ul h) = rw (lt-ltb _ _ h)
-passes (ofusc {n = n} w h) = rw (size-passes w, width-is n, lt-ltb _ _ h)
-passes (amc q w h) = simp amc-column (rw (lt-ltb _ 7 (q .1), size-passes w, lt-ltb _ _ h))
+passes (own (pusc-dl h)) = rw (lt-ltb _ _ h)
+passes (own (pusc-ul h)) = rw (lt-ltb _ _ h)
+passes (own (ofusc {n = n} w h)) = rw (size-passes w, width-is n, lt-ltb _ _ h)
+passes (own (amc q w h)) = simp amc-column (rw (lt-ltb _ 7 (q .1), size-passes w, lt-ltb _ _ h))
 
 -- what the first three questions come to: a number, or a valid setup
 abbrev pub setupQuestions : (c : Setup) → Questions
 setupQuestions c = (isMode c, 1) ∷ (isSize c, 2) ∷ (isCell c, 3) ∷ []
 
-pub setup-yes : {c : Setup} → Valid c → AllYes (setupQuestions c)
+pub setup-yes : {c : Setup} → Ranged c → AllYes (setupQuestions c)
 setup-yes {c} v = all-yes (setupQuestions c) tt (ap refusalOf (passes {rest = accepted tt} v))
 
 pub four-rest : (size : ℕ) → (size ≡ 256 → ⊥) → (size ≡ 512 → ⊥) → (size ≡ 1024 → ⊥) → eqb size 2048 ≡ isFourSizes size

@@ -3,6 +3,7 @@ use mathlib.Core.Bool.{Bool, true, false}
 use Prim.Native.Nat.{ℕ, _*_}
 use lib.Dec.{eqb, ltb}
 use lib.IntN.{ℤ}
+use lib.ListN.{length}
 use Rattle.base.specs.Choice.{pick}
 use Rattle.base.specs.Answer.{Answer, ask}
 use Rattle.centre.specs.Centre.{inRange}
@@ -48,6 +49,10 @@ isIndex index = ltb index 48
 -- 7 Is the carrier from -size/2 to size/2 - 1? Document 02, wish 3: question 7 is now about that range.
 unfoldable pub isCarrier : (setup : Setup) (carrier : ℤ) → Bool
 isCarrier setup carrier = inRange (setup .size) carrier
+
+-- 20 Is the pilot list that is lent the mode's? Document 02, wish 8: of 0 entries in the modes that take none.
+unfoldable pub isLent : (setup : Setup) → Bool
+isLent setup = eqb (length (setup .pilots)) 0
 
 -- the questions that every call with mode, size and cell puts first
 abbrev pub askSetup : {A : Type 0} (setup : Setup) (rest : Answer A) → Answer A

@@ -18,6 +18,10 @@ setupLent mode size cell pilots = record { mode = mode; size = size; cell = cell
 abbrev pub setupWith : (mode size cell : ℕ) → Setup
 setupWith mode size cell = setupLent mode size cell []
 
--- a setup of the code, which holds no list, with nothing lent
+-- a setup of the code, which holds no list, with a list that is lent beside it
+abbrev pub lent : (setup : code.Setup) (pilots : List ℕ) → Setup
+lent setup pilots = setupLent (setup .mode) (setup .size) (setup .cell) pilots
+
+-- a setup of the code with nothing lent
 abbrev pub alone : (setup : code.Setup) → Setup
 alone setup = setupWith (setup .mode) (setup .size) (setup .cell)

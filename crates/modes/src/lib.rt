@@ -4,10 +4,10 @@ use carriers::Band;
 ghost use mathlib.Core.Path.{_≡_};
 ghost use mathlib.Core.Bool.{false};
 ghost use Prim.Native.Nat.{_*_, _/_, _%_, _<_, _≤_};
-ghost use Rattle.modes.specs.Setup.{alone};
+ghost use Rattle.modes.specs.Setup.{alone, lent};
 ghost use Rattle.modes.specs.Mode.{isAmc, shapeOf, width as WidthOf, cells as Cells, subchannels as Subchannels, symbols as Symbols, band as BandOf};
-ghost use Rattle.modes.specs.Question.{isFourSizes, isSize};
-ghost use Rattle.modes.specs.Model.{isOverBins, setupRefusal, Valid};
+ghost use Rattle.modes.specs.Question.{isFourSizes, isSize, isLent};
+ghost use Rattle.modes.specs.Model.{isOverBins, setupRefusal, Ranged};
 
 // What a zone fixes: mode, FFT size and cell.
 pub struct Setup {
@@ -135,7 +135,7 @@ pub fn symbols(setup: Setup) -> usize
 
 // The slot of a zone's symbol, by a constant for each number of symbols.
 pub fn slot_of(setup: Setup, symbol: usize) -> usize
-    requires { ⌜ Valid (alone setup) ⌝ }
+    requires { ⌜ Ranged (alone setup) ⌝ }
     ensures { λ r. ⌜ r ≡ symbol / Symbols (alone setup) ⌝ }
 {
     let n = symbols(setup);
@@ -153,14 +153,14 @@ pub fn slot_of(setup: Setup, symbol: usize) -> usize
 
 // The offset of a zone's symbol in its slot.
 pub fn offset_of(setup: Setup, symbol: usize) -> usize
-    requires { ⌜ Valid (alone setup) ⌝ }
+    requires { ⌜ Ranged (alone setup) ⌝ }
     ensures { λ r. ⌜ r ≡ symbol % Symbols (alone setup) ⌝ }
 {
     symbol - slot_of(setup, symbol) * symbols(setup)
 }
 
 pub fn band(setup: Setup) -> Band
-    requires { ⌜ Valid (alone setup) ⌝ }
+    requires { ⌜ Ranged (alone setup) ⌝ }
     ensures { λ r. ⌜ r ≡ BandOf (alone setup) ⌝ }
 {
     if setup.mode == 0 {
@@ -226,4 +226,11 @@ pub fn refusal(setup: Setup) -> u8
         return 3;
     }
     0
+}
+
+// Is the pilot list that is lent the mode's?
+pub fn is_lent(setup: Setup, pilots: &[u32]) -> bool
+    ensures { λ r. ⌜ r ≡ isLent (lent setup (now (pilots .entry))) ⌝ }
+{
+    pilots.len() == 0
 }
