@@ -17,12 +17,12 @@ use Rattle.map.specs.{Formula.spotOf, Place.{Place, usedCarrier, placeAt, conte
 use Rattle.modes.specs.Model.{pusc-dl, pusc-ul, ofusc, amc, Ranged, own}
 use Rattle.modes.proofs.{Choice.amc-not-0, ByMode.few, Whole.{band-law, centred}}
 use Rattle.map.proofs.{Slot.slot-law, Law.placing}
-use Rattle.mask.specs.{Mask.{isMask, litAt, isLit, usedLitAt, isUsedLit, litContent, litSubchannels, litRank, ofLitRank, allLit}, Law.MaskLaw}
+use Rattle.mask.specs.{Mask.{isMask, isLitOf, isLit, isUsedLitOf, isUsedLit, litContent, litSubchannels, litRank, ofLitRank, allLit}, Law.MaskLaw}
 
 -- A POINT'S USED NUMBER IS LIT EXACTLY WHEN ITS SUBCHANNEL IS, by its spot.
 pub point-lit : {setup : Setup} → Ranged setup → (mask slot s m : ℕ) → s < subchannels setup → m < 48
     → isUsedLit setup mask (spotOf setup slot s m .used) ≡ isLit setup mask s
-unfolding usedLitAt litAt spotOf subchannelsOf
+unfolding isUsedLitOf isLitOf spotOf subchannelsOf
 point-lit (own (pusc-dl {cell = cell} h)) mask slot s m hs hm = ap (hasGroup mask) (point-group cell s m hs hm)
 point-lit (own (pusc-ul h)) mask slot s m hs hm = refl
 point-lit (own (ofusc w h)) mask slot s m hs hm = refl
@@ -53,16 +53,16 @@ data-lit setup mask slot s m symbol used h e =
 
 cluster-lit : (cell mask place : ℕ) (p : Physical) → place < 14
     → isUsedLit (setupWith 0 2048 cell) mask (p .0 * 14 + place) ≡ hasGroup mask (groupIn clusterStarts (renumber cell p .0))
-unfolding usedLitAt usedGroup logicalOf renumber
+unfolding isUsedLitOf usedGroup logicalOf renumber
 cluster-lit cell mask place p h = rw (digits-div (p .0) h)
 
 -- the mask that lights all
 all-lit : (setup : Setup) (s : ℕ) → isLit setup (allLit (setup .mode)) s ≡ true
-unfolding litAt allLit
+unfolding isLitOf allLit
 all-lit setup s = cases (eqb (setup .mode) 0) (λ e. rw e (all-groups subchannelStarts s)) (λ e. rw e)
 
 all-used-lit : (setup : Setup) (used : ℕ) → isUsedLit setup (allLit (setup .mode)) used ≡ true
-unfolding usedLitAt allLit usedGroup
+unfolding isUsedLitOf allLit usedGroup
 all-used-lit setup used = cases (eqb (setup .mode) 0) (λ e. rw e (all-groups clusterStarts (logicalOf (setup .cell) used .0))) (λ e. rw e)
 
 all-content : (setup : Setup) (symbol column : ℕ) → litContent setup (allLit (setup .mode)) symbol column ≡ contentOf setup symbol column
@@ -123,11 +123,11 @@ mask-small mode mask e =
 
 -- how many subchannels are lit: all, but in mode 0
 pub others-count : (setup : Setup) (mask : ℕ) → (setup .mode ≡ 0 → ⊥) → litSubchannels setup mask ≡ subchannels setup
-unfolding litAt
+unfolding isLitOf
 others-count setup mask ne = rank-all (isLit setup mask) (subchannels setup) (λ s h. rw (ne-eqb (setup .mode) 0 ne))
 
 pub groups-count : (setup : Setup) (mask : ℕ) → setup .mode ≡ 0 → (n : ℕ) → n ≡ rank (λ s. hasGroup mask (groupIn subchannelStarts s)) 60 → n ≡ litSubchannels setup mask
-unfolding litAt subchannelsOf
+unfolding isLitOf subchannelsOf
 groups-count setup mask e n q =
     rw (eq-eqb (setup .mode) 0 e) (q ∙ rank-as _ (isLit setup mask) 60 (λ s. rw (eq-eqb (setup .mode) 0 e)))
 
