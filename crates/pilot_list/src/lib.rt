@@ -1,0 +1,1 @@
+// A symbol's pilots as a lent list of used numbers.
