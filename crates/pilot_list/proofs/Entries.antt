@@ -1,9 +1,11 @@
 -- The entries of a list by their positions: what each test of a list says of them.
-use Rattle.base.proofs.Prelude.{_≡_, refl, sym, true, false, List, [], _∷_, ℕ, zero, suc, _+_, _<_, _≤_, arith, eqb, ltb, length, lt-ltb, eq-eqb, ne-eqb}
-use Rattle.base.proofs.Prelude.{eqb-true, eqb-false, ltb-true}
-use Rattle.base.proofs.Test.{cases, both-true, true-false}
+use Rattle.base.proofs.Prelude.{_≡_, refl, sym, _∙_, Bool, true, false, List, [], _∷_, ℕ, zero, suc, _+_, _-_, _<_, _≤_, arith, eqb, ltb, leb, length}
+use Rattle.base.proofs.Prelude.{lt-ltb, eq-eqb, ne-eqb, eqb-true, ltb-true, not-false, not-true}
+use Rattle.base.proofs.{Test.{cases, both-true, true-false}, First.{none-is, none-not, none-of}}
+use mathlib.Core.Bool.{not}
+use borrow.Author.Tests.{lt-leb, leb-false}
 use native.Mathlib.Nat.{not-suc-le-zero, suc-add}
-use Rattle.base.specs.Steps.{entry}
+use Rattle.base.specs.{Steps.entry, First.isNone}
 use Rattle.pilot_list.specs.List.{isIn, isRising, areBelow, isPilotList}
 
 -- A number is in the list where it is one of the entries.
@@ -84,3 +86,45 @@ accepted list e =
     let t = both-true (isRising list) _ (h .1) in
     let long = eqb-true (length list) 166 (h .0) in
     record { long = long; climbs = climbs-of list (t .0); below = λ i l. below-of 1702 list (t .1) i (omega arith) }
+
+-- ---- What the code finds by asking all entries.
+
+pub in-found : (list : List ℕ) (used : ℕ) {found : Bool} → not found ≡ isNone (λ i. eqb (entry list i) used) (length list) → found ≡ isIn list used
+in-found list used {found} e =
+    cases (isIn list used)
+    (λ t. let there = place-of list used t in
+    rw t (not-false found (e ∙ none-not (λ i. eqb (entry list i) used) (length list) (there .at) (there .within) (eq-eqb _ _ (there .is)))))
+    (λ f. rw f (not-true found (e ∙ none-is (λ i. eqb (entry list i) used) (length list) (λ i h. ne-eqb _ _ (in-not list used f i h)))))
+
+module _ (list : List ℕ) (long : length list ≡ 166) where
+  abbrev pub isFall : ℕ → Bool
+  isFall i = leb (entry list (i + 1)) (entry list i)
+
+  pub rising-found : isNone isFall 165 ≡ isRising list
+  rising-found =
+      cases (isRising list)
+      (λ t. rw t (none-is isFall 165 (λ i h. lt-leb _ _ (climbs-of list t i (omega arith)))))
+      (λ f. rw f (cases (isNone isFall 165)
+      (λ t. absurd (true-false (sym (rising-of list (λ i h. leb-false _ _ (none-of isFall 165 t i (omega arith)))) ∙ f)))
+      (λ e. e)))
+
+  -- where it rises, all entries are below the limit where the last is
+  pub last-decides : isRising list ≡ true → ltb (entry list 165) 1702 ≡ isPilotList list
+  unfolding isPilotList
+  last-decides t =
+      let last = areBelow 1702 list in
+      rw (eq-eqb (length list) 166 long, t)
+      (cases (ltb (entry list 165) 1702)
+      (λ e. let l = ltb-true (entry list 165) 1702 e in
+      rw e (sym (are-below 1702 list (λ i h. let s : i + (165 - i) ≡ 165 = omega arith in omega (arith, rw s at (steep list (climbs-of list t) i (165 - i) (omega arith)))))))
+      (λ e. rw e (cases last
+      (λ a. absurd (true-false (sym (lt-ltb _ _ (below-of 1702 list a 165 (omega arith))) ∙ e)))
+      (λ a. sym a))))
+
+  pub falls-no : isRising list ≡ false → false ≡ isPilotList list
+  unfolding isPilotList
+  falls-no f = rw (eq-eqb (length list) 166 long, f)
+
+pub other-length : (list : List ℕ) → (length list ≡ 166 → ⊥) → false ≡ isPilotList list
+unfolding isPilotList
+other-length list h = rw (ne-eqb (length list) 166 h)

@@ -1,7 +1,9 @@
 -- Where a number stands among the entries of an accepted list: what a pointer that goes up the list, and a sum over the list, find.
-use Rattle.base.proofs.Prelude.{_≡_, ap, _∙_, true, false, List, ℕ, zero, suc, _+_, _-_, _<_, _≤_, arith, ltb, length}
+use Rattle.base.proofs.Prelude.{_≡_, ap, _∙_, true, false, List, ℕ, zero, suc, _+_, _-_, _<_, _≤_, arith, ltb, leb, length}
 use Rattle.base.proofs.Prelude.{ltb-true, ltb-false}
 use Rattle.base.proofs.{Test.cases, Rank.{rank-yes, rank-no, rank-law}}
+use mir.Val.{boolByte}
+use borrow.Author.{Tests.{leb-true, leb-false}, Count.{below-none, below-more}}
 use Rattle.base.specs.{Steps.entry, Rank.rank}
 use Rattle.pilot_list.specs.List.{isIn, isLeft, isPilotList, usedOfData, dataOfUsed}
 use Rattle.pilot_list.proofs.Entries.{not-in, in-not, Place, place-of, Climbs, steep, Accepted, accepted}
@@ -97,7 +99,51 @@ module _ (list : List ℕ) (ok : isPilotList list ≡ true) where
       rw same at (rank-law (isLeft list) 1702 .back (d + j) (omega (arith, s .within)) (left-is list (d + j) (stands-left list (a .climbs) d j s′)))
 
   -- A used number's data number, by how many entries are below it.
-  pub after-at : (used j : ℕ) → After list 166 used j → dataOfUsed list used ≡ used - j
+  pub after-at : (used j : ℕ) → After list 166 used j → dataOfUsed list used + j ≡ used
   unfolding dataOfUsed
-  after-at used j s = let a = accepted list ok in omega (arith, after-rank list (a .climbs) used j (rw (← a .long) at s))
+  after-at used j s = let a = accepted list ok in after-rank list (a .climbs) used j (rw (← a .long) at s)
 
+-- One entry more of a sum over the list: the small entries come first, so their count stands at the first that is not small.
+module _ (list : List ℕ) where
+  pub stands-none : (d : ℕ) → Stands list 0 d 0
+  stands-none d = record { within = omega arith; before = below-none _; then = λ h. absurd (omega arith) }
+
+  pub after-none : (used : ℕ) → After list 0 used 0
+  after-none used = record { within = omega arith; before = below-none _; then = λ h. absurd (omega arith) }
+
+  module _ (up : Climbs list) (i j : ℕ) (h : i < length list) where
+    pub stands-next : (d : ℕ) → Stands list i d j → Stands list (i + 1) d (j + boolByte (leb (entry list i) (d + i)))
+    stands-next d s =
+        cases (leb (entry list i) (d + i))
+        (λ t. let le = leb-true (entry list i) (d + i) t in
+        let all : j ≡ i = cases (ltb j i) (λ q. absurd (let l = ltb-true j i q in omega (arith, s .then l, later list up j i (omega arith) h))) (λ q. omega (arith, ltb-false j i q, s .within)) in
+        rw t (record {
+          within = omega arith;
+          before = below-more (λ k. entry list k ≤ d + k) j (s .before) (rw all le);
+          then = λ l. absurd (omega arith);
+        }))
+        (λ t. let lt = leb-false (entry list i) (d + i) t in
+        let same : j + 0 ≡ j = omega arith in
+        rw (t, same) (record {
+          within = omega (arith, s .within);
+          before = s .before;
+          then = λ l. cases (ltb j i) (λ q. s .then (ltb-true j i q)) (λ q. let all : j ≡ i = omega (arith, ltb-false j i q) in rw all lt);
+        }))
+
+    pub after-next : (used : ℕ) → After list i used j → After list (i + 1) used (j + boolByte (ltb (entry list i) used))
+    after-next used s =
+        cases (ltb (entry list i) used)
+        (λ t. let lt = ltb-true (entry list i) used t in
+        let all : j ≡ i = cases (ltb j i) (λ q. absurd (let l = ltb-true j i q in omega (arith, s .then l, later list up j i (omega arith) h))) (λ q. omega (arith, ltb-false j i q, s .within)) in
+        rw t (record {
+          within = omega arith;
+          before = below-more (λ k. entry list k < used) j (s .before) (rw all lt);
+          then = λ l. absurd (omega arith);
+        }))
+        (λ t. let le = ltb-false (entry list i) used t in
+        let same : j + 0 ≡ j = omega arith in
+        rw (t, same) (record {
+          within = omega (arith, s .within);
+          before = s .before;
+          then = λ l. cases (ltb j i) (λ q. s .then (ltb-true j i q)) (λ q. let all : j ≡ i = omega (arith, ltb-false j i q) in rw all le);
+        }))
