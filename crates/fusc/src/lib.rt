@@ -3,8 +3,12 @@ use base::unrotate;
 use base::wide;
 use carriers::Address;
 use carriers::Spot;
+use pilot_list::data_of_used;
+use pilot_list::used_of_data;
 ghost use mathlib.Core.Path.{_≡_};
+ghost use mathlib.Core.Bool.{true, false};
 ghost use Prim.Native.Nat.{_<_};
+ghost use Rattle.pilot_list.specs.List.{isIn, isPilotList};
 ghost use Rattle.fusc.specs.Map.{dataNumber, dataSubchannel, dataIndex, spotOf, addressOf};
 
 // The sequence of document 000 and its inverse.
@@ -91,7 +95,7 @@ pub fn data_number(cell: usize, subchannel: usize, index: usize) -> usize
 // The reverse: the point of a data number.
 fn data_address(cell: usize, d: usize) -> Address
     requires { ⌜ d < 1536 ⌝ }
-    ensures { λ r. ⌜ (r .subchannel ≡ dataSubchannel cell d) × (r .index ≡ dataIndex cell d) ⌝ }
+    ensures { λ r. ⌜ r ≡ record { subchannel = dataSubchannel cell d; index = dataIndex cell d } ⌝ }
 {
     let place = unrotate(32, cell, d % 32);
     let s = unrotate(32, d / 32, wide(SEQUENCE_INVERSE[place]));
@@ -99,4 +103,25 @@ fn data_address(cell: usize, d: usize) -> Address
         subchannel: s,
         index: unrotate(48, 13 * s, d / 32),
     }
+}
+
+// Where point `index` of a subchannel lies.
+pub fn spot(cell: usize, subchannel: usize, index: usize, pilots: &[u32]) -> Spot
+    requires { ⌜ (cell < 32) × (subchannel < 32) × (index < 48) × (isPilotList (now pilots) ≡ true) ⌝ }
+    ensures { λ r. ⌜ r ≡ spotOf (now (pilots .entry)) cell subchannel index ⌝ }
+{
+    let d = data_number(cell, subchannel, index);
+    Spot {
+        offset: 0,
+        used: used_of_data(pilots, d),
+    }
+}
+
+// The reverse: the point that lies on a used number that is no pilot.
+pub fn address(cell: usize, used: usize, pilots: &[u32]) -> Address
+    requires { ⌜ (cell < 32) × (used < 1702) × (isIn (now pilots) used ≡ false) × (isPilotList (now pilots) ≡ true) ⌝ }
+    ensures { λ r. ⌜ r ≡ addressOf (now (pilots .entry)) cell used ⌝ }
+{
+    let d = data_of_used(pilots, used);
+    data_address(cell, d)
 }

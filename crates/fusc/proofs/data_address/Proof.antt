@@ -11,7 +11,7 @@ returns c =
     let s = c .before .unrotate2 .ensures .0 in
     let i = c .before .before .wide .ensures .0 in
     let p = c .before .before .before .unrotate .ensures .0 in
-    (rw (s, i, p), rw (k, s, i, p))
+    rw (k, s, i, p)
 
 pub data-address-spec : {M : Type 1} → statement M
 data-address-spec =
