@@ -6,6 +6,11 @@ use Rattle.pilot_list.proofs.Law.{left-law}
 use Rattle.fusc.specs.Map.{dataNumber, dataSubchannel, dataIndex, spotOf, addressOf}
 use Rattle.fusc.proofs.Tables.{sequence-perm}
 
+-- Known point: cell 0, subchannel 31, index 46.
+pub known-number : dataNumber 0 31 46 ≡ 573
+unfolding dataNumber
+known-number = refl
+
 -- the points of a symbol and its data numbers
 pub data-inner : (cell : ℕ) → Inner 48 32 (dataNumber cell) (dataSubchannel cell) (dataIndex cell)
 unfolding dataNumber dataSubchannel dataIndex
@@ -42,8 +47,3 @@ module _ (pilots : List ℕ) (ok : isPilotList pilots ≡ true) (cell : ℕ) whe
 
   pub law : SlotLaw 1 32 1702 (λ o u. isIn pilots u) (λ s m. spotOf pilots cell s m) (λ o u. addressOf pilots cell u)
   law = record { lies = lies; back = found; names = names; forth = placed }
-
--- Known point: cell 0, subchannel 31, index 46.
-pub known-number : dataNumber 0 31 46 ≡ 573
-unfolding dataNumber
-known-number = refl

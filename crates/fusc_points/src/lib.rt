@@ -1,5 +1,5 @@
 // The points of a symbol of FUSC: the reverse, for all data numbers at once.
-use base::unrotate;
+use base::wide;
 use fusc::SEQUENCE_INVERSE;
 ghost use mathlib.Core.Path.{_≡_};
 ghost use Prim.Native.Nat.{_+_, _*_, _<_};
@@ -14,11 +14,12 @@ fn turned_inverse(cell: usize) -> [u16; 32]
     ensures { λ r. ⌜ Starts 32 (turnedInverse cell) r ⌝ }
 {
     let inverse = SEQUENCE_INVERSE;
+    let back = 32 - cell % 32;
     let mut row = [0; 32];
     let mut x = 0;
     while x < 32 {
-        let i = unrotate(32, cell, x);
-        row[x] = inverse[i] as u16;
+        let i = (x + back) % 32;
+        row[x] = wide(inverse[i]) as u16;
         x += 1;
     }
     row
