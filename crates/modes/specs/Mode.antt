@@ -29,6 +29,8 @@ byMode mode dl ul spread adjacent other =
     (pick (isAmc mode) adjacent
     other)))
 
+-- The columns go by mode and size alone; a setup has those of its own, whatever its cell and whatever is lent.
+
 -- N of the modes over bins: the size is 64N
 unfoldable pub widthOf : (size : ℕ) → ℕ
 widthOf size = size / 64
