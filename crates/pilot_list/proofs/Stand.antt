@@ -1,12 +1,12 @@
 -- Where a number stands among the entries of an accepted list: what a pointer that goes up the list, and a sum over the list, find.
-use Rattle.base.proofs.Prelude.{_≡_, ap, _∙_, true, false, List, ℕ, zero, suc, _+_, _-_, _<_, _≤_, arith, ltb, leb, length}
+use Rattle.base.proofs.Prelude.{_≡_, Bool, true, false, List, ℕ, zero, suc, _+_, _-_, _<_, _≤_, arith, ltb, leb, length}
 use Rattle.base.proofs.Prelude.{ltb-true, ltb-false}
 use Rattle.base.proofs.{Test.cases, Rank.{rank-yes, rank-no, rank-law}}
-use mir.Val.{boolByte}
+use mir.{Val.{boolByte, Fits}, Syntax.w32}
 use borrow.Author.{Tests.{leb-true, leb-false}, Count.{below-none, below-more}}
 use Rattle.base.specs.{Steps.entry, Rank.rank}
 use Rattle.pilot_list.specs.List.{isIn, isLeft, isPilotList, usedOfData, dataOfUsed}
-use Rattle.pilot_list.proofs.Entries.{not-in, in-not, Place, place-of, Climbs, steep, Accepted, accepted}
+use Rattle.pilot_list.proofs.Entries.{not-in, in-not, place-of, Climbs, steep, accepted}
 
 -- what is left is what is not in the list
 pub left-is : (list : List ℕ) (used : ℕ) → isIn list used ≡ false → isLeft list used ≡ true
@@ -102,6 +102,11 @@ module _ (list : List ℕ) (ok : isPilotList list ≡ true) where
   pub after-at : (used j : ℕ) → After list 166 used j → dataOfUsed list used + j ≡ used
   unfolding dataOfUsed
   after-at used j s = let a = accepted list ok in after-rank list (a .climbs) used j (rw (← a .long) at s)
+
+-- the sum of such a loop is small
+pub sum-fits : (x : ℕ) (b : Bool) → x ≤ 166 → Fits w32 (x + boolByte b)
+sum-fits x true h = omega arith
+sum-fits x false h = omega arith
 
 -- One entry more of a sum over the list: the small entries come first, so their count stands at the first that is not small.
 module _ (list : List ℕ) where

@@ -6,7 +6,8 @@ ghost use Prim.Native.Nat.{_<_};
 ghost use lib.ListN.{length};
 ghost use Rattle.pilot_list.specs.List.{isIn, isRising, isPilotList, usedOfData, dataOfUsed};
 
-fn wide(n: u32) -> usize
+// A number of 32 bits, as one to count with.
+pub fn wide(n: u32) -> usize
     ensures { λ r. ⌜ r ≡ n ⌝ }
 {
     n as usize

@@ -1,5 +1,5 @@
 -- `pilot_list::is_pilot` meets its contract.
-use Rattle.base.proofs.{Prelude.{ap, _∙_, ℕ, _-_, refl, arith, eqb, length, needs}, First.{Asking, asking, asking-next, asked}}
+use Rattle.base.proofs.{Prelude.{ap, ℕ, _-_, eqb, length, needs}, First.{Asking, asking, asking-next, asked}}
 use Rattle.base.specs.Steps.{entry}
 use Rattle.pilot_list.proofs.{Entries.in-found, is_pilot.Statement.statement}
 use Rattle.pilot_list.proofs.is_pilot.Tie as tie

@@ -1,5 +1,5 @@
 -- `pilot_list::is_pilot_list` meets its contract.
-use Rattle.base.proofs.{Prelude.{needs, sym, _∙_}, Test.{told-no, told-yes}}
+use Rattle.base.proofs.{Prelude.needs, Test.{told-no, told-yes}}
 use Rattle.pilot_list.proofs.{Entries.{other-length, falls-no, last-decides}, is_pilot_list.Statement.statement}
 use Rattle.pilot_list.proofs.is_pilot_list.Tie as tie
 

@@ -1,5 +1,5 @@
 -- `pilot_list::is_rising` meets its contract.
-use Rattle.base.proofs.{Prelude.{_≡_, refl, _∙_, _+_, _-_, arith, leb, needs}, First.{Asking, asking, asking-next, asked}}
+use Rattle.base.proofs.{Prelude.{refl, _∙_, _+_, _-_, leb, needs}, First.{Asking, asking, asking-next, asked}}
 use Rattle.base.specs.Steps.{entry}
 use Rattle.pilot_list.proofs.{Entries.rising-found, is_rising.Statement.statement}
 use Rattle.pilot_list.proofs.is_rising.Tie as tie
