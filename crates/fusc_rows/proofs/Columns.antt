@@ -1,5 +1,5 @@
 -- How far data numbers are moved on by the pilots: a table of it, which each pilot changes at one place.
-use Rattle.base.proofs.Prelude.{_≡_, refl, _∙_, subst, true, false, List, ℕ, zero, suc, _+_, _-_, _*_, _%_, _<_, _≤_, arith, eqb, ltb, leb, length, set, replicate}
+use Rattle.base.proofs.Prelude.{_≡_, refl, _∙_, subst, true, List, ℕ, zero, suc, _+_, _-_, _<_, _≤_, arith, eqb, ltb, leb, length, set, replicate}
 use Rattle.base.proofs.Prelude.{lt-ltb, le-ltb, ltb-true, ltb-false, eqb-true, eqb-false, length-set, length-replicate}
 use Rattle.base.proofs.{Test.cases, Rank.{rank-yes, rank-no, rank-most}, LeaveOut.{step-is, skip-le}}
 use native.Mathlib.Numerals.{add-one}
@@ -10,7 +10,7 @@ use lib.ListN.{getD-replicate}
 use Rattle.base.specs.{Steps.entry, Rank.rank}
 use Rattle.carriers.specs.Band.{fuscBand, carrierOf}
 use Rattle.pilot_list.specs.List.{isPilotList, usedOfData}
-use Rattle.pilot_list.proofs.{Entries.{Climbs, steep, Accepted, accepted}, Stand.{Stands, stands-none, stands-next, stands-at}}
+use Rattle.pilot_list.proofs.{Entries.{steep, Accepted, accepted}, Stand.{Stands, stands-none, stands-next, stands-at}}
 use Rattle.fusc_rows.specs.Model.{isBefore, Moves, Passed}
 
 -- columns are small

@@ -9,7 +9,7 @@ use Rattle.base.specs.Rank.{rank}
 use Rattle.base.specs.Steps.{entry}
 use Rattle.fusc.specs.Table.{sequence}
 
--- Is the pilot that has i before it passed by the data numbers from d on, and some before d?
+-- Has the data number before d passed the pilot that has i pilots before it?
 abbrev pub isBefore : (pilots : List ℕ) (d i : ℕ) → Bool
 isBefore pilots d i = ltb (entry pilots i) (d + i)
 
