@@ -1,11 +1,12 @@
 -- What a yes to all of a zone's questions says: its setup is in range, its values are small.
-use Rattle.base.proofs.Prelude.{_≡_, true, false, [], _∷_, ℕ, _<_, _≤_, mul-le-mul, arith, eqb, ltb, eqb-true, lt-ltb}
-use Rattle.base.proofs.{Chain.{AllYes, all-yes, yes-parts}, Test.{cases, both-true, up-to}}
+use Rattle.base.proofs.Prelude.{_≡_, sym, true, false, [], _∷_, ℕ, _<_, _≤_, mul-le-mul, arith, eqb, ltb, eqb-true, lt-ltb}
+use Rattle.base.proofs.{Chain.{AllYes, all-yes, yes-parts}, Test.{cases, both-true, true-false, up-to}}
 use Rattle.base.specs.Choice.{pick}
-use Rattle.modes.specs.{Setup.Setup, Question.isMode, Model.{pusc-dl, pusc-ul, ofusc, amc, Ranged, own, fusc}}
+use Rattle.modes.specs.{Setup.Setup, Question.{isMode, isSize}, Model.{pusc-dl, pusc-ul, ofusc, amc, Ranged, own, fusc}}
 use Rattle.modes.proofs.{Accept.ranged-by, ByMode.few}
 use Rattle.mask.proofs.Law.{mask-small}
-use Rattle.zone.specs.{declared.Zone.Zone, declared.Before.Before, Zone.{isZoneMode, setupOf, isOrder, fieldsRefusal, unused, isUnused}}
+use Rattle.zone.specs.{declared.Zone.Zone, declared.Before.Before, declared.Before.the-variants.First}
+use Rattle.zone.specs.Zone.{isZoneMode, setupOf, isOpening, isOrder, fieldsRefusal, unused, isUnused}
 use Rattle.zone.specs.Model.{Small}
 use Rattle.zone.proofs.Number.{fieldQuestions, zoneQuestions}
 
@@ -33,6 +34,14 @@ module _ (size : ℕ) (z : Zone) where
 
   pub small : (before : Before) → AllYes (zoneQuestions size before z) → Small z
   small before y = own-small (yes-parts (fieldQuestions size z) ((isOrder before size z, 14) ∷ []) y .0)
+
+  -- Document 02, wish 8: mode 7 never opens a plan. By question 2 its size is 2048, and there question 14 has mode 0 first.
+  pub fusc-not-first : AllYes (zoneQuestions size First z) → z .mode ≡ 7 → ⊥
+  unfolding isSize isOpening
+  fusc-not-first y e =
+      let p = yes-parts (fieldQuestions size z) ((isOrder First size z, 14) ∷ []) y in
+      let full : eqb size 2048 ≡ true = rw e at (p .0 .1 .0) in
+      true-false (sym (rw (full, e) at (p .1 .0)))
 
   module _ (e : fieldsRefusal size z ≡ 0) where
     fields-yes : AllYes (fieldQuestions size z)
