@@ -25,7 +25,7 @@ module _ (setup : Setup) (v : Valid setup) (its : Unlent setup) (row i : ℕ) (h
   start-used = omega (arith, run-used setup v 0 0 its row i hr hi 0 (run-law its 0 .step-pos))
 
   pub start-small : runStart setup row i < 65536
-  start-small = omega (arith, grid-few (v .ranged), used-position-lt setup v row (i * runStep setup) start-used hr)
+  start-small = omega (arith, grid-few (v .ranged), used-position-lt setup (v .ranged) row (i * runStep setup) start-used hr)
 
 -- where a run's numbers start is small
 pub from-small : {setup : Setup} → Unlent setup → (i : ℕ) → i < runCount setup → (run : ℕ) → run ≡ runStride setup → Fits w64 (i * run)

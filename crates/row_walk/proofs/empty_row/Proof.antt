@@ -92,7 +92,7 @@ empty-row-spec =
     Inv-loop μ-loop (λ c. omega (arith, row-few (own (c .before .before .before .pre .0)) (c .before .before .before .args .row) (c .before .before .before .pre .1 .0 .1))) returns (λ c κs. search needs)
     (λ c. omega (arith, slot-few (own (c .before .before .before .before .before .pre .0)) _ _ (c .before .before .before .before .before .pre .1 .0 .0) (c .symbols .ensures)))
     (λ c. omega (arith, slot-few (own (c .before .before .before .before .before .pre .0)) _ _ (c .before .before .before .before .before .pre .1 .0 .0) (c .symbols .ensures), few (own (c .before .before .before .before .before .pre .0)) .symbols-few, c .before .before .before .before .before .pre .1 .0 .1))
-    (λ c κs. search needs) (λ c κs. search needs) (λ c κs. search needs) (λ c κs. search needs) row-numbers-requires (λ c κs. search needs)
+    (λ c κs. search needs) (λ c κs. search needs) (λ c κs. search needs) (λ c κs. search needs) row-numbers-requires (λ c κs. search (own, needs))
     (λ c. (omega arith, row-start _ (valid-alone (c .before .before .before .before .before .before .before .before .before .before .before .pre .0)) _ _ _ _ _ _)) (λ c. omega (arith, used-lt (c .before))) carrier-requires (λ c. omega (arith, small c))
     (λ c. c .before .before .before .before .before .loop .inv .1 .long) returns-2 drop-run-requires (λ c. omega (arith, run-lt (c .before .before .before .before .before .before .before .before .before)))
     (λ c. omega (arith, c .before .before .before .before .before .before .before .before .before .if2 .taken)) loop-again
