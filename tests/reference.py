@@ -434,11 +434,12 @@ def slot_symbols(mode, slot):
 
 def slot_pilots(mode, size, slot, pilots):
     """(symbol, carrier) of every pilot of a slot."""
+    lent = frozenset(pilots)
     return [
         (symbol, carrier_of_used(mode, size, used))
         for symbol in slot_symbols(mode, slot)
         for used in range(used_numbers(mode, size))
-        if is_pilot(mode, symbol, used, pilots)
+        if is_pilot(mode, symbol, used, lent)
     ]
 
 
