@@ -6,7 +6,7 @@ use Rattle.clusters.proofs.Tables.{pilot-parity}
 use Rattle.pusc_ul.specs.Tile.{isTilePilot}
 use Rattle.modes.specs.{Setup.Setup, Mode.{shapeOf, widthOf, subchannels, subchannelsOf, symbols, symbolsOf, band, bandOf}, Question.isLent}
 use Rattle.map.specs.Formula.{isPilot, spotOf, addressOf}
-use Rattle.modes.specs.Model.{pusc-dl, pusc-ul, ofusc, amc, Ranged, own, Valid}
+use Rattle.modes.specs.Model.{pusc-dl, pusc-ul, ofusc, amc, Ranged, own, fusc, Valid}
 use Rattle.modes.proofs.{Choice.{amc-shape, amc-column}, Accept.width-is}
 use Rattle.pusc_dl.specs.Map as dl
 use Rattle.pusc_dl.proofs.Law as dl-law
@@ -16,6 +16,7 @@ use Rattle.ofusc.specs.Map as spread
 use Rattle.ofusc.proofs.Law as spread-law
 use Rattle.amc.specs.Map as adjacent
 use Rattle.amc.proofs.Law as adjacent-law
+use Rattle.fusc.proofs.Law as fusc-law
 
 -- the law of slot `slot` under a setup
 abbrev pub LawOf : Setup → ℕ → Type 0
@@ -31,7 +32,7 @@ offset-3 : (slot o : ℕ) → o < 3 → (slot * 3 + o) % 3 ≡ o
 offset-3 slot o h = omega arith
 
 lent-law : {c : Setup} → Ranged c → isLent c ≡ true → (slot : ℕ) → LawOf c slot
-unfolding symbolsOf subchannelsOf bandOf isPilot spotOf addressOf widthOf
+unfolding isLent symbolsOf subchannelsOf bandOf isPilot spotOf addressOf widthOf
 lent-law (own (pusc-dl {cell = cell} h)) e slot =
     relabel
     (λ o u l. pilot-parity slot o u)
@@ -53,6 +54,7 @@ lent-law (own (amc {mode = mode} {n = n} {cell = cell} q w h)) e slot =
     (λ o u l. refl)
     (λ o u l. ap (λ (y : ℕ). adjacent.addressOf shape cell y (dataOfUsed (first + o) u)) (digits-mod slot l))
     (bin-law first n (adjacent-law.law shape (amc-shape mode q) cell h n)))
+lent-law (fusc {cell = cell} {pilots = pilots} h) e slot = fusc-law.law pilots e cell
 
 pub slot-law : {c : Setup} → Valid c → (slot : ℕ) → LawOf c slot
 slot-law v = lent-law (v .ranged) (v .is-lent)

@@ -69,6 +69,9 @@ fn spot(setup: Setup, slot: usize, subchannel: usize, index: usize, pilots: &[u3
     if setup.mode == 1 {
         return pusc_ul::spot(setup.cell, subchannel, index);
     }
+    if setup.mode == 7 {
+        return fusc::spot(setup.cell, subchannel, index, pilots);
+    }
     let first = slot * modes::symbols(setup);
     if setup.mode == 2 {
         return bin_spot(first, ofusc_number(setup, subchannel, index));
@@ -93,6 +96,9 @@ fn is_pilot(setup: Setup, symbol: usize, used: usize, pilots: &[u32]) -> bool
     if modes::is_over_bins(setup.mode) {
         return carriers::is_bin_pilot(symbol, used);
     }
+    if setup.mode == 7 {
+        return pilot_list::is_pilot(pilots, used);
+    }
     false
 }
 
@@ -108,6 +114,9 @@ fn address(setup: Setup, symbol: usize, used: usize, pilots: &[u32]) -> Address
     }
     if setup.mode == 1 {
         return pusc_ul::address(setup.cell, symbol % 3, used);
+    }
+    if setup.mode == 7 {
+        return fusc::address(setup.cell, used, pilots);
     }
     let d = carriers::data_of_used(symbol, used);
     if setup.mode == 2 {

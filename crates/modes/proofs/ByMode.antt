@@ -4,7 +4,7 @@ use Rattle.ofusc.specs.Width.{Width}
 use Rattle.ofusc.proofs.Sequence.{size}
 use Rattle.amc.proofs.Parts.{symbols-pos, symbols-few, symbols-are}
 use Rattle.modes.specs.{Setup.{Setup, setupLent, setupWith}, Mode.{shapeOf, width, widthOf, cells, cellsOf, subchannels, subchannelsOf, symbols, symbolsOf, band, bandOf}}
-use Rattle.modes.specs.Model.{IsListed, OverBins, IsAmc, pusc-dl, pusc-ul, ofusc, amc, Ranged, own, Valid}
+use Rattle.modes.specs.Model.{IsListed, OverBins, IsAmc, pusc-dl, pusc-ul, ofusc, amc, Ranged, own, fusc, Valid}
 use Rattle.modes.proofs.{Choice.{amc-shape, at-amc, by-mode, amc-column}, Accept.width-is}
 
 pub listed-mode : {c : Setup} → Ranged c → IsListed (c .mode)
@@ -12,6 +12,7 @@ listed-mode (own (pusc-dl h)) = omega arith
 listed-mode (own (pusc-ul h)) = omega arith
 listed-mode (own (ofusc w h)) = omega arith
 listed-mode (own (amc q w h)) = omega arith
+listed-mode (fusc h) = omega arith
 
 -- what questions 1, 2 and 3 let pass does not go by what is lent
 pub ranged-with : {mode size cell : ℕ} {pilots other : List ℕ} → Ranged (setupLent mode size cell pilots) → Ranged (setupLent mode size cell other)
@@ -19,6 +20,7 @@ ranged-with (own (pusc-dl h)) = own (pusc-dl h)
 ranged-with (own (pusc-ul h)) = own (pusc-ul h)
 ranged-with (own (ofusc w h)) = own (ofusc w h)
 ranged-with (own (amc q w h)) = own (amc q w h)
+ranged-with (fusc h) = fusc h
 
 -- so a function that takes no list may be called with a valid setup
 pub ranged-alone : {mode size cell : ℕ} {pilots : List ℕ} → Valid (setupLent mode size cell pilots) → Ranged (setupWith mode size cell)
@@ -44,6 +46,7 @@ unfolding symbolsOf
 six-symbols (own (pusc-dl h)) n₁ n₂ n₃ = absurd (n₂ refl)
 six-symbols (own (pusc-ul h)) n₁ n₂ n₃ = absurd (n₃ refl)
 six-symbols (own (ofusc w h)) n₁ n₂ n₃ = absurd (n₁ refl)
+six-symbols (fusc h) n₁ n₂ n₃ = absurd (n₁ refl)
 six-symbols {c} (own (amc {mode = m} q w h)) n₁ n₂ n₃ =
     let e = shape-symbols c q in
     sym e ∙ symbols-are (shapeOf m) (amc-shape m q) (λ z. n₁ (sym e ∙ z)) (λ z. n₂ (sym e ∙ z)) (λ z. n₃ (sym e ∙ z))
@@ -64,6 +67,7 @@ cell-in (own (pusc-dl h)) = h
 cell-in (own (pusc-ul h)) = h
 cell-in (own (ofusc {n = n} w h)) = rw (width-is n) h
 cell-in (own (amc q w h)) = simp amc-column h
+cell-in (fusc h) = h
 
 module _ {c : Setup} (v : Ranged c) where
   pub in-pusc-dl : c .mode ≡ 0 → Ranges c 32 60 1680
@@ -87,6 +91,10 @@ module _ {c : Setup} (v : Ranged c) where
         used-are = bin-used c q;
       }
 
+  pub in-fusc : c .mode ≡ 7 → Ranges c 32 32 1702
+  unfolding cellsOf subchannelsOf bandOf
+  in-fusc e = record { cell-lt = rw e at (cell-in v); subchannels-are = rw e; used-are = rw e }
+
 -- the modes over bins have a width N
 pub bin-width : {c : Setup} → Ranged c → OverBins (c .mode) → Width (width c)
 unfolding widthOf
@@ -94,6 +102,7 @@ bin-width (own (pusc-dl h)) o = absurd (omega arith)
 bin-width (own (pusc-ul h)) o = absurd (omega arith)
 bin-width (own (ofusc {n = n} w h)) o = rw (width-is n) w
 bin-width (own (amc {n = n} q w h)) o = rw (width-is n) w
+bin-width (fusc h) o = absurd (omega arith)
 
 -- what AMC asks
 module _ {c : Setup} (v : Ranged c) (q : IsAmc (c .mode)) where
@@ -122,6 +131,7 @@ unfolding symbolsOf subchannelsOf bandOf widthOf
 few (own (pusc-dl h)) = omega arith
 few (own (pusc-ul h)) = omega arith
 few (own (ofusc w h)) = let b = size w .most in omega arith
+few (fusc h) = omega arith
 few {c} (own (amc {mode = m} {pilots = lent} q w h)) =
     let shape = amc-shape m q in
     let n = size w .most in

@@ -1,7 +1,13 @@
 -- What is lent with a valid setup, and what a setup without a list is.
-use Rattle.base.proofs.Prelude.{_≡_, refl, ap, List, [], _∷_, ℕ, arith, length, eqb-true}
+use Rattle.base.proofs.Prelude.{_≡_, refl, ap, List, [], _∷_, ℕ, arith, true, length, eqb-true, eq-eqb, ne-eqb}
+use Rattle.pilot_list.specs.List.{isPilotList}
 use Rattle.modes.specs.{Setup.{Setup, setupLent, setupWith}, Question.isLent}
-use Rattle.modes.specs.Model.{Unlent, Ranged, own, Valid}
+use Rattle.modes.specs.Model.{Unlent, pusc-dl, pusc-ul, ofusc, amc, Ranged, own, fusc, Valid}
+
+-- FUSC has an accepted list.
+pub list-lent : {setup : Setup} → Valid setup → setup .mode ≡ 7 → isPilotList (setup .pilots) ≡ true
+unfolding isLent
+list-lent {setup} v e = rw (eq-eqb (setup .mode) 7 e) at (v .is-lent)
 
 none-left : (l : List ℕ) → length l ≡ 0 → l ≡ []
 none-left [] e = refl
@@ -10,13 +16,21 @@ none-left (x ∷ l) e = absurd (omega arith)
 -- In the modes that take no list nothing is lent,
 pub nothing-lent : {mode size cell : ℕ} {pilots : List ℕ} → Valid (setupLent mode size cell pilots) → (mode ≡ 7 → ⊥) → setupLent mode size cell pilots ≡ setupWith mode size cell
 unfolding isLent
-nothing-lent {mode} {size} {cell} {pilots} v n = ap (setupLent mode size cell) (none-left pilots (eqb-true (length pilots) 0 (v .is-lent)))
+nothing-lent {mode} {size} {cell} {pilots} v n =
+    ap (setupLent mode size cell) (none-left pilots (eqb-true (length pilots) 0 (rw (ne-eqb mode 7 n) at (v .is-lent))))
 
 -- their pilots are their own,
 pub own-pilots : {setup : Setup} → Ranged setup → (setup .mode ≡ 7 → ⊥) → Unlent setup
 own-pilots (own u) n = u
+own-pilots (fusc h) n = absurd (n refl)
+
+not-fusc : {setup : Setup} → Unlent setup → setup .mode ≡ 7 → ⊥
+not-fusc (pusc-dl h) e = omega arith
+not-fusc (pusc-ul h) e = omega arith
+not-fusc (ofusc w h) e = omega arith
+not-fusc (amc q w h) e = omega arith
 
 -- and with nothing lent they are valid.
 pub valid-alone : {mode size cell : ℕ} → Unlent (setupWith mode size cell) → Valid (setupWith mode size cell)
 unfolding isLent
-valid-alone u = record { ranged = own u; is-lent = refl }
+valid-alone {mode} u = record { ranged = own u; is-lent = rw (ne-eqb mode 7 (not-fusc u)) refl }

@@ -19,7 +19,7 @@ setupRefusal setup = refusalAt (setup .mode) (setup .size) (setup .cell)
 
 -- the listed modes
 abbrev pub IsListed : (mode : ℕ) → Type 0
-IsListed mode = mode < 7
+IsListed mode = mode < 8
 
 -- the modes over bins: optional FUSC and AMC
 abbrev pub OverBins : (mode : ℕ) → Type 0
@@ -42,6 +42,7 @@ pub data Unlent : Setup → Type 0 where
 -- The setups that questions 1, 2 and 3 let pass, whatever is lent: what an inner function that takes no list may require.
 pub data Ranged : Setup → Type 0 where
   own : {setup : Setup} → Unlent setup → Ranged setup
+  fusc : {cell : ℕ} {pilots : List ℕ} → cell < 32 → Ranged (setupLent 7 2048 cell pilots)
 
 -- The setups that question 20 lets pass too: what an inner function with a list may require.
 pub record Valid (setup : Setup) : Type 0 where

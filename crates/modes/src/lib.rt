@@ -93,6 +93,9 @@ fn cells(setup: Setup) -> usize
     if is_amc(setup.mode) {
         return 2352;
     }
+    if setup.mode == 7 {
+        return 32;
+    }
     0
 }
 
@@ -110,6 +113,9 @@ pub fn subchannels(setup: Setup) -> usize
     }
     if is_amc(setup.mode) {
         return width(setup) * shape(setup.mode).symbols;
+    }
+    if setup.mode == 7 {
+        return 32;
     }
     0
 }
@@ -129,6 +135,9 @@ pub fn symbols(setup: Setup) -> usize
     }
     if is_amc(setup.mode) {
         return shape(setup.mode).symbols;
+    }
+    if setup.mode == 7 {
+        return 1;
     }
     0
 }
@@ -172,6 +181,9 @@ pub fn band(setup: Setup) -> Band
     if is_over_bins(setup.mode) {
         return carriers::bin_band(width(setup));
     }
+    if setup.mode == 7 {
+        return carriers::fusc_band();
+    }
     Band {
         left: 0,
         right: 0,
@@ -209,6 +221,9 @@ fn is_size(setup: Setup) -> bool
     if is_over_bins(setup.mode) {
         return is_four_sizes(setup.size);
     }
+    if setup.mode == 7 {
+        return setup.size == 2048;
+    }
     false
 }
 
@@ -216,7 +231,7 @@ fn is_size(setup: Setup) -> bool
 pub fn refusal(setup: Setup) -> u8
     ensures { λ r. ⌜ r ≡ setupRefusal (alone setup) ⌝ }
 {
-    if 7 <= setup.mode {
+    if 8 <= setup.mode {
         return 1;
     }
     if !is_size(setup) {
@@ -232,5 +247,8 @@ pub fn refusal(setup: Setup) -> u8
 pub fn is_lent(setup: Setup, pilots: &[u32]) -> bool
     ensures { λ r. ⌜ r ≡ isLent (lent setup (now (pilots .entry))) ⌝ }
 {
+    if setup.mode == 7 {
+        return pilot_list::is_pilot_list(pilots);
+    }
     pilots.len() == 0
 }

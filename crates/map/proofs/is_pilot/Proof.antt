@@ -11,4 +11,4 @@ unfolding isPilot
 is-pilot-spec =
     tie.close
     (tie.spec
-    (λ c κs. search needs) (λ c. search (choosing, needs)) (λ c κs. search needs) (λ c. search (choosing, needs)) (λ c κs. search needs) (λ c κs. search needs) (λ c. search (choosing, needs)) (λ c. search (choosing, needs)))
+    (λ c κs. search needs) (λ c. search (choosing, needs)) (λ c κs. search needs) (λ c. search (choosing, needs)) (λ c κs. search needs) (λ c κs. search needs) (λ c. search (choosing, needs)) (λ c κs. search needs) (λ c. search (choosing, needs)) (λ c. search (choosing, needs)))
