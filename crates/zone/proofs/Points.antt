@@ -1,5 +1,5 @@
 -- The modes of document 02, and those of AMC among them.
-use Rattle.base.proofs.{Prelude.{_≡_, refl, true, ℕ, zero, suc, _≤_, arith}, Test.cases}
+use Rattle.base.proofs.Prelude.{_≡_, refl, true, ℕ, zero, suc, _≤_, arith}
 use Rattle.modes.specs.Mode.{isAmc}
 use Rattle.zone.specs.{declared.Zone.Zone, Zone.isFollowing}
 
@@ -19,15 +19,17 @@ pub by-amc : (P : ℕ → Type 0) → P 3 → P 4 → P 5 → P 6 → (mode : �
 by-amc P b c d e mode h l =
     by-mode (λ m. 3 ≤ m → m ≤ 6 → P m) (λ h l. absurd (omega arith)) (λ h l. b) (λ h l. c) (λ h l. d) (λ h l. e) (λ h l. absurd (omega arith)) mode (omega arith) (omega arith) h l
 
--- Document 02, wish 2: each of AMC's modes, 3 to 6, stands after any zone,
-pub amc-follows : (mode : ℕ) (zone : Zone) → 3 ≤ zone .mode → zone .mode ≤ 6 → isFollowing mode zone ≡ true
-unfolding isFollowing
-amc-follows mode zone h l =
-    cases (isAmc mode)
-    (λ e. rw e (by-amc (λ m. isAmc m ≡ true) refl refl refl refl (zone .mode) h l))
-    (λ e. rw e)
+-- Document 02, wish 2: after one of AMC's modes, 3 to 6, any of these stands,
+abbrev of-mode : (mode cell slots mask : ℕ) → Zone
+of-mode mode cell slots mask = record { mode = mode; cell = cell; slots = slots; mask = mask }
 
--- and after any of them nothing else does.
-pub amc-before : (mode : ℕ) (zone : Zone) → 3 ≤ mode → mode ≤ 6 → isFollowing mode zone ≡ isAmc (zone .mode)
+pub amc-follows : (m n cell slots mask : ℕ) → 3 ≤ m → m ≤ 6 → 3 ≤ n → n ≤ 6 → isFollowing m (of-mode n cell slots mask) ≡ true
 unfolding isFollowing
-amc-before mode zone = by-amc (λ m. isFollowing m zone ≡ isAmc (zone .mode)) refl refl refl refl mode
+amc-follows m n cell slots mask h l =
+    by-amc (λ m. (n : ℕ) → 3 ≤ n → n ≤ 6 → isFollowing m (of-mode n cell slots mask) ≡ true)
+    (by-amc _ refl refl refl refl) (by-amc _ refl refl refl refl) (by-amc _ refl refl refl refl) (by-amc _ refl refl refl refl) m h l n
+
+-- and nothing else.
+pub amc-only : (m : ℕ) (zone : Zone) → 3 ≤ m → m ≤ 6 → isFollowing m zone ≡ isAmc (zone .mode)
+unfolding isFollowing
+amc-only m zone = by-amc (λ m. isFollowing m zone ≡ isAmc (zone .mode)) refl refl refl refl m
