@@ -19,10 +19,10 @@ pub by-amc : (P : ℕ → Type 0) → P 3 → P 4 → P 5 → P 6 → (mode : �
 by-amc P b c d e mode h l =
     by-mode (λ m. 3 ≤ m → m ≤ 6 → P m) (λ h l. absurd (omega arith)) (λ h l. b) (λ h l. c) (λ h l. d) (λ h l. e) (λ h l. absurd (omega arith)) mode (omega arith) (omega arith) h l
 
--- Document 02, wish 2: after one of AMC's modes, 3 to 6, any of these stands,
 abbrev of-mode : (mode cell slots mask : ℕ) → Zone
 of-mode mode cell slots mask = record { mode = mode; cell = cell; slots = slots; mask = mask }
 
+-- Document 02, wish 2: after one of AMC's modes, 3 to 6, any of these stands,
 pub amc-follows : (m n cell slots mask : ℕ) → 3 ≤ m → m ≤ 6 → 3 ≤ n → n ≤ 6 → isFollowing m (of-mode n cell slots mask) ≡ true
 unfolding isFollowing
 amc-follows m n cell slots mask h l =
