@@ -1,8 +1,8 @@
 -- The rows of a slot walked one after another: the points on the first carriers are taken, all others are as they were.
-use Rattle.base.proofs.{Prelude.{_≡_, refl, _∙_, List, ℕ, _+_, _*_, _<_, _≤_, arith, ltb, length, ltb-true, ltb-false, lt-ltb}, Test.cases}
+use Rattle.base.proofs.{Prelude.{_≡_, refl, _∙_, subst, List, ℕ, _+_, _*_, _<_, _≤_, arith, ltb, length, ltb-true, ltb-false, lt-ltb}, Test.cases}
 use lib.Ieee.{Float}
 use Rattle.base.specs.Choice.{pick}
-use Rattle.modes.specs.{Setup.Setup, Mode.symbols, Model.Valid}
+use Rattle.modes.specs.{Setup.Setup, Mode.{symbols, symbolsOf}, Model.Valid}
 use Rattle.mask.specs.Mask.{litSubchannels}
 use Rattle.points.specs.{declared.Point.Point, Points.{pointAt, floatsOf}}
 use Rattle.points.proofs.Points.{length-floats, point-floats, by-points}
@@ -39,6 +39,15 @@ module _ {setup : Setup} (v : Valid setup) (mask slot carriers : ℕ) (grid poin
       cases (ltb (litStandsAt setup mask slot n) carriers)
       (λ b. rw b (w .taken n hn (rw all (at-lt setup v mask slot n hn)) (ltb-true (litStandsAt setup mask slot n) carriers b)))
       (λ b. rw b (w .past n hn (ltb-false (litStandsAt setup mask slot n) carriers b))))
+
+-- FUSC has one row
+pub symbol-done : {setup : Setup} → Valid setup → setup .mode ≡ 7 → (mask slot carriers : ℕ) (grid points₀ points : List Float) → length points₀ ≡ 96 * litSubchannels setup mask
+    → Took setup mask slot carriers grid 0 (setup .size) points₀ points → points ≡ emptiedFirst setup mask slot carriers grid points₀
+unfolding symbolsOf
+symbol-done {setup} v q mask slot carriers grid points₀ points long t =
+    let one : symbols setup ≡ 1 = rw q in
+    let row : setup .size ≡ 1 * setup .size = omega arith in
+    slot-done v mask slot carriers grid points₀ {points = points} {row = 1} (omega (arith, one), subst (λ (to : ℕ). Took setup mask slot carriers grid 0 to points₀ points) row t) (omega (arith, one)) long
 
 -- where all carriers are counted, all points are taken
 pub first-all : (setup : Setup) → Valid setup → (mask slot carriers : ℕ) (grid old : List Float) → gridPoints setup ≤ carriers
