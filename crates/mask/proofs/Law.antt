@@ -14,7 +14,7 @@ use Rattle.pusc_dl.proofs.Law.{point-group}
 use Rattle.pusc_dl_lit.proofs.Lit.{all-groups}
 use Rattle.modes.specs.{Setup.{Setup, setupWith}, Mode.{subchannels, subchannelsOf, band}}
 use Rattle.map.specs.{Formula.spotOf, Place.{Place, usedCarrier, placeAt, contentOf}, Law.PlacedAt}
-use Rattle.modes.specs.Model.{pusc-dl, pusc-ul, ofusc, amc, Ranged, own}
+use Rattle.modes.specs.Model.{pusc-dl, pusc-ul, ofusc, amc, Ranged, own, fusc}
 use Rattle.modes.proofs.{Choice.amc-not-0, ByMode.few, Whole.{band-law, centred}}
 use Rattle.map.proofs.{Slot.slot-law, Law.placing}
 use Rattle.mask.specs.{Mask.{isMask, isLitOf, isLit, isUsedLitOf, isUsedLit, litContent, litSubchannels, litRank, ofLitRank, allLit}, Law.MaskLaw}
@@ -27,6 +27,7 @@ point-lit (own (pusc-dl {cell = cell} h)) mask slot s m hs hm = ap (hasGroup mas
 point-lit (own (pusc-ul h)) mask slot s m hs hm = refl
 point-lit (own (ofusc w h)) mask slot s m hs hm = refl
 point-lit (own (amc q w h)) mask slot s m hs hm = rw (amc-not-0 q)
+point-lit (fusc h) mask slot s m hs hm = refl
 
 -- a used number's carrier is that number's
 pub used-on-row : {setup : Setup} → Ranged setup → (used : ℕ) → used < band setup .used → usedOf (band setup) (onRow (setup .size) (usedCarrier setup used)) ≡ used

@@ -5,10 +5,10 @@ use mathlib.Core.Logic.{_⊎_, ⊎-elim}
 use lib.Ieee.{Float}
 use Rattle.base.specs.{Answer.{Answer, accepted, refused, refusalOf}, Steps.entry, Tabulate.tabulate}
 use Rattle.carriers.specs.Bin.{binPilotPlace, usedOfData}
-use Rattle.modes.specs.{Setup.Setup, Mode.{subchannels, symbols}, Question.{isSlot, isSubchannel, isIndex}}
+use Rattle.modes.specs.{Setup.Setup, Mode.{subchannels, symbols}, Question.{isSlot, isSubchannel, isIndex, isLent}}
 use Rattle.map.specs.{Formula.spotOf, Place.{placeAt, placeOf}}
 use Rattle.modes.specs.Model.{Valid}
-use Rattle.modes.proofs.Accept.{valid, setupQuestions}
+use Rattle.modes.proofs.Accept.{ranged-by, setupQuestions}
 use Rattle.map.proofs.{Alike.{Alike, alike-mod-3, alike-by-threes}, Law.placing}
 use Rattle.points.specs.Points.{pointAt}
 use Rattle.lengths.specs.Length.{gridPoints}
@@ -48,7 +48,7 @@ module _ (setup : Setup) (slot s : ℕ) where
   row-long = long-of (standsAt setup slot s) asked
 
   abbrev questions : Questions
-  questions = setupQuestions setup ++ ((isSlot slot, 4) ∷ (isSubchannel setup s, 5) ∷ [])
+  questions = setupQuestions setup ++ ((isSlot slot, 4) ∷ (isSubchannel setup s, 5) ∷ (isLent setup, 20) ∷ [])
 
   pub refused-alike : (index : ℕ) → index < 48 → placesOf setup slot s .refusal ≡ refusalOf (placeOf setup slot s index)
   unfolding placeOf isIndex
@@ -84,7 +84,7 @@ module _ (setup : Setup) (slot s : ℕ) where
   unfolding isSlot isSubchannel
   in-grid index z h =
       let y = all-yes questions tt (sym row-number ∙ z) in
-      let v = valid setup (y .0) (y .1 .0) (y .1 .1 .0) in
+      let v : Valid setup = record { ranged = ranged-by setup (y .0) (y .1 .0) (y .1 .1 .0); is-lent = y .1 .1 .1 .1 .1 .0 } in
       let l = ltb-true s (subchannels setup) (y .1 .1 .1 .1 .0) in
       rw (at v (ltb-true slot 512 (y .1 .1 .1 .0)) l index h) (stands-lt setup v slot s index l h)
 
