@@ -46,10 +46,23 @@ amc-after-amc m n h l =
     by-amc (λ m. (n : ℕ) → 3 ≤ n → n ≤ 6 → third m n 1 0 ≡ accepted (planWith 3 2048 (zone 0 0 1 63 ∷ zone m 0 1 0 ∷ zone n 0 1 0 ∷ [])))
     (by-amc _ refl refl refl refl) (by-amc _ refl refl refl refl) (by-amc _ refl refl refl refl) (by-amc _ refl refl refl refl) m h l n
 
--- and modes 0 and 2 meet 14.
-pub others-after-amc : (m : ℕ) → 3 ≤ m → m ≤ 6 → (third m 0 1 63 ≡ refused 14) × (third m 2 1 0 ≡ refused 14)
+-- and modes 0, 2 and 7 meet 14.
+pub others-after-amc : (m : ℕ) → 3 ≤ m → m ≤ 6 → (third m 0 1 63 ≡ refused 14) × (third m 2 1 0 ≡ refused 14) × (third m 7 1 0 ≡ refused 14)
 unfolding planOf readZones readValues valueIn isZoneMode isUpTo isMask isOpening isAmc isFollowing isSize isCell isFourSizes cellsOf widthOf
-others-after-amc = by-amc (λ m. (third m 0 1 63 ≡ refused 14) × (third m 2 1 0 ≡ refused 14)) (refl, refl) (refl, refl) (refl, refl) (refl, refl)
+others-after-amc =
+    by-amc (λ m. (third m 0 1 63 ≡ refused 14) × (third m 2 1 0 ≡ refused 14) × (third m 7 1 0 ≡ refused 14)) (refl, refl, refl) (refl, refl, refl) (refl, refl, refl) (refl, refl, refl)
+
+-- Document 02, wish 8: mode 7 is read after mode 0 with the last of its cells, and modes 0, 2 and 3 after it; a cell past the last meets 3. As the first zone it meets 14, at 1024 it meets 2.
+pub fusc-in-plans :
+    (planOf (2 ∷ 0x80 ∷ 0x10 ∷ 0 ∷ 0 ∷ 1 ∷ 0x3F ∷ 7 ∷ 31 ∷ 1 ∷ 0 ∷ []) ≡ accepted (planWith 2 2048 (zone 0 0 1 63 ∷ zone 7 31 1 0 ∷ [])))
+    × (third 7 0 1 63 ≡ accepted (planWith 3 2048 (zone 0 0 1 63 ∷ zone 7 0 1 0 ∷ zone 0 0 1 63 ∷ [])))
+    × (third 7 2 1 0 ≡ accepted (planWith 3 2048 (zone 0 0 1 63 ∷ zone 7 0 1 0 ∷ zone 2 0 1 0 ∷ [])))
+    × (third 7 3 1 0 ≡ accepted (planWith 3 2048 (zone 0 0 1 63 ∷ zone 7 0 1 0 ∷ zone 3 0 1 0 ∷ [])))
+    × (planOf (2 ∷ 0x80 ∷ 0x10 ∷ 0 ∷ 0 ∷ 1 ∷ 0x3F ∷ 7 ∷ 32 ∷ 1 ∷ 0 ∷ []) ≡ refused 3)
+    × (planOf (1 ∷ 0x80 ∷ 0x10 ∷ 7 ∷ 0 ∷ 1 ∷ 0 ∷ []) ≡ refused 14)
+    × (planOf (1 ∷ 0x80 ∷ 0x08 ∷ 7 ∷ 0 ∷ 1 ∷ 0 ∷ []) ≡ refused 2)
+unfolding planOf readZones readValues valueIn isZoneMode isUpTo isMask isOpening isAmc isFollowing inPlaces isSize isCell isFourSizes cellsOf widthOf
+fusc-in-plans = (refl, refl, refl, refl, refl, refl, refl)
 
 -- Document 02, wish 5: 17 after 13. A zone out of place, of mode 2 that opens the plan and of mode 0 after AMC, with no slots or one, and with a mask out of its range or in it.
 pub faults-in-order :
@@ -63,13 +76,13 @@ unfolding planOf readZones readValues valueIn isZoneMode isUpTo isMask isOpening
 faults-in-order = (refl, refl, refl, refl, refl, refl)
 
 -- A mask other than 0 outside mode 0 meets 17.
-pub mask-outside : (mode mask : ℕ) → 2 ≤ mode → mode ≤ 6 → 0 < mask → mask < 128 → planOf (2 ∷ 0x80 ∷ 0x10 ∷ 0 ∷ 0 ∷ 1 ∷ 0x3F ∷ mode ∷ 0 ∷ 1 ∷ mask ∷ []) ≡ refused 17
+pub mask-outside : (mode mask : ℕ) → 2 ≤ mode → mode ≤ 7 → 0 < mask → mask < 128 → planOf (2 ∷ 0x80 ∷ 0x10 ∷ 0 ∷ 0 ∷ 1 ∷ 0x3F ∷ mode ∷ 0 ∷ 1 ∷ mask ∷ []) ≡ refused 17
 unfolding planOf readZones readValues valueIn isZoneMode isUpTo isMask isOpening isAmc isFollowing isSize isCell isFourSizes cellsOf widthOf
 mask-outside mode mask h l some small =
     let byte = lt-ltb mask 128 small in
     let not-0 = ne-eqb mask 0 (λ e. omega arith) in
     by-mode (λ m. planOf (2 ∷ 0x80 ∷ 0x10 ∷ 0 ∷ 0 ∷ 1 ∷ 0x3F ∷ m ∷ 0 ∷ 1 ∷ mask ∷ []) ≡ refused 17)
-    (rw (byte, not-0)) (rw (byte, not-0)) (rw (byte, not-0)) (rw (byte, not-0)) (rw (byte, not-0)) mode h l
+    (rw (byte, not-0)) (rw (byte, not-0)) (rw (byte, not-0)) (rw (byte, not-0)) (rw (byte, not-0)) (rw (byte, not-0)) mode h l
 
 -- Document 02, wish 5: the starred plan line with a mask out of its range. 3F in mode 2 meets 17, not 14; 00 and 40 in mode 0 meet it too; where there are no slots either, 13 comes before 17; without its mask the line ends within a zone.
 pub masks-refused :

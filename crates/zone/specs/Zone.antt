@@ -21,9 +21,9 @@ valuesOf zone = zone .mode ∷ zone .cell ∷ zone .slots ∷ zone .mask ∷ []
 abbrev pub zoneOf : (values : List ℕ) → Zone
 zoneOf values = record { mode = getD values 0 0; cell = getD values 1 0; slots = getD values 2 0; mask = getD values 3 0 }
 
--- 1 Is the mode 0, 2 or one of AMC's, 3 to 6 (document 02, wish 2)? That is every listed mode but 1.
+-- 1 Is the mode 0, 2, one of AMC's, 3 to 6 (document 02, wish 2), or FUSC's, 7 (document 02, wish 8: a plan's question 1 takes it)? That is every listed mode but 1.
 unfoldable pub isZoneMode : (mode : ℕ) → Bool
-isZoneMode mode = pick (eqb mode 1) false (ltb mode 7)
+isZoneMode mode = pick (eqb mode 1) false (ltb mode 8)
 
 -- Questions 2 and 3 are the map's, of the zone's mode and cell and the plan's size.
 abbrev pub setupOf : (size : ℕ) (zone : Zone) → Setup
@@ -33,7 +33,7 @@ setupOf size zone = setupWith (zone .mode) size (zone .cell)
 abbrev pub isSlots : (slots : ℕ) → Bool
 isSlots slots = isUpTo 512 slots
 
--- 14 At 2048, is the first zone mode 0? Its cell is the preamble's, any of mode 0's (document 02, wish 1).
+-- 14 At 2048, is the first zone mode 0? Its cell is the preamble's, any of mode 0's (document 02, wish 1). Mode 7 never opens a plan, since it has no other size (wish 8).
 unfoldable pub isOpening : (size : ℕ) (zone : Zone) → Bool
 isOpening size zone = pick (eqb size 2048) (eqb (zone .mode) 0) true
 
