@@ -6,7 +6,7 @@ use Rattle.modes.specs.{Setup.Setup, Mode.symbols, Model.Valid}
 use Rattle.mask.specs.Mask.{litSubchannels}
 use Rattle.points.specs.{declared.Point.Point, Points.{pointAt, floatsOf}}
 use Rattle.points.proofs.Points.{length-floats, point-floats, by-points}
-use Rattle.lengths.specs.Length.{gridPoints}
+use Rattle.lengths.specs.Length.{gridPointsOf, gridPoints}
 use Rattle.row_walk.specs.Model.{TakenTo, Took}
 use Rattle.row_walk.proofs.Taken.{took-then, took-none, at-lt}
 use Rattle.empty.specs.Empty.{litStandsAt, emptied, emptiedFirst}
@@ -29,7 +29,7 @@ module _ {setup : Setup} (v : Valid setup) (mask slot carriers : ℕ) (grid poin
 
   pub slot-done : {points : List Float} {row : ℕ} → SlotTurn setup mask slot carriers grid points₀ points row → symbols setup ≤ row → length points₀ ≡ 96 * litSubchannels setup mask
       → points ≡ emptiedFirst setup mask slot carriers grid points₀
-  unfolding emptiedFirst gridPoints
+  unfolding emptiedFirst gridPointsOf
   slot-done {points} {row} t h long =
       let all : row ≡ symbols setup = omega (arith, t .0) in
       let w : TakenTo setup mask slot carriers grid points₀ (row * setup .size) points =

@@ -80,9 +80,9 @@ module _ (mode size cell other slot : ℕ) (pilots : List ℕ) (p : Point) (old 
       (λ d. cases (isPilot b y used) (λ i. rw (g, d, i)) (λ i. rw (g, d, i)))))
 
   pub every-cell : Valid a → Valid b → groundOf a (allLit mode) slot p old ≡ groundOf b (allLit mode) slot p old
-  unfolding groundOf grounded isGrid gridPoints rowOf columnOf
+  unfolding groundOf grounded isGrid rowOf columnOf
   every-cell va vb =
-      rw (passes va, passes vb) (λ i. ground (λ n. same-bare (slot * symbols b + rowOf b n) (columnOf b n) i))
+      rw (passes (va .ranged), passes (vb .ranged), va .is-lent, vb .is-lent) (λ i. ground (λ n. same-bare (slot * symbols b + rowOf b n) (columnOf b n) i))
     where
       ground : (ℕ → Point) → Outcome
       ground f =

@@ -1,5 +1,5 @@
 -- `rows::subchannel_row` meets its contract.
-use Rattle.base.proofs.Prelude.{_≡_, subst⁻¹, arith}
+use Rattle.base.proofs.Prelude.{subst⁻¹, arith}
 use Rattle.modes.specs.Setup.{Setup}
 use Rattle.modes.proofs.{ByMode.{ranged-alone, in-fusc, few}, Lent.{list-lent, nothing-lent, own-pilots}}
 use Rattle.rows.specs.{declared.CarrierRow.CarrierRow, Model.{shiftOf, RowOf}}
