@@ -7,7 +7,7 @@ ghost use Prim.Native.Nat.{_+_, _*_, _<_};
 ghost use lib.ListN.{length};
 ghost use Rattle.modes.specs.Setup.{alone, lent};
 ghost use Rattle.modes.specs.Mode.{symbols, band};
-ghost use Rattle.modes.specs.Model.{Unlent};
+ghost use Rattle.modes.specs.Model.{Unlent, Valid};
 ghost use Rattle.runs.specs.Model.{LitRuns, runStep, runCount};
 ghost use Rattle.points.specs.Model.{putPoint};
 ghost use Rattle.lengths.specs.Length.{gridPoints};
@@ -90,6 +90,38 @@ fn zeros_and_pilots(setup: Setup, mask: usize, slot: usize, p: Point, grid: &mut
     }
 }
 
+// The pilot point on the pilots of FUSC's only row, which are lent: all are lit.
+fn list_pilots(setup: Setup, mask: usize, slot: usize, pilots: &[u32], p: Point, grid: &mut [f32])
+    requires { ⌜ Valid (lent setup (now pilots)) ⌝ }
+    requires { ⌜ (setup .mode ≡ 7) × (length (now grid) ≡ 2 * gridPoints (alone setup)) ⌝ }
+    ensures { λ _. ⌜ PilotsBelow (lent setup (now (pilots .entry))) mask slot p 0 (band (alone setup) .used) (now (grid .entry)) (now (grid .exit)) ⌝ }
+{
+    let band = modes::band(setup);
+    let mut i = 0;
+    while i < 166 {
+        let used = pilot_list::wide(pilots[i]);
+        points::put_point(grid, carriers::carrier(band, used), p);
+        i += 1;
+    }
+}
+
+// Zeros, and the pilot point on the pilots that are lent.
+fn zeros_and_list(
+    setup: Setup,
+    mask: usize,
+    slot: usize,
+    pilots: &[u32],
+    p: Point,
+    grid: &mut [f32],
+)
+    requires { ⌜ Valid (lent setup (now pilots)) ⌝ }
+    requires { ⌜ (setup .mode ≡ 7) × (slot < 512) × (length (now grid) ≡ 2 * gridPoints (alone setup)) ⌝ }
+    ensures { λ _. ⌜ now (grid .exit) ≡ grounded (lent setup (now (pilots .entry))) mask slot p ⌝ }
+{
+    points::clear(grid);
+    list_pilots(setup, mask, slot, pilots, p, grid);
+}
+
 // Lays the ground of a slot's grid, the pilot point on lit pilots and 0.0 elsewhere; or the first refusal of 1, 2, 3, 17, 4, 20, 9.
 pub fn ground(
     setup: Setup,
@@ -104,6 +136,10 @@ pub fn ground(
     let refusal = lengths::ground_refusal(setup, mask, slot, pilots, grid.len());
     if refusal != 0 {
         return refusal;
+    }
+    if setup.mode == 7 {
+        zeros_and_list(setup, mask, slot, pilots, pilot, grid);
+        return 0;
     }
     zeros_and_pilots(setup, mask, slot, pilot, grid);
     0
