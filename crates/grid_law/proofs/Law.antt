@@ -98,7 +98,7 @@ module _ {setup : Setup} {mask : ℕ} (m : MaskAccepted setup mask) where
       let h = slot-law v slot .lies s index (q .subchannel-lt) (q .index-lt) in
       subst (λ (t : Place). OnGrid setup mask slot (pick (isLit setup mask s) (point slot s index) guard) (t .symbol) (t .carrier) (standsAt setup slot s index)) (q .place-is)
       (rw (
-        point-lit v mask slot s index (q .subchannel-lt) (q .index-lt),
+        point-lit (v .ranged) mask slot s index (q .subchannel-lt) (q .index-lt),
         content-placed setup v slot s index (q .subchannel-lt) (q .index-lt),
         digits-mod slot (h .offset-lt),
       ) at
