@@ -44,7 +44,7 @@ fn empty_rows(
     }
 }
 
-// The same, by the list that is lent.
+// The same in every mode, by the list that is lent: in FUSC over its only row, in the others row after row.
 fn take_off(
     setup: Setup,
     mask: usize,
@@ -58,6 +58,10 @@ fn take_off(
     requires { ⌜ (mask < 64) × (slot < 512) × (length (now points) ≡ 96 * litSubchannels (alone setup) mask) × (length (now grid) ≡ 2 * gridPoints (alone setup)) ⌝ }
     ensures { λ _. ⌜ now (points .exit) ≡ emptiedFirst (lent setup (now (pilots .entry))) mask slot carriers (now (grid .entry)) (now (points .entry)) ⌝ }
 {
+    if setup.mode == 7 {
+        fusc_walk::empty_symbol(setup, mask, slot, carriers, pilots, grid, points);
+        return;
+    }
     empty_rows(setup, mask, slot, carriers, grid, points);
 }
 
