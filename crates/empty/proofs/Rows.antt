@@ -40,14 +40,14 @@ module _ {setup : Setup} (v : Valid setup) (mask slot carriers : ℕ) (grid poin
       (λ b. rw b (w .taken n hn (rw all (at-lt setup v mask slot n hn)) (ltb-true (litStandsAt setup mask slot n) carriers b)))
       (λ b. rw b (w .past n hn (ltb-false (litStandsAt setup mask slot n) carriers b))))
 
--- FUSC has one row
-pub symbol-done : {setup : Setup} → Valid setup → setup .mode ≡ 7 → (mask slot carriers : ℕ) (grid points₀ points : List Float) → length points₀ ≡ 96 * litSubchannels setup mask
-    → Took setup mask slot carriers grid 0 (setup .size) points₀ points → points ≡ emptiedFirst setup mask slot carriers grid points₀
-unfolding symbolsOf
-symbol-done {setup} v q mask slot carriers grid points₀ points long t =
-    let one : symbols setup ≡ 1 = rw q in
-    let row : setup .size ≡ 1 * setup .size = omega arith in
-    slot-done v mask slot carriers grid points₀ {points = points} {row = 1} (omega (arith, one), subst (λ (to : ℕ). Took setup mask slot carriers grid 0 to points₀ points) row t) (omega (arith, one)) long
+  -- FUSC's only row
+  pub symbol-done : setup .mode ≡ 7 → {points : List Float} → Took setup mask slot carriers grid 0 (setup .size) points₀ points → length points₀ ≡ 96 * litSubchannels setup mask
+      → points ≡ emptiedFirst setup mask slot carriers grid points₀
+  unfolding symbolsOf
+  symbol-done q {points} w long =
+      let one : symbols setup ≡ 1 = rw q in
+      let all : setup .size ≡ 1 * setup .size = omega arith in
+      slot-done {points = points} {row = 1} (omega arith, subst (λ (n : ℕ). Took setup mask slot carriers grid 0 n points₀ points) all w) (omega arith) long
 
 -- where all carriers are counted, all points are taken
 pub first-all : (setup : Setup) → Valid setup → (mask slot carriers : ℕ) (grid old : List Float) → gridPoints setup ≤ carriers

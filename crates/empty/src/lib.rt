@@ -44,7 +44,7 @@ fn empty_rows(
     }
 }
 
-// The same by the list that is lent: FUSC has one symbol, and no runs.
+// The same in every mode, by the list that is lent: in FUSC over its only row, in the others row after row.
 fn take_off(
     setup: Setup,
     mask: usize,
