@@ -39,6 +39,14 @@ module _ {mode : ℕ} (t : Bool) where
   pub told-early : t ≡ isAmc mode → t ≡ false → mode < 7 → mode < 3
   told-early e y l = cases (ltb mode 3) (ltb-true mode 3) (λ n. absurd (not-from 3 mode (sym e ∙ y) (omega (arith, ltb-false mode 3 n))))
 
+  -- past AMC's modes
+  module _ (n₀ : mode ≡ 0 → ⊥) (n₁ : mode ≡ 1 → ⊥) where
+    pub past-amc : (mode ≡ 2 → ⊥) → t ≡ isAmc mode → t ≡ false → 7 ≤ mode
+    past-amc n₂ e y = cases (ltb mode 7) (λ l. absurd (not-from 3 mode (sym e ∙ y) (omega (arith, ltb-true mode 7 l)))) (ltb-false mode 7)
+
+    pub past-bins : t ≡ isOverBins mode → t ≡ false → 7 ≤ mode
+    past-bins e y = cases (ltb mode 7) (λ l. absurd (not-from 2 mode (sym e ∙ y) (omega (arith, ltb-true mode 7 l)))) (ltb-false mode 7)
+
   -- none of the modes by name
   module _ (n₀ : mode ≡ 0 → ⊥) (n₁ : mode ≡ 1 → ⊥) (n₇ : mode ≡ 7 → ⊥) where
     pub unlisted-amc : (mode ≡ 2 → ⊥) → t ≡ isAmc mode → t ≡ false → IsListed mode → ⊥
@@ -70,6 +78,10 @@ pub data Has {A : Type 0} (mode : ℕ) (dl ul spread adjacent full other : A) : 
 pub at-bins : {A : Type 0} {mode : ℕ} {dl ul a full other : A} → OverBins mode → Has mode dl ul a a full other a
 at-bins {mode = mode} q = cases (eqb mode 2) (λ e. at-2 (eqb-true mode 2 e)) (λ e. at-amc (omega (arith, eqb-false mode 2 e)))
 
+-- FUSC and the modes that are not listed alike
+pub at-past : {A : Type 0} {mode : ℕ} {dl ul spread adjacent a : A} → 7 ≤ mode → Has mode dl ul spread adjacent a a a
+at-past {mode = mode} h = cases (eqb mode 7) (λ e. at-7 (eqb-true mode 7 e)) (λ e. at-none (λ (l : mode < 8). omega (arith, eqb-false mode 7 e)))
+
 pub by-mode : {A : Type 0} {mode : ℕ} {dl ul spread adjacent full other r : A} → Has mode dl ul spread adjacent full other r → r ≡ byMode mode dl ul spread adjacent full other
 by-mode (at-0 e) = rw e
 by-mode (at-1 e) = rw e
@@ -88,6 +100,9 @@ amc-column mode dl ul spread adjacent full other q = sym (by-mode (at-amc q))
 pub bins-column : {A : Type 0} (mode : ℕ) (dl ul a full other : A) → OverBins mode → byMode mode dl ul a a full other ≡ a
 bins-column mode dl ul a full other q = sym (by-mode (at-bins q))
 
+pub past-column : {A : Type 0} (mode : ℕ) (dl ul spread adjacent a : A) → 7 ≤ mode → byMode mode dl ul spread adjacent a a ≡ a
+past-column mode dl ul spread adjacent a h = sym (by-mode (at-past h))
+
 pub none-column : {A : Type 0} (mode : ℕ) (dl ul spread adjacent full other : A) → (IsListed mode → ⊥) → byMode mode dl ul spread adjacent full other ≡ other
 none-column mode dl ul spread adjacent full other n = sym (by-mode (at-none n))
 
@@ -96,4 +111,4 @@ pub given : {A : Type 0} {mode : ℕ} {dl ul spread adjacent full other a : A} (
 given r h e = e ∙ by-mode h
 
 -- a function that chooses by the mode, at each of its returns, for `search`
-pub ruleset choosing = (given, by-mode, at-0, at-1, at-2, at-amc, at-bins, at-7, at-none, told-amc, told-bins, unlisted-amc, unlisted-bins, amc-below, past-listed)
+pub ruleset choosing = (given, by-mode, at-0, at-1, at-2, at-amc, at-bins, at-7, at-past, at-none, told-amc, told-bins, past-amc, past-bins, unlisted-amc, unlisted-bins, amc-below, past-listed)

@@ -1,5 +1,5 @@
 -- What is lent with a valid setup, and what a setup without a list is.
-use Rattle.base.proofs.Prelude.{_≡_, refl, ap, List, [], _∷_, ℕ, arith, true, length, eqb-true, eq-eqb, ne-eqb}
+use Rattle.base.proofs.Prelude.{_≡_, refl, ap, List, [], _∷_, ℕ, _<_, arith, true, length, eqb-true, eq-eqb, ne-eqb}
 use Rattle.pilot_list.specs.List.{isPilotList}
 use Rattle.modes.specs.{Setup.{Setup, setupLent, setupWith}, Question.isLent}
 use Rattle.modes.specs.Model.{Unlent, pusc-dl, pusc-ul, ofusc, amc, Ranged, own, fusc, Valid}
@@ -24,13 +24,14 @@ pub own-pilots : {setup : Setup} → Ranged setup → (setup .mode ≡ 7 → ⊥
 own-pilots (own u) n = u
 own-pilots (fusc h) n = absurd (n refl)
 
-not-fusc : {setup : Setup} → Unlent setup → setup .mode ≡ 7 → ⊥
-not-fusc (pusc-dl h) e = omega arith
-not-fusc (pusc-ul h) e = omega arith
-not-fusc (ofusc w h) e = omega arith
-not-fusc (amc q w h) e = omega arith
+-- these are below FUSC,
+pub own-mode : {setup : Setup} → Unlent setup → setup .mode < 7
+own-mode (pusc-dl h) = omega arith
+own-mode (pusc-ul h) = omega arith
+own-mode (ofusc w h) = omega arith
+own-mode (amc q w h) = omega arith
 
 -- and with nothing lent they are valid.
 pub valid-alone : {mode size cell : ℕ} → Unlent (setupWith mode size cell) → Valid (setupWith mode size cell)
 unfolding isLent
-valid-alone {mode} u = record { ranged = own u; is-lent = rw (ne-eqb mode 7 (not-fusc u)) refl }
+valid-alone {mode} u = record { ranged = own u; is-lent = rw (ne-eqb mode 7 (λ e. omega (arith, own-mode u))) refl }

@@ -1,7 +1,7 @@
 -- THE LAW OF THE PLACES, from the questions of a row and from where a point stands in the grid.
 use Rattle.base.proofs.Prelude.{_≡_, refl, sym, ap, _∙_, List, [], _∷_, _++_, ℕ, _%_, _<_, length, lt-ltb, ltb-true, eq-eqb}
 use Rattle.base.proofs.{Chain.{Questions, all-numbered, all-yes, number-is}, Tabulate.{length-tabulate, getD-tabulate, tabulated, entry-of}}
-use mathlib.Core.Logic.{_⊎_, ⊎-elim}
+use mathlib.Core.Logic.{_⊎_, inl, inr, ⊎-elim}
 use lib.Ieee.{Float}
 use Rattle.base.specs.{Answer.{Answer, accepted, refused, refusalOf}, Steps.entry, Tabulate.tabulate}
 use Rattle.carriers.specs.Bin.{binPilotPlace, usedOfData}
@@ -69,12 +69,15 @@ module _ (setup : Setup) (slot s : ℕ) where
     unfolding standsAt spotOf usedOfData binPilotPlace
     by-pilots e = same-places (λ m. simp e)
 
-    in-every-slot : setup .mode ≡ 0 → (m : ℕ) → standsAt setup slot s m ≡ standsAt setup other s m
+    -- or whose formula does not go by the slot
+    in-every-slot : (setup .mode ≡ 0) ⊎ (setup .mode ≡ 7) → (m : ℕ) → standsAt setup slot s m ≡ standsAt setup other s m
     unfolding standsAt spotOf
-    in-every-slot z m = rw z
+    in-every-slot h m = ⊎-elim (λ z. rw z) (λ z. rw z) h
 
-    same-always : (setup .mode ≡ 0) ⊎ (symbols setup % 3 ≡ 0) → placesOf setup slot s ≡ placesOf setup other s
-    same-always h = ⊎-elim (λ z. same-places (in-every-slot z)) (λ z. by-pilots (alike-by-threes setup slot other z)) h
+    same-always : (setup .mode ≡ 0) ⊎ ((setup .mode ≡ 7) ⊎ (symbols setup % 3 ≡ 0)) → placesOf setup slot s ≡ placesOf setup other s
+    same-always h =
+        ⊎-elim (λ z. same-places (in-every-slot (inl z)))
+        (λ o. ⊎-elim (λ z. same-places (in-every-slot (inr z))) (λ z. by-pilots (alike-by-threes setup slot other z)) o) h
 
   module _ (v : Valid setup) (hs : slot < 512) (l : s < subchannels setup) where
     at : (index : ℕ) → index < 48 → entry row index ≡ standsAt setup slot s index

@@ -2,7 +2,7 @@
 use Rattle.base.proofs.{Prelude.{_≡_, refl, sym, ap, ap₂, _∙_, List, ℕ, _+_, _*_, _%_, _<_, _≤_, digits-lt, lit<, eqb, arith}, Test.cases}
 use Rattle.base.proofs.Tabulate.{entry-of, turned-row, turned-by, turned-below}
 use Rattle.base.specs.{Steps.entry, Tabulate.tabulate, Model.{Starts, Below, Turned}}
-use Rattle.carriers.specs.{declared.Spot.Spot, Band.{binBand, carrierOf}, Bin.usedOfData, Law.DataSpot}
+use Rattle.carriers.specs.{declared.Spot.Spot, Band.{binBand, fuscBand, carrierOf}, Bin.usedOfData, Law.DataSpot}
 use Rattle.carriers.specs.Model.{spotNumber, carrierNumber, carrierStep}
 use Rattle.ofusc.specs.Width.{Width, n4, n8, n16, n32}
 use Rattle.ofusc.proofs.Sequence.{size, sum-lt, cell-term-lt}
@@ -14,7 +14,7 @@ use Rattle.pusc_ul_rows.proofs.Row.{number-on-place}
 use Rattle.carriers.proofs.Row.{step-carrier}
 use Rattle.modes.specs.{Setup.Setup, Mode.{isAmc, shapeOf, width, widthOf, subchannels, symbols, symbolsOf, band, bandOf}}
 use Rattle.map.specs.Formula.{isPilot, spotOf}
-use Rattle.modes.specs.Model.{IsAmc, Unlent, pusc-dl, pusc-ul, ofusc, amc, Ranged, own, Valid}
+use Rattle.modes.specs.Model.{IsAmc, Unlent, pusc-dl, pusc-ul, ofusc, amc, Ranged, own, fusc, Valid}
 use Rattle.rows.specs.Model.{shiftOf, pointPlace}
 use Rattle.modes.proofs.Choice.{amc-shape, at-0, at-1, at-2, at-amc, by-mode}
 use Rattle.modes.proofs.ByMode.{in-pusc-dl, in-pusc-ul, in-ofusc, in-amc, bin-width, amc-width, shape-symbols, few}
@@ -22,6 +22,7 @@ use Rattle.map.proofs.{Asks.amc-spot, Slot.slot-law}
 use Rattle.pusc_ul_rows.specs.Model as pusc-ul
 use Rattle.ofusc_rows.specs.Model as ofusc
 use Rattle.amc_rows.specs.Model as amc
+use Rattle.fusc.specs.Map as fusc-map
 use Rattle.pusc_dl.specs.Map as pusc-dl-map
 use Rattle.ofusc.specs.Map as ofusc-map
 use Rattle.amc.specs.Map as amc-map
@@ -72,6 +73,7 @@ bin-size (own (pusc-dl h)) q = absurd (omega arith)
 bin-size (own (pusc-ul h)) q = absurd (omega arith)
 bin-size (own (ofusc w h)) q = absurd (omega arith)
 bin-size (own (amc {n = n} q′ w h)) q = omega arith
+bin-size (fusc h) q = absurd (omega arith)
 
 module _ (c : Setup) (slot s : ℕ) where
   shift-none : (m : ℕ) → m < 48 → shiftOf c s ≡ 0 → (m + shiftOf c s) % 48 ≡ m
@@ -125,7 +127,8 @@ shift-lt c s =
     cases (eqb (c .mode) 0) (λ e. rw e (lit< tt))
     (λ e. rw e (cases (eqb (c .mode) 1) (λ e₁. rw e₁ (omega arith))
     (λ e₁. rw e₁ (cases (eqb (c .mode) 2) (λ e₂. rw e₂ (omega arith))
-    (λ e₂. rw e₂ (cases (isAmc (c .mode)) (λ e₃. rw e₃ (omega arith)) (λ e₃. rw e₃ (lit< tt))))))))
+    (λ e₂. rw e₂ (cases (isAmc (c .mode)) (λ e₃. rw e₃ (omega arith))
+    (λ e₃. rw e₃ (cases (eqb (c .mode) 7) (λ e₇. rw e₇ (omega arith)) (λ e₇. rw e₇ (lit< tt))))))))))
 
 -- in the modes before AMC a row starts at the same number in the grid as in the numbers of spots: either the size is 2048 or there is one row
 row-start : {c : Setup} → Ranged c → c .mode < 3 → (row : ℕ) → row < symbols c → row * 2048 ≡ row * c .size
@@ -134,6 +137,7 @@ row-start (own (pusc-dl h)) l row r = omega arith
 row-start (own (pusc-ul h)) l row r = omega arith
 row-start (own (ofusc {n = n} w h)) l row r = let z : row ≡ 0 = omega arith in rw z (omega arith)
 row-start (own (amc q w h)) l row r = absurd (omega arith)
+row-start (fusc h) l row r = absurd (omega arith)
 
 early-symbols : {c : Setup} → Ranged c → c .mode < 3 → symbols c ≤ 3
 unfolding symbolsOf
@@ -141,6 +145,7 @@ early-symbols (own (pusc-dl h)) l = omega arith
 early-symbols (own (pusc-ul h)) l = omega arith
 early-symbols (own (ofusc w h)) l = omega arith
 early-symbols (own (amc q w h)) l = absurd (omega arith)
+early-symbols (fusc h) l = absurd (omega arith)
 
 module _ {c : Setup} (v : Valid c) (early : c .mode < 3) (slot s : ℕ) (hs : s < subchannels c) where
   lies : (m : ℕ) → m < 48 → DataSpot (symbols c) (band c .used) (λ o u. isPilot c (slot * symbols c + o) u) (spotOf c slot s m)
@@ -169,3 +174,10 @@ module _ {c : Setup} (v : Valid c) (early : c .mode < 3) (slot s : ℕ) (hs : s 
         turned-by (shiftOf c s) (λ m. spotNumber (spotOf c slot s m)) (carrierStep (band c)) row row′ t e m h
         ∙ step-carrier (band c) (spotOf c slot s m) (omega (arith, few (v .ranged), lies m h .used-lt))
         ∙ by-size m h
+
+-- a row of FUSC, whose slot has one symbol
+pub row-7 : {c : Setup} → Ranged c → c .mode ≡ 7 → (slot s : ℕ) (row : List ℕ)
+    → Turned (13 * s % 48) (λ m. carrierOf fuscBand (fusc-map.spotOf (c .pilots) (c .cell) s m .used)) row → Turned (shiftOf c s) (pointPlace c slot s) row
+unfolding spotOf shiftOf bandOf fusc-map.spotOf
+row-7 (own u) e slot s row t m h = absurd (omega (arith, unlent-mode u))
+row-7 (fusc l) e slot s row t m h = t m h ∙ omega arith

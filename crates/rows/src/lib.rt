@@ -35,6 +35,9 @@ fn shift(setup: Setup, subchannel: usize) -> usize
     if modes::is_amc(setup.mode) {
         return setup.cell % 48;
     }
+    if setup.mode == 7 {
+        return 13 * subchannel % 48;
+    }
     0
 }
 
@@ -55,7 +58,7 @@ fn spots(setup: Setup, slot: usize, subchannel: usize) -> [u16; 48]
     )
 }
 
-// The carriers of a subchannel's points, index 0 at place `shift`.
+// The carriers of a subchannel's points in the modes whose pilots are their own, index 0 at place `shift`.
 fn carrier_row(setup: Setup, slot: usize, subchannel: usize) -> [u16; 48]
     requires { ⌜ Unlent (alone setup) ⌝ }
     requires { ⌜ subchannel < subchannels (alone setup) ⌝ }
@@ -81,6 +84,12 @@ pub fn subchannel_row(setup: Setup, slot: usize, subchannel: usize, pilots: &[u3
     ensures { λ r. ⌜ RowOf (lent setup (now (pilots .entry))) slot subchannel r ⌝ }
 {
     let shift = shift(setup, subchannel);
+    if setup.mode == 7 {
+        return CarrierRow {
+            shift: shift,
+            carriers: fusc_rows::carrier_row(setup.cell, subchannel, pilots),
+        };
+    }
     CarrierRow {
         shift: shift,
         carriers: carrier_row(setup, slot, subchannel),

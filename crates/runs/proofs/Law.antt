@@ -15,7 +15,7 @@ use Rattle.pusc_ul.specs.Tile.{isTilePilot}
 use Rattle.modes.specs.{Setup.{Setup, setupLent, setupWith}, Mode.{width, widthOf, band, bandOf}}
 use Rattle.map.specs.Formula.{isPilot}
 use Rattle.modes.specs.Model.{IsListed, OverBins, Unlent, pusc-dl, pusc-ul, ofusc, amc}
-use Rattle.modes.proofs.{Choice.{amc-not-0, amc-column, bins-column, none-column}, Accept.width-is}
+use Rattle.modes.proofs.{Choice.{amc-not-0, amc-column, bins-column, past-column}, Accept.width-is}
 use Rattle.mask.specs.Mask.{isUsedLitOf, isUsedLit}
 use Rattle.runs.specs.Model.{runStep, runCount, tileRuns, runFirst, runSecond, runsOf, runPlace, pointsBelow, runPoints, pointsWithin, LitRuns}
 use Rattle.runs.specs.Model.{IsRun, runLit}
@@ -35,9 +35,9 @@ module _ (c : Setup) (y : ℕ) where
   unfolding runFirst runSecond runStep runCount
   runs-bins o = simp bins-column
 
-  pub runs-none : (IsListed (c .mode) → ⊥) → record { first = 0; second = 0; step = 1; count = 0 } ≡ runsOf c y
+  pub runs-none : 7 ≤ c .mode → record { first = 0; second = 0; step = 1; count = 0 } ≡ runsOf c y
   unfolding runFirst runSecond runStep runCount
-  runs-none n = simp none-column
+  runs-none h = simp past-column
 
 -- a point of a run lies below a place exactly when it is one of those that are counted there
 module _ (b : Runs) (j place : ℕ) where
