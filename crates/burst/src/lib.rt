@@ -1,10 +1,9 @@
 // A burst, a rectangle of subchannels by slots: the one at a position of a list, what it covers, whether it lies in its zone,
-// and whether two overlap.
+// and whether two runs of numbers have one in common.
 ghost use mathlib.Core.Path.{_≡_};
 ghost use Prim.Native.Nat.{_+_, _*_, _<_};
 ghost use lib.ListN.{length};
 ghost use Rattle.burst.specs.Burst.{burstAt, isOf, isCovering, isWithin, isInside, isShared};
-ghost use Rattle.burst.specs.Model.{edgesOverlap};
 
 // A rectangle: the first subchannel and how many, the first slot and how many.
 pub struct Burst {
@@ -73,16 +72,8 @@ pub fn burst_at(bursts: &[u32], i: usize) -> Burst
 }
 
 // Have two runs of numbers, each from its first to before its end and neither empty (18 comes before), one in common?
-fn is_shared(first: u16, end: u16, other: u16, other_end: u16) -> bool
+pub fn is_shared(first: u16, end: u16, other: u16, other_end: u16) -> bool
     ensures { λ r. ⌜ r ≡ isShared first end other «other_end» ⌝ }
 {
     (first < other_end) & (other < end)
-}
-
-// Do two bursts with these edges overlap?
-pub fn is_overlap(a: Edges, b: Edges) -> bool
-    ensures { λ r. ⌜ r ≡ edgesOverlap a b ⌝ }
-{
-    is_shared(a.start, a.end, b.start, b.end)
-        & is_shared(a.slot_start, a.slot_end, b.slot_start, b.slot_end)
 }

@@ -1,8 +1,6 @@
 -- What inner functions say. No reader needs this to know what the calls do.
-use mathlib.Core.Path.{_≡_}
 use mathlib.Core.List.{List}
-use Prim.Native.Nat.{ℕ, _+_, _<_}
-use lib.ListN.{length}
+use Prim.Native.Nat.{ℕ}
 use Rattle.base.specs.Answer.{accepted, refusalOf}
 use Rattle.base.specs.Steps.{entry}
 use Rattle.burst.specs.declared.Edges.{Edges}
@@ -12,12 +10,6 @@ use Rattle.burst_list.specs.List.{askList}
 unfoldable pub listRefusal : (subchannelEnd slotEnd : ℕ) (numbers : List ℕ) → ℕ
 listRefusal subchannelEnd slotEnd numbers = refusalOf (askList {A = Unit {0}} subchannelEnd slotEnd numbers (accepted tt))
 
--- The edges of 64 bursts stand in four columns, one behind the other; these are those of the burst at a position.
-abbrev pub edgesAt : (columns : List ℕ) (i : ℕ) → Edges
-edgesAt columns i = record { start = entry columns i; end = entry columns (64 + i); «slot_start» = entry columns (128 + i); «slot_end» = entry columns (192 + i) }
-
--- Columns of 64 that hold a burst's edges at a position, and at every other what they held before.
-pub record Kept (before : List ℕ) (i : ℕ) (edges : Edges) (columns : List ℕ) : Type 0 where
-  pub long : length columns ≡ 256
-  pub there : edgesAt columns i ≡ edges
-  pub elsewhere : (k : ℕ) → k < i → edgesAt columns k ≡ edgesAt before k
+-- The edges of the bursts stand in four columns; these are those of the burst at a position.
+abbrev pub edgesAt : (starts ends slotStarts slotEnds : List ℕ) (i : ℕ) → Edges
+edgesAt starts ends slotStarts slotEnds i = record { start = entry starts i; end = entry ends i; «slot_start» = entry slotStarts i; «slot_end» = entry slotEnds i }
