@@ -299,7 +299,8 @@ prints a line for each point, by subchannel and index: the first is "subchannel 
 
 def add_collisions(commands):
     summary = "where one subchannel of a cell and one of a different cell share a carrier (optional FUSC), or\n"
-    summary += "where both cells put the same index of a subchannel on the same carrier of the same symbol (AMC); not for PUSC"
+    summary += "where both cells put the same index of a subchannel on the same carrier of the same symbol (AMC);\n"
+    summary += "not for PUSC and FUSC"
     kinds = branch(commands, "collisions", summary)
     example = "  bellpulsar collisions ofusc 2048 0 2 1010 0\n  count 4 groups 0 1 31 32"
     example += """
