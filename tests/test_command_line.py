@@ -1311,7 +1311,8 @@ class Json(Case):
         self.assertEqual(last, numbers_in(self.text(line).splitlines()[-1]))
 
     def test_refusals(self):
-        lines = ["place 7 0 0 0 0 0", "locate 2 256 0 0 128", "table 2 256 0 512", "first 0 2048 0 0 0 --mask 64"]
+        lines = ["place 8 0 0 0 0 0", "place 7 2048 0 0 0 0", "locate 7 2048 0 0 0 --pilots 5", "locate 2 256 0 0 128"]
+        lines += ["table 2 256 0 512", "first 0 2048 0 0 0 --mask 64"]
         lines += ["collisions amc 0 2352", "plan read 81 00", "plan write 1024", "bursts 2 256 0 1 0,0,0,0"]
         lines += ["owner 2 256 0 1 0 4 0,1,0,1", "owners 2 256 0 1 512 0,1,0,1"]
         for line in lines:
