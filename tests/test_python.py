@@ -2043,7 +2043,28 @@ def last_line(done):
     return done.stderr.splitlines()[-1]
 
 
+def kind_of(parameter):
+    """Of a parameter of the header: whether a number, a signed one, a length or a pointer."""
+    if "*" in parameter or "[" in parameter:
+        return "pointer"
+    return {"uint32_t": "number", "int32_t": "signed", "size_t": "length"}[parameter.split()[0]]
+
+
+def kind_passed(argument):
+    """The same of an argument's type in the module."""
+    kinds = {ctypes.c_uint32: "number", ctypes.c_int32: "signed", ctypes.c_size_t: "length"}
+    return kinds.get(argument, "pointer")
+
+
 class Loading(unittest.TestCase):
+    def test_the_calls_as_the_header_has_them(self):
+        with open(os.path.join(ROOT, "include", "bellpulsar.h")) as file:
+            text = re.sub(r"/\*.*?\*/", "", file.read(), flags=re.DOTALL)
+        calls = re.findall(r"^(?:uint32_t|size_t) (bp_\w+)\(([^)]*)\);", text, re.MULTILINE)
+        told = {name: [] if fields == "void" else list(map(kind_of, fields.split(","))) for name, fields in calls}
+        self.assertEqual(len(told), 19)
+        self.assertEqual(told, {name: list(map(kind_passed, kinds)) for name, kinds in library._PROTOTYPES.items()})
+
     def test_the_library_is_found_from_anywhere(self):
         self.assertEqual(imported_with("").stdout, "Place(symbol=0, carrier=-425)\n")
 
