@@ -87,8 +87,8 @@ STREAM_RULES = (
 Both files are raw complex 32-bit floats, in-phase first, in the byte order of this machine, as SDR tools write them;
 - is standard input or output. A slot's points are those of its lit subchannels, rising, 48 each by index. A slot's grid
 is its symbols one after the other, each SIZE points by rising carrier.
-The slots of a frame follow one another, COUNT of them from FIRST on; then comes the next frame, from FIRST on again. No
-bytes are no slots. An input that ends within a slot is an error, which says how many bytes the last slot has and how
+The slots of a frame follow one another, COUNT of them from FIRST on; then comes the next frame, from FIRST on again. In
+mode 7 all of them have the same PILOTS. No bytes are no slots. An input that ends within a slot is an error, which says how many bytes the last slot has and how
 many it should have; a file is told so before anything is written.
 OUTPUT is written whole or left as it was, and may be INPUT itself; a pipe, a device and standard output have each slot
 as soon as it is done. Where OUTPUT is -, a refusal is told on standard error.
@@ -299,7 +299,8 @@ prints a line for each point, by subchannel and index: the first is "subchannel 
 
 def add_collisions(commands):
     summary = "where one subchannel of a cell and one of a different cell share a carrier (optional FUSC), or\n"
-    summary += "where both cells put the same index of a subchannel on the same carrier of the same symbol (AMC); not for PUSC"
+    summary += "where both cells put the same index of a subchannel on the same carrier of the same symbol (AMC);\n"
+    summary += "not for PUSC and FUSC"
     kinds = branch(commands, "collisions", summary)
     example = "  bellpulsar collisions ofusc 2048 0 2 1010 0\n  count 4 groups 0 1 31 32"
     example += """
