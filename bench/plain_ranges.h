@@ -4,11 +4,13 @@
 #define PLAIN_RANGES_H
 
 #include <stdbool.h>
+#include <stddef.h>
 #include <stdint.h>
 
 enum { PUSC_DL, PUSC_UL, OFUSC, AMC, AMC_2X3, AMC_3X2, AMC_1X6, FUSC, MODES };
 enum { SLOTS = 512, INDICES = 48, AMC_CELLS = 2352 };
 enum { GROUPS = 6, FULL_MASK = 63 }; // of PUSC downlink; the other modes have mask 0
+enum { PILOTS = 166, FUSC_USED = 1702 }; // of FUSC: the entries of its pilot list, and its used numbers
 static const uint8_t first_subchannel[GROUPS] = {0, 12, 20, 32, 40, 52};
 
 static inline bool is_bin_size(uint32_t size) { return size == 256 || size == 512 || size == 1024 || size == 2048; }
@@ -53,6 +55,15 @@ static inline bool is_lit(uint32_t mode, uint32_t mask, uint32_t s) {
 // Question 17.
 static inline bool is_mask(uint32_t mode, uint32_t mask) {
     return mode == PUSC_DL ? mask >= 1 && mask <= FULL_MASK : mask == 0;
+}
+
+// Question 20: a list that rises has none beyond its last.
+static inline bool is_pilot_list(uint32_t mode, const uint32_t *pilots, size_t len) {
+    uint32_t falls = 0;
+    if (mode != FUSC) return len == 0;
+    if (len != PILOTS) return false;
+    for (uint32_t i = 1; i < PILOTS; i++) falls |= pilots[i - 1] >= pilots[i];
+    return !falls && pilots[PILOTS - 1] < FUSC_USED;
 }
 
 // The first of questions 1, 2 and 3 that is answered no, or 0.

@@ -16,6 +16,7 @@ import sys
 from array import array
 from collections import Counter
 from functools import lru_cache, partial
+from itertools import cycle
 from operator import itemgetter
 
 import burst_lists
@@ -124,19 +125,19 @@ def pointer(dice, address, length):
 LIST_PIECE = 4 * (2 * pilot_lists.COUNT)  # bytes: twice the right length
 
 # Cases of a call that has a pilot list: each kind and each damage in FUSC, and any list in another mode and size.
-LISTS = [("list", kind) for kind in [*pilot_lists.GOOD, "random", *pilot_lists.DAMAGES, "long"]]
+LISTS = [("list", kind) for kind in [*pilot_lists.GOOD, "random", *pilot_lists.DAMAGES] + ["long"] * lent.HAS_LONG]
 LISTS += [("list", *setup) for setup in SETUPS if setup[0] != ref.FUSC]
 
 
 class Lent:
     """A pilot list as it is lent to a call: its kind, its numbers, and the numbers that stand in memory."""
 
+    in_turn = cycle(pilot_lists.GOOD.items())
     good = []  # the kinds and the lists that FUSC has in this turn
 
     @classmethod
     def next_turn(cls, dice):
-        kind = dice.choice(list(pilot_lists.GOOD))
-        cls.good = [(kind, pilot_lists.GOOD[kind]), ("random", pilot_lists.random_list(dice))]
+        cls.good = [next(cls.in_turn), ("random", pilot_lists.random_list(dice))]
 
     def __init__(self, dice, mode, last=True):
         """Most often one that the mode takes. Behind it stand numbers that go on with it. Last: no other piece is behind
@@ -225,8 +226,8 @@ def place_in(dice, mode, size, slot):
 
 class Locate:
     name, arena = "bp_locate", Arena(4, 4, 4, 4, LIST_PIECE)
-    KINDS = [(ref.GUARD,), (ref.DC,), (ref.PILOT,), (ref.DATA,)]
-    refusals, cases = [1, 2, 3, 4, 7, 20], CARRIERS + KINDS + [(*kind, ref.FUSC) for kind in KINDS] + LISTS
+    FOUND = [(kind, mode) for kind in KINDS for mode in ref.MODES]
+    refusals, cases = [1, 2, 3, 4, 7, 20], CARRIERS + FOUND + LISTS
 
     def request(self, dice, noise, mode, size, cell, mask, slot):
         place, limits = place_in(dice, mode, size, slot)
@@ -236,7 +237,7 @@ class Locate:
         number, what = ref.locate(*fields, pilots.numbers)
         written = [] if number else [(i, words([x])) for i, x in enumerate((KINDS[what[0]],) + what[1:])]
         met = [(*fields[:2], number, side(fields[4]))] + pilots.met(fields, number)
-        met += [] if number else [what[:1], (what[0], fields[0])]
+        met += [] if number else [(what[0], fields[0])]
         *outs, last = map(self.arena.address, range(5))
         return fields + pilots.arguments(dice, last) + outs, [(4, pilots.given)], number, written, met
 

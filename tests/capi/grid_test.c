@@ -4,8 +4,8 @@
    alone, where every float but its own keeps its bits, and all are made in a shuffled order with repeats, where the last
    one of a subchannel counts; an unlit one is refused. The first carriers are emptied by every count from 0 to past the
    grid's end, and by two counts in turn. All 63 masks of PUSC downlink are gone through, and pilot lists of every kind in
-   FUSC. Then every set of wrong fields: the first refusal, and nothing written. Floats are read and written as bit patterns
-   only. Run by run.sh. */
+   FUSC. Then every set of wrong fields, of place, places and locate too: the first refusal, and nothing written. Floats are
+   read and written as bit patterns only. Run by run.sh. */
 #include <inttypes.h>
 #include <stddef.h>
 #include <stdint.h>
@@ -732,6 +732,51 @@ static int look_refusal_agrees(const struct setup *s, unsigned wrong_fields, uns
            all_untouched();
 }
 
+/* Of a call without a mask: the fourth field of a set is the slot. */
+static struct fields maskless(const struct setup *s, uint32_t slots, unsigned wrong_fields, unsigned turn)
+{
+    return fields_of(s, slots, (wrong_fields & 7) | (wrong_fields & 8) << 1, turn);
+}
+
+static int place_refusal_agrees(const struct setup *s, unsigned wrong_fields, unsigned turn)
+{
+    static const uint32_t questions[] = {1, 2, 3, 4, 5, 6, 20, 0};
+    struct fields f = maskless(s, SLOTS, wrong_fields, turn);
+    uint32_t subchannel = wrong_fields & 16 ? past(s->subchannels, turn) : s->subchannels - 1;
+    uint32_t index = wrong_fields & 32 ? past(POINTS, turn) : POINTS - 1;
+    const struct pilot_list *list = some_list(s, wrong_fields & 64, turn);
+    struct out symbol = fresh();
+    int32_t carrier = INT32_MIN;
+    return bp_place(f.mode, f.size, f.cell, f.slot, subchannel, index, list->numbers, list->len, &symbol.value, &carrier) ==
+               first_refusal(wrong_fields, questions) &&
+           told(&symbol, untold) && carrier == INT32_MIN;
+}
+
+static int places_refusal_agrees(const struct setup *s, unsigned wrong_fields, unsigned turn)
+{
+    static const uint32_t questions[] = {1, 2, 3, 4, 5, 20, 0};
+    struct fields f = maskless(s, SLOTS, wrong_fields, turn);
+    uint32_t subchannel = wrong_fields & 16 ? past(s->subchannels, turn) : s->subchannels - 1;
+    const struct pilot_list *list = some_list(s, wrong_fields & 32, turn);
+    uint32_t places[POINTS];
+    memcpy(places, old_bits, sizeof places);
+    return bp_places(f.mode, f.size, f.cell, f.slot, subchannel, list->numbers, list->len, places) ==
+               first_refusal(wrong_fields, questions) &&
+           memcmp(places, old_bits, sizeof places) == 0;
+}
+
+static int locate_refusal_agrees(const struct setup *s, unsigned wrong_fields, unsigned turn)
+{
+    static const uint32_t questions[] = {1, 2, 3, 4, 7, 20, 0};
+    struct fields f = maskless(s, SLOTS * s->symbols, wrong_fields, turn);
+    int32_t carrier = wrong_fields & 16 ? wrong_carrier(s, turn) : turn % 2 ? -half(s) : half(s) - 1;
+    const struct pilot_list *list = some_list(s, wrong_fields & 32, turn);
+    struct out kind = fresh(), slot = fresh(), subchannel = fresh(), index = fresh();
+    return bp_locate(f.mode, f.size, f.cell, f.slot, carrier, list->numbers, list->len, &kind.value, &slot.value,
+                     &subchannel.value, &index.value) == first_refusal(wrong_fields, questions) &&
+           told(&kind, untold) && told(&slot, untold) && told(&subchannel, untold) && told(&index, untold);
+}
+
 /* Each call and how many of its fields can be wrong. */
 static const struct refusing {
     const char *name;
@@ -743,6 +788,9 @@ static const struct refusing {
     {"empty", 8, empty_refusal_agrees},
     {"empty_first", 8, empty_first_refusal_agrees},
     {"look", 8, look_refusal_agrees},
+    {"place", 7, place_refusal_agrees},
+    {"places", 6, places_refusal_agrees},
+    {"locate", 6, locate_refusal_agrees},
 };
 
 static int call_refuses(const struct refusing *call, const struct setup *s)
