@@ -4,7 +4,7 @@
 //     files place <requests >answers
 //
 // fill takes the points of SLOTS slots in a row again and again, the first of them slot 0. place takes lines of six
-// numbers behind the word place.
+// numbers behind the word place. Neither has a pilot list, so that there is no FUSC.
 #include "bellpulsar.h"
 
 #include <stdio.h>
@@ -50,7 +50,8 @@ static uint32_t lit_subchannels(struct zone z, uint32_t lit[MOST_SUBCHANNELS], f
     static const float points[LAID];
     uint32_t count = 0;
     for (uint32_t s = 0; s < MOST_SUBCHANNELS; s++)
-        if (bp_lay(z.mode, z.size, z.cell, z.mask, 0, s, points, LAID, grid, grid_len) == BP_ACCEPTED) lit[count++] = s;
+        if (bp_lay(z.mode, z.size, z.cell, z.mask, 0, s, NULL, 0, points, LAID, grid, grid_len) == BP_ACCEPTED)
+            lit[count++] = s;
     return count;
 }
 
@@ -69,10 +70,10 @@ static int fill(struct zone z) {
             float pilot[2] = {1, 0}, *own = points + at * points_len, *grid = grids + at * grid_len;
             uint32_t refused = 0;
             if (phases[at] != slot % PHASES)
-                refused |= bp_ground(z.mode, z.size, z.cell, z.mask, slot, pilot, grid, grid_len);
+                refused |= bp_ground(z.mode, z.size, z.cell, z.mask, slot, NULL, 0, pilot, grid, grid_len);
             phases[at] = slot % PHASES;
             for (uint32_t rank = 0; rank < count; rank++, own += LAID)
-                refused |= bp_lay(z.mode, z.size, z.cell, z.mask, slot, lit[rank], own, LAID, grid, grid_len);
+                refused |= bp_lay(z.mode, z.size, z.cell, z.mask, slot, lit[rank], NULL, 0, own, LAID, grid, grid_len);
             if (refused) fail("refused");
         }
         write_bytes(grids, got * grid_len * sizeof *grids);
@@ -87,7 +88,8 @@ static int place(void) {
         int32_t carrier;
         char *at = line + strlen("place");
         for (int i = 0; i < 6; i++) field[i] = (uint32_t)strtoul(at, &at, 10);
-        if (bp_place(field[0], field[1], field[2], field[3], field[4], field[5], &symbol, &carrier)) fail("refused");
+        if (bp_place(field[0], field[1], field[2], field[3], field[4], field[5], NULL, 0, &symbol, &carrier))
+            fail("refused");
         printf("symbol %u carrier %d\n", symbol, carrier);
     }
     return 0;

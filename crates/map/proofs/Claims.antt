@@ -16,7 +16,8 @@ use Rattle.map.proofs.Law.{in-own-slot, data-placed, dc-content, pilot-
 use Rattle.map.proofs.Slot.{slot-law}
 use Rattle.modes.proofs.Whole.{band-law, centred}
 
-passed : (setup : Setup) → Passes setup → Valid setup
+-- what the premise of the law comes to
+pub passed : (setup : Setup) → Passes setup → Valid setup
 passed setup e =
     let q = setup-asked setup _ e in
     record { ranged = q .0; is-lent = ask-yes (isLent setup) 20 _ (q .1) .0 }

@@ -1,12 +1,13 @@
--- `capi_grid::bp_places` meets its contract.
+-- `capi_subchannel::bp_places` meets its contract.
 use Rattle.base.proofs.Prelude.{_≡_, needs}
-use Rattle.modes.specs.Setup.{setupWith}
+use denote.Ref.{now}
+use Rattle.modes.specs.Setup.{setupLent}
 use Rattle.places.specs.Places.{placesOf}
 use Rattle.c_boundary.proofs.Row.{row-no, row-yes}
-use Rattle.capi_grid.proofs.bp_places.Statement.{statement}
-use Rattle.capi_grid.proofs.bp_places.Tie as tie
+use Rattle.capi_subchannel.proofs.bp_places.Statement.{statement}
+use Rattle.capi_subchannel.proofs.bp_places.Tie as tie
 
-asked : (c : tie.After-row) → let a = c .before .before .args in c .row .result ≡ placesOf (setupWith (a .mode) (a .size) (a .cell)) (a .slot) (a .subchannel)
+asked : (c : tie.After-row) → let a = c .before .before .before .args in c .row .result ≡ placesOf (setupLent (a .mode) (a .size) (a .cell) (now (a .pilots))) (a .slot) (a .subchannel)
 asked c = rw (c .before .setup .ensures) at (c .row .ensures)
 
 pub bp-places-spec : {M : Type 1} → statement M

@@ -1,7 +1,7 @@
--- `capi_grid::bp_lay` meets its contract.
+-- `capi_subchannel::bp_lay` meets its contract.
 use Rattle.base.proofs.Prelude.{needs}
-use Rattle.capi_grid.proofs.bp_lay.Statement.{statement}
-use Rattle.capi_grid.proofs.bp_lay.Tie as tie
+use Rattle.capi_subchannel.proofs.bp_lay.Statement.{statement}
+use Rattle.capi_subchannel.proofs.bp_lay.Tie as tie
 
 returns : tie.Need-returns
 returns c = rw (c .before .before .before .before .setup .ensures) at (c .before .before .lay .ensures)
