@@ -19,25 +19,25 @@ carrier-requires : tie.Need-carrier-requires Inv-loop μ-loop
 carrier-requires c κs =
     let start = c .before .before .before .before .before .before .before .before in
     let f = few (ranged-alone (start .pre .0)) in
-    let i = c .before .before .before .loop-test .taken in
-    (rw (c .before .before .before .before .before .band .ensures) (omega arith), omega (arith, c .before .wide .ensures, entry-used (start .pre .0) (start .pre .1 .0) _ i))
+    let in-loop = c .before .before .before in
+    (rw (c .before .before .before .before .before .band .ensures) (omega arith), omega (arith, c .before .wide .ensures, entry-used (start .pre .0) (start .pre .1 .0) (in-loop .before .loop .i) (omega (arith, in-loop .loop-test .taken))))
 
 put-point-requires : tie.Need-put-point-requires Inv-loop μ-loop
 put-point-requires c κs =
     let start = c .before .before .before .before .before .before .before .before .before in
     let in-loop = c .before .before .before .before in
     rw (c .carrier .ensures, c .before .before .wide .ensures)
-    (omega (arith, entry-in (start .pre .0) (start .pre .1 .0) _ (in-loop .before .before .band .ensures) _ (in-loop .loop-test .taken), putting-long (in-loop .before .loop .inv), start .pre .1 .1))
+    (omega (arith, entry-in (start .pre .0) (start .pre .1 .0) _ (in-loop .before .before .band .ensures) (in-loop .before .loop .i) (omega (arith, in-loop .loop-test .taken)), putting-long (in-loop .before .loop .inv), start .pre .1 .1))
 
 loop-again : tie.Need-loop-again Inv-loop μ-loop
 loop-again c =
     let in-loop = c .before .before .before .before .before .before .before in
-    putting-next (in-loop .before .loop .inv) (in-loop .loop-test .taken) _ (c .before .before .before .carrier .ensures ∙ ap (carrierOf _) (c .before .before .before .before .before .wide .ensures)) _ refl _ (c .before .before .put-point .ensures)
+    putting-next (in-loop .before .loop .inv) (omega (arith, in-loop .loop-test .taken)) _ (c .before .before .before .carrier .ensures ∙ ap (carrierOf _) (c .before .before .before .before .before .wide .ensures)) _ refl _ (c .before .before .put-point .ensures)
 
 returns : tie.Need-returns Inv-loop μ-loop
 returns c =
     let start = c .before .before .before .before .before in
-    list-put (start .pre .0) (start .pre .1 .0) _ _ _ _ (c .before .before .band .ensures) _ (start .pre .1 .1) _ (putting-done (c .before .loop .inv) (c .loop-test .left))
+    list-put (start .pre .0) (start .pre .1 .0) _ _ _ _ (c .before .before .band .ensures) _ (start .pre .1 .1) _ (putting-done (c .before .loop .inv) (omega (arith, c .loop-test .left)))
 
 pub list-pilots-spec : {M : Type 1} → statement M
 list-pilots-spec =
