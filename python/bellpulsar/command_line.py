@@ -88,8 +88,8 @@ Both files are raw complex 32-bit floats, in-phase first, in the byte order of t
 - is standard input or output. A slot's points are those of its lit subchannels, rising, 48 each by index. A slot's grid
 is its symbols one after the other, each SIZE points by rising carrier.
 The slots of a frame follow one another, COUNT of them from FIRST on; then comes the next frame, from FIRST on again. In
-mode 7 all of them have the same PILOTS. No bytes are no slots. An input that ends within a slot is an error, which says how many bytes the last slot has and how
-many it should have; a file is told so before anything is written.
+mode 7 all of them have the same PILOTS. No bytes are no slots. An input that ends within a slot is an error, which says
+how many bytes the last slot has and how many it should have; a file is told so before anything is written.
 OUTPUT is written whole or left as it was, and may be INPUT itself; a pipe, a device and standard output have each slot
 as soon as it is done. Where OUTPUT is -, a refusal is told on standard error.
 Where standard error is a terminal, work that takes long shows there how far it is.

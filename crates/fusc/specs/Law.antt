@@ -2,6 +2,6 @@
 use Rattle.base.specs.Permutation.{Permutation}
 use Rattle.fusc.specs.Table as table
 
--- Document 02, wish 8: the sequence, of 32 entries, is a permutation.
+-- The sequence of document 000, of 32 entries, is a permutation: it is printed there as the basic permutation sequence.
 pub record TableRules : Type 0 where
   pub sequence : Permutation 32 table.sequence table.sequenceInverse

@@ -83,7 +83,7 @@ pub const SEQUENCE_INVERSE: [u8; 32] = [
 ];
 
 // The data number of point `index` of a subchannel.
-pub fn data_number(cell: usize, subchannel: usize, index: usize) -> usize
+fn data_number(cell: usize, subchannel: usize, index: usize) -> usize
     requires { ⌜ (cell < 32) × (subchannel < 32) × (index < 48) ⌝ }
     ensures { λ r. ⌜ r ≡ dataNumber cell subchannel index ⌝ }
 {

@@ -31,7 +31,7 @@ fn moves(pilots: &[u32]) -> [u16; 1537]
     let mut table = [0u16; 1537];
     let mut i = 0;
     while i < 166 {
-        let d = pilot_list::wide(pilots[i]) - i;
+        let d = pilot_list::wide32(pilots[i]) - i;
         table[d] = table[d] + 1;
         i += 1;
     }
@@ -64,7 +64,7 @@ fn pass(pilots: &[u32], d: usize, from: usize) -> usize
 {
     let mut j = from;
     while j < 166 {
-        if d + j < pilot_list::wide(pilots[j]) {
+        if d + j < pilot_list::wide32(pilots[j]) {
             return j;
         }
         j += 1;

@@ -1,12 +1,11 @@
 -- The walk over the data carriers of a symbol of FUSC: each point is dropped at its number, one data number after another.
-use Rattle.base.proofs.Prelude.{_≡_, refl, sym, ap, ap₂, _∙_, true, List, ℕ, zero, suc, _+_, _*_, _/_, _%_, _<_, _≤_, arith, eqb, ltb, length, eqb-true, eqb-false, ltb-true, ltb-false, ne-eqb}
+use Rattle.base.proofs.Prelude.{_≡_, sym, ap, ap₂, _∙_, true, List, ℕ, zero, suc, _+_, _*_, _/_, _%_, _<_, _≤_, arith, eqb, ltb, length, eqb-true, eqb-false, ltb-true, ltb-false}
 use Rattle.base.proofs.{Test.cases, Rank.rank-all, Tabulate.entry-of}
 use Rattle.base.specs.{Steps.entry, Tabulate.tabulate}
 use lib.Ieee.{Float}
-use Rattle.base.specs.Rank.{rank}
-use Rattle.carriers.specs.{declared.Spot.Spot, declared.Band.Band, Band.{fuscBand, carrierOf}}
+use Rattle.carriers.specs.Band.{fuscBand, carrierOf}
 use Rattle.carriers.proofs.Guards.{fusc-band, carrier-lt, band-law}
-use Rattle.pilot_list.specs.{List.{isPilotList, usedOfData}, Law.LeftLaw}
+use Rattle.pilot_list.specs.{List.usedOfData, Law.LeftLaw}
 use Rattle.pilot_list.proofs.Law.{left-law}
 use Rattle.fusc.specs.Map.{dataNumber, dataSubchannel, dataIndex}
 use Rattle.fusc.specs.Map as fusc

@@ -2,7 +2,6 @@
 use mathlib.Core.Path.{_≡_}
 use mathlib.Core.List.{List}
 use Prim.Native.Nat.{ℕ, _+_, _*_, _<_, _≤_}
-use lib.ListN.{length}
 use lib.Ieee.{Float}
 use Rattle.base.specs.Steps.{entry}
 use Rattle.points.specs.Points.{pointAt}

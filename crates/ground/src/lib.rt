@@ -99,7 +99,7 @@ fn list_pilots(setup: Setup, mask: usize, slot: usize, pilots: &[u32], p: Point,
     let band = modes::band(setup);
     let mut i = 0;
     while i < 166 {
-        let used = pilot_list::wide(pilots[i]);
+        let used = pilot_list::wide32(pilots[i]);
         points::put_point(grid, carriers::carrier(band, used), p);
         i += 1;
     }

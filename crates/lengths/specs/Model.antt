@@ -12,7 +12,7 @@ maskRefusalAt mode size cell mask = refusalOf (askMask {A = Unit {0}} (setupWith
 abbrev pub maskRefusal : (setup : Setup) (mask : ℕ) → ℕ
 maskRefusal setup mask = maskRefusalAt (setup .mode) (setup .size) (setup .cell) mask
 
--- the number of the first of questions 1, 2, 3, 17 and 4 that is answered no, 0 where none is; nor do these
+-- the number of the first of questions 1, 2, 3, 17 and 4 that is answered no, 0 where none is; they do not go by what is lent
 unfoldable pub slotRefusalAt : (mode size cell mask slot : ℕ) → ℕ
 slotRefusalAt mode size cell mask slot = refusalOf (askSlot {A = Unit {0}} (setupWith mode size cell) mask slot (accepted tt))
 

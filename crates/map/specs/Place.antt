@@ -29,7 +29,7 @@ usedCarrier setup used = fromDc (setup .size) (carrierOf (band setup) used)
 unfoldable pub placeAt : (setup : Setup) (slot : ℕ) (spot : Spot) → Place
 placeAt setup slot spot = record { symbol = slot * symbols setup + spot .offset; carrier = usedCarrier setup (spot .used) }
 
--- Document 01, "Grids": placing takes mode, size, cell, slot, subchannel and index and gives the zone's symbol and the carrier. Questions 1, 2, 3, 4, 5, 6; document 02, wish 8: and 20.
+-- Document 01, "Grids": placing takes mode, size, cell, slot, subchannel and index and gives the zone's symbol and the carrier. Questions 1, 2, 3, 4, 5, 6, 20.
 unfoldable pub placeOf : (setup : Setup) (slot subchannel index : ℕ) → Answer Place
 placeOf setup slot subchannel index =
     askSetup setup
@@ -62,7 +62,7 @@ contentOf setup symbol column =
     (pick (isPilot setup symbol used) pilot
     (dataAt setup symbol (addressOf setup symbol used))))
 
--- Document 01, "Grids": its reverse takes mode, size, cell, the zone's symbol and a carrier and gives guard, DC, pilot or the data address (slot, subchannel, index). Questions 1, 2, 3, 4, 7; document 02, wish 8: and 20, put after 7.
+-- Document 01, "Grids": its reverse takes mode, size, cell, the zone's symbol and a carrier and gives guard, DC, pilot or the data address (slot, subchannel, index). Questions 1, 2, 3, 4, 7, 20.
 unfoldable pub locateOf : (setup : Setup) (symbol : ℕ) (carrier : ℤ) → Answer Content
 locateOf setup symbol carrier =
     askSetup setup

@@ -85,6 +85,7 @@ fn spot(setup: Setup, slot: usize, subchannel: usize, index: usize, pilots: &[u3
 
 fn is_pilot(setup: Setup, symbol: usize, used: usize, pilots: &[u32]) -> bool
     requires { ⌜ Valid (lent setup (now pilots)) ⌝ }
+    requires { ⌜ used < BandOf (alone setup) .used ⌝ }
     ensures { λ r. ⌜ r ≡ isPilot (lent setup (now (pilots .entry))) symbol used ⌝ }
 {
     if setup.mode == 0 {

@@ -8,7 +8,7 @@ use Rattle.ofusc.specs.Width.{Width, n4, n8, n16, n32}
 use Rattle.ofusc.proofs.Sequence.{size, pos}
 use Rattle.modes.specs.{Setup.{Setup, setupLent, setupWith}, Mode.{widthOf, cells, cellsOf, subchannels}}
 use Rattle.modes.specs.Question.{isListed, isMode, isFourSizes, isSizeOf, isSize, isCell, isSlot, isSubchannel, askSetup}
-use Rattle.modes.specs.Model.{IsListed, IsAmc, Unlent, pusc-dl, pusc-ul, ofusc, amc, Ranged, own, fusc}
+use Rattle.modes.specs.Model.{IsListed, IsAmc, pusc-dl, pusc-ul, ofusc, amc, Ranged, own, fusc}
 use Rattle.modes.proofs.Choice.{at-amc, at-none, by-mode, amc-column}
 
 -- N of a size

@@ -4,15 +4,8 @@ use Rattle.ofusc.specs.Width.{Width}
 use Rattle.ofusc.proofs.Sequence.{size}
 use Rattle.amc.proofs.Parts.{symbols-pos, symbols-few, symbols-are}
 use Rattle.modes.specs.{Setup.{Setup, setupLent, setupWith}, Mode.{shapeOf, width, widthOf, cells, cellsOf, subchannels, subchannelsOf, symbols, symbolsOf, band, bandOf}}
-use Rattle.modes.specs.Model.{IsListed, OverBins, IsAmc, pusc-dl, pusc-ul, ofusc, amc, Ranged, own, fusc, Valid}
+use Rattle.modes.specs.Model.{OverBins, IsAmc, pusc-dl, pusc-ul, ofusc, amc, Ranged, own, fusc, Valid}
 use Rattle.modes.proofs.{Choice.{amc-shape, at-amc, by-mode, amc-column}, Accept.width-is}
-
-pub listed-mode : {c : Setup} → Ranged c → IsListed (c .mode)
-listed-mode (own (pusc-dl h)) = omega arith
-listed-mode (own (pusc-ul h)) = omega arith
-listed-mode (own (ofusc w h)) = omega arith
-listed-mode (own (amc q w h)) = omega arith
-listed-mode (fusc h) = omega arith
 
 -- what questions 1, 2 and 3 let pass does not go by what is lent
 pub ranged-with : {mode size cell : ℕ} {pilots other : List ℕ} → Ranged (setupLent mode size cell pilots) → Ranged (setupLent mode size cell other)

@@ -103,9 +103,6 @@ bins-column mode dl ul a full other q = sym (by-mode (at-bins q))
 pub past-column : {A : Type 0} (mode : ℕ) (dl ul spread adjacent a : A) → 7 ≤ mode → byMode mode dl ul spread adjacent a a ≡ a
 past-column mode dl ul spread adjacent a h = sym (by-mode (at-past h))
 
-pub none-column : {A : Type 0} (mode : ℕ) (dl ul spread adjacent full other : A) → (IsListed mode → ⊥) → byMode mode dl ul spread adjacent full other ≡ other
-none-column mode dl ul spread adjacent full other n = sym (by-mode (at-none n))
-
 -- what a function gave for the mode's column
 pub given : {A : Type 0} {mode : ℕ} {dl ul spread adjacent full other a : A} (r : A) → Has mode dl ul spread adjacent full other a → r ≡ a → r ≡ byMode mode dl ul spread adjacent full other
 given r h e = e ∙ by-mode h

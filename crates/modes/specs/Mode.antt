@@ -1,4 +1,4 @@
--- Document 01, "Modes and their ranges", and document 02, wish 2: one column of the table a definition, the modes in order, then what an unlisted mode has.
+-- Document 01, "Modes and their ranges", and document 02, wishes 2 and 8: one column of the table a definition, the modes in order, then what an unlisted mode has.
 use mathlib.Core.Bool.{Bool, false}
 use Prim.Native.Nat.{ℕ, _*_, _/_}
 use lib.Dec.{eqb, leb, ltb}
@@ -39,6 +39,7 @@ widthOf size = size / 64
 abbrev pub width : (setup : Setup) → ℕ
 width setup = widthOf (setup .size)
 
+-- Document 02, wish 8: mode 7 has size 2048, cell 0..31, 32 subchannels, one symbol a slot.
 unfoldable pub cellsOf : (mode size : ℕ) → ℕ
 cellsOf mode size = byMode mode 32 70 (widthOf size * widthOf size) 2352 32 0
 

@@ -1,4 +1,4 @@
--- Document 01, "The questions put to a request, in order": 1 to 7, each a test.
+-- Document 01, "The questions put to a request, in order": 1 to 7, each a test; and document 02's 20.
 use mathlib.Core.Bool.{Bool, true, false}
 use Prim.Native.Nat.{ℕ, _*_}
 use lib.Dec.{eqb, ltb}

@@ -1,4 +1,4 @@
-// Modes and their ranges: the columns of the table and questions 1, 2 and 3.
+// Modes and their ranges: the columns of the table, and questions 1, 2, 3 and 20.
 use amc::Shape;
 use carriers::Band;
 ghost use mathlib.Core.Path.{_≡_};

@@ -7,7 +7,7 @@ ghost use lib.ListN.{length};
 ghost use Rattle.pilot_list.specs.List.{isIn, isRising, isPilotList, usedOfData, dataOfUsed};
 
 // A number of 32 bits, as one to count with.
-pub fn wide(n: u32) -> usize
+pub fn wide32(n: u32) -> usize
     ensures { λ r. ⌜ r ≡ n ⌝ }
 {
     n as usize
@@ -42,12 +42,14 @@ pub fn is_pilot_list(pilots: &[u32]) -> bool
 
 // Is a used number in the list?
 pub fn is_pilot(pilots: &[u32], used: usize) -> bool
+    requires { ⌜ used < 65536 ⌝ }
     ensures { λ r. ⌜ r ≡ isIn (now (pilots .entry)) used ⌝ }
 {
+    let number = used as u32;
     let mut found = false;
     let mut i = 0;
     while i < pilots.len() {
-        found = found | (wide(pilots[i]) == used);
+        found = found | (pilots[i] == number);
         i += 1;
     }
     found
@@ -67,7 +69,7 @@ pub fn used_of_data(pilots: &[u32], d: usize) -> usize
         at += 1;
         i += 1;
     }
-    d + wide(passed)
+    d + wide32(passed)
 }
 
 // The data number of a used number that is no pilot: the pilots below it are taken off.
@@ -82,5 +84,5 @@ pub fn data_of_used(pilots: &[u32], used: usize) -> usize
         below += (pilots[i] < limit) as u32;
         i += 1;
     }
-    used - wide(below)
+    used - wide32(below)
 }

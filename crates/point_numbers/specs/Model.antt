@@ -24,7 +24,7 @@ numberAt setup mask y used = let a = addressOf setup y used in litRank setup mas
 abbrev pub runNumber : (setup : Setup) (mask y i j : ℕ) → ℕ
 runNumber setup mask y i j = numberAt setup mask y (i * runStep setup + runPlace (runsOf setup y) j)
 
--- The numbers of a row's points in one table: how far apart those of two runs in a row are, and those of two points of a run. In PUSC uplink the first points of all tiles come first, in the others the points of the first run.
+-- The numbers of a row's points in one table: how far apart those of two runs in a row are, and those of two points of a run. In PUSC uplink the first points of all tiles come first, in PUSC downlink and over bins the points of the first run.
 unfoldable pub runStride : (setup : Setup) → ℕ
 runStride setup = byMode (setup .mode) 12 1 8 8 0 0
 
@@ -46,7 +46,7 @@ pub record RunPut (before own : List ℕ) (from : ℕ) (after : List ℕ) : Type
   pub kept : (k : ℕ) → k < from → entry after k ≡ entry before k
   pub put : (j : ℕ) → j < 12 → entry after (from + j) ≡ entry own j
 
--- What setup and mask fix for all runs, in two tables: of the clusters, or of the first seventy tiles, in PUSC; and of places, in all modes but PUSC uplink.
+-- What setup and mask fix for all runs, in two tables: of the clusters, or of the first seventy tiles, in PUSC; and of places, in PUSC downlink and over bins.
 unfoldable pub runEntries : (setup : Setup) → ℕ
 runEntries setup = byMode (setup .mode) 120 70 0 0 0 0
 

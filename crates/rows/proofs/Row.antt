@@ -14,10 +14,10 @@ use Rattle.pusc_ul_rows.proofs.Row.{number-on-place}
 use Rattle.carriers.proofs.Row.{step-carrier}
 use Rattle.modes.specs.{Setup.Setup, Mode.{isAmc, shapeOf, width, widthOf, subchannels, symbols, symbolsOf, band, bandOf}}
 use Rattle.map.specs.Formula.{isPilot, spotOf}
-use Rattle.modes.specs.Model.{IsAmc, Unlent, pusc-dl, pusc-ul, ofusc, amc, Ranged, own, fusc, Valid}
+use Rattle.modes.specs.Model.{IsAmc, pusc-dl, pusc-ul, ofusc, amc, Ranged, own, fusc, Valid}
 use Rattle.rows.specs.Model.{shiftOf, pointPlace}
 use Rattle.modes.proofs.Choice.{amc-shape, at-0, at-1, at-2, at-amc, by-mode}
-use Rattle.modes.proofs.ByMode.{in-pusc-dl, in-pusc-ul, in-ofusc, in-amc, bin-width, amc-width, shape-symbols, few}
+use Rattle.modes.proofs.{ByMode.{in-pusc-dl, in-pusc-ul, in-ofusc, in-amc, bin-width, amc-width, shape-symbols, few}, Lent.own-mode}
 use Rattle.map.proofs.{Asks.amc-spot, Slot.slot-law}
 use Rattle.pusc_ul_rows.specs.Model as pusc-ul
 use Rattle.ofusc_rows.specs.Model as ofusc
@@ -58,13 +58,6 @@ module _ {c : Setup} (v : Ranged c) (s : ℕ) (hs : s < subchannels c) where
   pub asks-amc : IsAmc (c .mode) → (shape : Shape) → shape ≡ shapeOf (c .mode) → (n : ℕ) → n ≡ width c
       → IsShape shape × EvenWidth n × (c .cell < 2352) × (s < n * shape .symbols)
   asks-amc q shape e n f = let r = in-amc v q in rw (e, f) (amc-shape (c .mode) q, even-width (amc-width v q), r .cell-lt, rw (r .subchannels-are) at hs)
-
--- the modes whose pilots are their own are 0 to 6
-pub unlent-mode : {c : Setup} → Unlent c → c .mode < 7
-unlent-mode (pusc-dl h) = omega arith
-unlent-mode (pusc-ul h) = omega arith
-unlent-mode (ofusc w h) = omega arith
-unlent-mode (amc q w h) = omega arith
 
 -- the size is 64N
 bin-size : {c : Setup} → Ranged c → IsAmc (c .mode) → c .size ≡ 64 * width c
@@ -179,5 +172,5 @@ module _ {c : Setup} (v : Valid c) (early : c .mode < 3) (slot s : ℕ) (hs : s 
 pub row-7 : {c : Setup} → Ranged c → c .mode ≡ 7 → (slot s : ℕ) (row : List ℕ)
     → Turned (13 * s % 48) (λ m. carrierOf fuscBand (fusc-map.spotOf (c .pilots) (c .cell) s m .used)) row → Turned (shiftOf c s) (pointPlace c slot s) row
 unfolding spotOf shiftOf bandOf fusc-map.spotOf
-row-7 (own u) e slot s row t m h = absurd (omega (arith, unlent-mode u))
+row-7 (own u) e slot s row t m h = absurd (omega (arith, own-mode u))
 row-7 (fusc l) e slot s row t m h = t m h ∙ omega arith

@@ -13,11 +13,11 @@ abbrev μ-loop : tie.MeasureT-loop
 μ-loop pilots table₀ i₀ table i = 166 - i
 
 -- the data number from which on a pilot moves
-own : (c : tie.After-wide Inv-loop μ-loop) → let i = c .before .before .before .loop .i in
-    let at = c .wide .result - i in
-    (i ≤ c .wide .result) × (at < 1537) × (entry (c .before .before .before .before .before .args .pilots .now) i ≡ at + i)
+own : (c : tie.After-wide32 Inv-loop μ-loop) → let i = c .before .before .before .loop .i in
+    let at = c .wide32 .result - i in
+    (i ≤ c .wide32 .result) × (at < 1537) × (entry (c .before .before .before .before .before .args .pilots .now) i ≡ at + i)
 own c =
-    let e = c .wide .ensures in
+    let e = c .wide32 .ensures in
     let place = own-place _ (c .before .before .before .before .before .pre) _ (c .before .before .loop-test .taken) in
     (omega arith, omega arith, omega arith)
 

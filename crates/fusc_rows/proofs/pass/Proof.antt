@@ -16,10 +16,10 @@ returns : tie.Need-returns Inv-loop μ-loop
 returns c =
     let inv = c .before .before .before .before .loop .inv in
     let pre = c .before .before .before .before .before .before .pre in
-    (inv, passed-at _ _ _ inv (pre .0 .0) (pre .0 .1) (λ h. rw (c .before .wide .ensures) at (c .if1 .taken)))
+    (inv, passed-at _ _ _ inv (pre .0 .0) (pre .0 .1) (λ h. rw (c .before .wide32 .ensures) at (c .if1 .taken)))
 
 loop-again : tie.Need-loop-again Inv-loop μ-loop
-loop-again c = passed-next _ _ _ (c .before .before .before .before .loop .inv) (c .before .before .before .loop-test .taken) (rw (c .before .wide .ensures) at (c .if1 .left))
+loop-again c = passed-next _ _ _ (c .before .before .before .before .loop .inv) (c .before .before .before .loop-test .taken) (rw (c .before .wide32 .ensures) at (c .if1 .left))
 
 returns-2 : tie.Need-returns-2 Inv-loop μ-loop
 returns-2 c =

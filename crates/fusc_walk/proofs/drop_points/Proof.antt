@@ -1,9 +1,9 @@
 -- `fusc_walk::drop_points` meets its contract.
-use Rattle.base.proofs.Prelude.{_≡_, refl, sym, ap, _∙_, List, ℕ, _+_, _-_, _*_, _<_, _≤_, arith, eqb, eqb-true, eqb-false, needs}
+use Rattle.base.proofs.Prelude.{_≡_, ap, _∙_, List, ℕ, _+_, _-_, _<_, arith, eqb, eqb-true, eqb-false, needs}
 use Rattle.base.proofs.Test.{cases}
 use Rattle.base.specs.Steps.{entry}
 use Rattle.points.specs.Points.{pointAt}
-use Rattle.points.proofs.Copy.{Putting, putting-none, putting-long, putting-next, putting-done}
+use Rattle.points.proofs.Copy.{Putting, putting-none, putting-long, putting-next}
 use Rattle.fusc_walk.proofs.drop_points.Statement.{statement}
 use Rattle.fusc_walk.proofs.drop_points.Tie as tie
 

@@ -1,5 +1,5 @@
 -- `fusc_walk::empty_symbol` meets its contract.
-use Rattle.base.proofs.Prelude.{_∙_, arith, needs}
+use Rattle.base.proofs.Prelude.{arith}
 use Rattle.modes.proofs.{ByMode.in-fusc, Lent.list-lent}
 use Rattle.fusc_walk.proofs.{Walk.{all-lit, columns-within, dropped-took}, empty_symbol.Statement.statement}
 use Rattle.fusc_walk.proofs.empty_symbol.Tie as tie

@@ -1,7 +1,7 @@
 -- `ground::ground` meets its contract.
 use Rattle.base.proofs.Prelude.{_≡_, refl, sym, ap, _∙_, List, length, needs}
 use lib.Ieee.{Float}
-use Rattle.modes.specs.Setup.{Setup, alone, lent}
+use Rattle.modes.specs.Setup.{Setup, lent}
 use Rattle.modes.proofs.{ByMode.ranged-alone, Lent.{nothing-lent, own-pilots}}
 use Rattle.lengths.proofs.Refusal.{GroundAccepted, mask-few, ground-numbered, ground-accepted}
 use Rattle.ground.specs.Ground.{grounded, groundOf}

@@ -1,9 +1,9 @@
 -- `ground::list_pilots` meets its contract.
-use Rattle.base.proofs.Prelude.{_≡_, refl, ap, ap₂, _∙_, ℕ, _-_, _*_, _<_, arith, length, needs}
+use Rattle.base.proofs.Prelude.{refl, ap, _∙_, _-_, arith, needs}
 use Rattle.base.specs.Steps.{entry}
-use Rattle.carriers.specs.{declared.Band.Band, Band.carrierOf}
+use Rattle.carriers.specs.Band.{carrierOf}
 use Rattle.pilot_list.proofs.Entries.{accepted}
-use Rattle.modes.specs.{Setup.{alone, lent}, Mode.band}
+use Rattle.modes.specs.Mode.{band}
 use Rattle.modes.proofs.{ByMode.{few, ranged-alone}, Lent.list-lent}
 use Rattle.points.proofs.Copy.{Putting, putting-none, putting-long, putting-next, putting-done}
 use Rattle.ground.proofs.{Lent.{entry-used, entry-in, list-put}, list_pilots.Statement.statement}
@@ -20,19 +20,19 @@ carrier-requires c κs =
     let start = c .before .before .before .before .before .before .before .before in
     let f = few (ranged-alone (start .pre .0)) in
     let in-loop = c .before .before .before in
-    (rw (c .before .before .before .before .before .band .ensures) (omega arith), omega (arith, c .before .wide .ensures, entry-used (start .pre .0) (start .pre .1 .0) (in-loop .before .loop .i) (omega (arith, in-loop .loop-test .taken))))
+    (rw (c .before .before .before .before .before .band .ensures) (omega arith), omega (arith, c .before .wide32 .ensures, entry-used (start .pre .0) (start .pre .1 .0) (in-loop .before .loop .i) (omega (arith, in-loop .loop-test .taken))))
 
 put-point-requires : tie.Need-put-point-requires Inv-loop μ-loop
 put-point-requires c κs =
     let start = c .before .before .before .before .before .before .before .before .before in
     let in-loop = c .before .before .before .before in
-    rw (c .carrier .ensures, c .before .before .wide .ensures)
+    rw (c .carrier .ensures, c .before .before .wide32 .ensures)
     (omega (arith, entry-in (start .pre .0) (start .pre .1 .0) _ (in-loop .before .before .band .ensures) (in-loop .before .loop .i) (omega (arith, in-loop .loop-test .taken)), putting-long (in-loop .before .loop .inv), start .pre .1 .1))
 
 loop-again : tie.Need-loop-again Inv-loop μ-loop
 loop-again c =
     let in-loop = c .before .before .before .before .before .before .before in
-    putting-next (in-loop .before .loop .inv) (omega (arith, in-loop .loop-test .taken)) _ (c .before .before .before .carrier .ensures ∙ ap (carrierOf _) (c .before .before .before .before .before .wide .ensures)) _ refl _ (c .before .before .put-point .ensures)
+    putting-next (in-loop .before .loop .inv) (omega (arith, in-loop .loop-test .taken)) _ (c .before .before .before .carrier .ensures ∙ ap (carrierOf _) (c .before .before .before .before .before .wide32 .ensures)) _ refl _ (c .before .before .put-point .ensures)
 
 returns : tie.Need-returns Inv-loop μ-loop
 returns c =

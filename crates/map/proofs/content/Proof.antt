@@ -25,13 +25,20 @@ used-requires c κs =
 returns-3 : tie.Need-returns-3
 returns-3 c = search (content-pilot, needs)
 
+-- the column's used number is one of the band's
+is-pilot-requires : tie.Need-is-pilot-requires
+is-pilot-requires c κs =
+    let d = c .before .before in
+    let g = d .before .before in
+    let b = g .before in
+    let v = b .before .before .pre .0 in
+    (v, content-used _ 0 _ _ (b .band .ensures) v _ (g .is-guard .ensures) (d .before .if1 .left) _ (d .is-dc .ensures) (c .before .if2 .left) _ (c .used .ensures))
+
 address-requires : tie.Need-address-requires
 address-requires c κs =
     let p = c .before in
-    let d = p .before .before .before in
-    let g = d .before .before in
-    let b = g .before in
-    (search needs, (content-used _ 0 _ _ (b .band .ensures) (b .before .before .pre .0) _ (g .is-guard .ensures) (d .before .if1 .left) _ (d .is-dc .ensures) (p .before .before .if2 .left) _ (p .before .used .ensures), no-pilot _ _ _ _ (p .is-pilot .ensures) (c .if3 .left)))
+    let r = is-pilot-requires (p .before) (p .is-pilot .lifetimes) in
+    (r .0, (r .1, no-pilot _ _ _ _ (p .is-pilot .ensures) (c .if3 .left)))
 
 returns-4 : tie.Need-returns-4
 returns-4 c = search (content-point, needs)
@@ -41,4 +48,4 @@ content-spec =
     tie.close
     (tie.spec
     (λ c κs. search (ranged-alone, needs)) is-guard-requires returns (λ c κs. search needs) returns-2 used-requires
-    (λ c κs. search needs) returns-3 address-requires (λ c κs. search (ranged-alone, needs)) returns-4)
+    is-pilot-requires returns-3 address-requires (λ c κs. search (ranged-alone, needs)) returns-4)

@@ -22,11 +22,11 @@ isBelow c = ltb (entry (c .before .before .before .args .pilots .now) (c .before
 next : (c : tie.In-loop Inv-loop μ-loop) → let a = c .before .before .before .args in After (a .pilots .now) (c .before .loop .i + 1) (a .used) (c .before .loop .below + boolByte (isBelow c))
 next c = after-next _ (list c .climbs) _ _ (omega (arith, list c .long, c .loop-test .taken)) _ (c .before .loop .inv .1)
 
-taken-off : (c : tie.After-wide Inv-loop μ-loop) → let a = c .before .before .before .before .args in dataOfUsed (a .pilots .now) (a .used) + c .wide .result ≡ a .used
+taken-off : (c : tie.After-wide32 Inv-loop μ-loop) → let a = c .before .before .before .before .args in dataOfUsed (a .pilots .now) (a .used) + c .wide32 .result ≡ a .used
 taken-off c =
     let loop = c .before .before .loop in
     let all : loop .i ≡ 166 = omega (arith, loop .inv .0, c .before .loop-test .left) in
-    rw (c .wide .ensures) (after-at _ (c .before .before .before .before .pre .0) _ _ (rw all at (loop .inv .1)))
+    rw (c .wide32 .ensures) (after-at _ (c .before .before .before .before .pre .0) _ _ (rw all at (loop .inv .1)))
 
 pub data-of-used-spec : {M : Type 1} → statement M
 data-of-used-spec =

@@ -26,7 +26,7 @@ returns c =
     let loop = c .before .before .loop in
     let start = c .before .before .before .before in
     let all : loop .i ≡ 166 = omega (arith, loop .inv .0, c .before .loop-test .left) in
-    rw (c .wide .ensures) (sym (stands-at _ (start .pre .0) _ _ (start .pre .1) (rw all at (loop .inv .2))))
+    rw (c .wide32 .ensures) (sym (stands-at _ (start .pre .0) _ _ (start .pre .1) (rw all at (loop .inv .2))))
 
 pub used-of-data-spec : {M : Type 1} → statement M
 used-of-data-spec =
@@ -40,5 +40,5 @@ used-of-data-spec =
     (λ c. search needs) (λ c. search needs)
     (λ c. (omega arith, omega arith, next (c .before)))
     (λ c κs. search needs)
-    (λ c. omega (arith, c .wide .ensures, c .before .before .loop .inv .2 .within))
+    (λ c. omega (arith, c .wide32 .ensures, c .before .before .loop .inv .2 .within))
     returns)

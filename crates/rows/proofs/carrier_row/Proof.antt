@@ -1,8 +1,8 @@
 -- `rows::carrier_row` meets its contract.
 use Rattle.base.proofs.Prelude.{arith, needs}
 use Rattle.modes.specs.Model.{own}
-use Rattle.modes.proofs.{Choice.{told-amc, told-early}, ByMode.few, Lent.valid-alone}
-use Rattle.rows.proofs.{Row.{unlent-mode, asks-1, asks-amc, row-1, row-amc, spots-below, carriers-of}, carrier_row.Statement.statement}
+use Rattle.modes.proofs.{Choice.{told-amc, told-early}, ByMode.few, Lent.{own-mode, valid-alone}}
+use Rattle.rows.proofs.{Row.{asks-1, asks-amc, row-1, row-amc, spots-below, carriers-of}, carrier_row.Statement.statement}
 use Rattle.rows.proofs.carrier_row.Tie as tie
 
 carrier-row-requires : tie.Need-carrier-row-requires
@@ -30,18 +30,18 @@ returns-2 c =
     row-amc _ _ _ (own (p .0)) (search (told-amc, needs)) _ (c .before .before .before .before .shape .ensures) _ (c .before .before .before .width .ensures) (c .carrier-row2 .result) (c .carrier-row2 .ensures)
 
 spots-requires : tie.Need-spots-requires
-spots-requires c κs = let p = c .before .before .before .before .pre in (p .0, (search (told-early, unlent-mode, needs), search needs, p .1))
+spots-requires c κs = let p = c .before .before .before .before .pre in (p .0, (search (told-early, own-mode, needs), search needs, p .1))
 
 carrier-row-requires-3 : tie.Need-carrier-row-requires-3
 carrier-row-requires-3 c κs =
     let p = c .before .before .before .before .before .before .pre in
     let f = few (own (p .0)) in
-    rw (c .band .ensures) (omega arith, omega arith, spots-below (valid-alone (p .0)) (search (told-early, unlent-mode, needs)) _ _ (p .1) (c .before .spots .result) (c .before .spots .ensures))
+    rw (c .band .ensures) (omega arith, omega arith, spots-below (valid-alone (p .0)) (search (told-early, own-mode, needs)) _ _ (p .1) (c .before .spots .result) (c .before .spots .ensures))
 
 returns-3 : tie.Need-returns-3
 returns-3 c =
     let p = c .before .before .before .before .before .before .before .pre in
-    carriers-of (valid-alone (p .0)) (search (told-early, unlent-mode, needs)) _ _ (p .1) (c .before .before .spots .result) (c .before .before .spots .ensures) (c .carrier-row3 .result)
+    carriers-of (valid-alone (p .0)) (search (told-early, own-mode, needs)) _ _ (p .1) (c .before .before .spots .result) (c .before .before .spots .ensures) (c .carrier-row3 .result)
     (rw (c .before .band .ensures) at (c .carrier-row3 .ensures))
 
 pub carrier-row-spec : {M : Type 1} → statement M
