@@ -17,19 +17,23 @@ enum { LAID = 2 * INDICES, MOST_POINTS = LAID * MOST_SUBCHANNELS, MOST_GRID = 2 
 
 // The calls of one side.
 struct side {
-    uint32_t (*place)(uint32_t, uint32_t, uint32_t, uint32_t, uint32_t, uint32_t, uint32_t *, int32_t *);
-    uint32_t (*places)(uint32_t, uint32_t, uint32_t, uint32_t, uint32_t, uint32_t *);
-    uint32_t (*locate)(uint32_t, uint32_t, uint32_t, uint32_t, int32_t, uint32_t *, uint32_t *, uint32_t *,
-                       uint32_t *);
-    uint32_t (*slot)(uint32_t, uint32_t, uint32_t, uint32_t, uint32_t, const float *, const float *, size_t, float *,
-                     size_t);
-    uint32_t (*ground)(uint32_t, uint32_t, uint32_t, uint32_t, uint32_t, const float *, float *, size_t);
-    uint32_t (*lay)(uint32_t, uint32_t, uint32_t, uint32_t, uint32_t, uint32_t, const float *, size_t, float *, size_t);
-    uint32_t (*empty)(uint32_t, uint32_t, uint32_t, uint32_t, uint32_t, const float *, size_t, float *, size_t);
-    uint32_t (*empty_first)(uint32_t, uint32_t, uint32_t, uint32_t, uint32_t, uint32_t, const float *, size_t, float *,
-                            size_t);
-    uint32_t (*look)(uint32_t, uint32_t, uint32_t, uint32_t, uint32_t, const float *, size_t, int32_t, uint32_t *,
-                     float *, uint32_t *, uint32_t *, uint32_t *);
+    uint32_t (*place)(uint32_t, uint32_t, uint32_t, uint32_t, uint32_t, uint32_t, const uint32_t *, size_t, uint32_t *,
+                      int32_t *);
+    uint32_t (*places)(uint32_t, uint32_t, uint32_t, uint32_t, uint32_t, const uint32_t *, size_t, uint32_t *);
+    uint32_t (*locate)(uint32_t, uint32_t, uint32_t, uint32_t, int32_t, const uint32_t *, size_t, uint32_t *,
+                       uint32_t *, uint32_t *, uint32_t *);
+    uint32_t (*slot)(uint32_t, uint32_t, uint32_t, uint32_t, uint32_t, const uint32_t *, size_t, const float *,
+                     const float *, size_t, float *, size_t);
+    uint32_t (*ground)(uint32_t, uint32_t, uint32_t, uint32_t, uint32_t, const uint32_t *, size_t, const float *,
+                       float *, size_t);
+    uint32_t (*lay)(uint32_t, uint32_t, uint32_t, uint32_t, uint32_t, uint32_t, const uint32_t *, size_t, const float *,
+                    size_t, float *, size_t);
+    uint32_t (*empty)(uint32_t, uint32_t, uint32_t, uint32_t, uint32_t, const uint32_t *, size_t, const float *, size_t,
+                      float *, size_t);
+    uint32_t (*empty_first)(uint32_t, uint32_t, uint32_t, uint32_t, uint32_t, uint32_t, const uint32_t *, size_t,
+                            const float *, size_t, float *, size_t);
+    uint32_t (*look)(uint32_t, uint32_t, uint32_t, uint32_t, uint32_t, const uint32_t *, size_t, const float *, size_t,
+                     int32_t, uint32_t *, float *, uint32_t *, uint32_t *, uint32_t *);
     uint32_t (*ofusc_collisions)(uint32_t, uint32_t, uint32_t, uint32_t, uint32_t, uint8_t *, uint32_t *);
     uint32_t (*amc_collisions)(uint32_t, uint32_t, uint8_t *, uint32_t *);
     uint32_t (*plan_read)(const uint8_t *, size_t, uint32_t *, uint32_t *, uint32_t *);
@@ -44,12 +48,12 @@ struct side {
 // A whole slot as a caller of the engine fills it: its ground, then a lay for every 96 floats of its points, which an
 // unlit subchannel leaves to the next.
 static uint32_t engine_slot(uint32_t mode, uint32_t size, uint32_t cell, uint32_t mask, uint32_t slot,
-                            const float *pilot, const float *points, size_t points_len, float *grid,
-                            size_t grid_len) {
+                            const uint32_t *pilots, size_t pilots_len, const float *pilot, const float *points,
+                            size_t points_len, float *grid, size_t grid_len) {
     const float *end = points + points_len;
-    uint32_t refusal = bp_ground(mode, size, cell, mask, slot, pilot, grid, grid_len);
+    uint32_t refusal = bp_ground(mode, size, cell, mask, slot, pilots, pilots_len, pilot, grid, grid_len);
     for (uint32_t s = 0; s < subchannels(mode, size) && points < end && !refusal; s++) {
-        refusal = bp_lay(mode, size, cell, mask, slot, s, points, LAID, grid, grid_len);
+        refusal = bp_lay(mode, size, cell, mask, slot, s, pilots, pilots_len, points, LAID, grid, grid_len);
         if (refusal == BP_REFUSED_SUBCHANNEL)
             refusal = 0;
         else
@@ -94,8 +98,8 @@ static uint32_t run_slot(const struct side *side, struct outcome *o, uint32_t fr
     uint32_t sum = 0;
     for (const struct request *q = requests + from; q < requests + to; q++) {
         size_t points_len = LAID * (size_t)lit_subchannels(q->mode, q->size, q->mask);
-        sum += side->slot(q->mode, q->size, q->cell, q->mask, q->slot, pilot, source_points, points_len, o->grid,
-                          q->grid_len);
+        sum += side->slot(q->mode, q->size, q->cell, q->mask, q->slot, q->pilots, q->pilots_len, pilot, source_points,
+                          points_len, o->grid, q->grid_len);
     }
     return sum;
 }
@@ -103,23 +107,24 @@ static uint32_t run_slot(const struct side *side, struct outcome *o, uint32_t fr
 static uint32_t run_ground(const struct side *side, struct outcome *o, uint32_t from, uint32_t to) {
     uint32_t sum = 0;
     for (const struct request *q = requests + from; q < requests + to; q++)
-        sum += side->ground(q->mode, q->size, q->cell, q->mask, q->slot, pilot, o->grid, q->grid_len);
+        sum += side->ground(q->mode, q->size, q->cell, q->mask, q->slot, q->pilots, q->pilots_len, pilot, o->grid,
+                            q->grid_len);
     return sum;
 }
 
 static uint32_t run_lay(const struct side *side, struct outcome *o, uint32_t from, uint32_t to) {
     uint32_t sum = 0;
     for (const struct request *q = requests + from; q < requests + to; q++)
-        sum += side->lay(q->mode, q->size, q->cell, q->mask, q->slot, q->subchannel, source_points, q->lay_len,
-                         o->grid, q->grid_len);
+        sum += side->lay(q->mode, q->size, q->cell, q->mask, q->slot, q->subchannel, q->pilots, q->pilots_len,
+                         source_points, q->lay_len, o->grid, q->grid_len);
     return sum;
 }
 
 static uint32_t run_empty(const struct side *side, struct outcome *o, uint32_t from, uint32_t to) {
     uint32_t sum = 0;
     for (const struct request *q = requests + from; q < requests + to; q++)
-        sum += side->empty(q->mode, q->size, q->cell, q->mask, q->slot, source_grid, q->grid_len, o->points,
-                           q->points_len);
+        sum += side->empty(q->mode, q->size, q->cell, q->mask, q->slot, q->pilots, q->pilots_len, source_grid,
+                           q->grid_len, o->points, q->points_len);
     return sum;
 }
 
@@ -128,8 +133,8 @@ static inline uint32_t empty_first(const struct side *side, struct outcome *o, u
                                    uint32_t times) {
     uint32_t sum = 0;
     for (const struct request *q = requests + from; q < requests + to; q++)
-        sum += side->empty_first(q->mode, q->size, q->cell, q->mask, q->slot, times * q->carriers, source_grid,
-                                 q->grid_len, o->points, q->points_len);
+        sum += side->empty_first(q->mode, q->size, q->cell, q->mask, q->slot, times * q->carriers, q->pilots,
+                                 q->pilots_len, source_grid, q->grid_len, o->points, q->points_len);
     return sum;
 }
 
@@ -144,30 +149,31 @@ static uint32_t run_empty_whole(const struct side *side, struct outcome *o, uint
 static uint32_t run_place(const struct side *side, struct outcome *o, uint32_t from, uint32_t to) {
     uint32_t sum = 0;
     for (const struct request *q = requests + from; q < requests + to; q++)
-        sum += side->place(q->mode, q->size, q->cell, q->slot, q->subchannel, q->index, &o->symbol, &o->carrier);
+        sum += side->place(q->mode, q->size, q->cell, q->slot, q->subchannel, q->index, q->pilots, q->pilots_len,
+                           &o->symbol, &o->carrier);
     return sum;
 }
 
 static uint32_t run_places(const struct side *side, struct outcome *o, uint32_t from, uint32_t to) {
     uint32_t sum = 0;
     for (const struct request *q = requests + from; q < requests + to; q++)
-        sum += side->places(q->mode, q->size, q->cell, q->slot, q->subchannel, o->places);
+        sum += side->places(q->mode, q->size, q->cell, q->slot, q->subchannel, q->pilots, q->pilots_len, o->places);
     return sum;
 }
 
 static uint32_t run_locate(const struct side *side, struct outcome *o, uint32_t from, uint32_t to) {
     uint32_t sum = 0;
     for (const struct request *q = requests + from; q < requests + to; q++)
-        sum += side->locate(q->mode, q->size, q->cell, q->symbol, q->carrier, &o->kind, &o->slot, &o->subchannel,
-                            &o->index);
+        sum += side->locate(q->mode, q->size, q->cell, q->symbol, q->carrier, q->pilots, q->pilots_len, &o->kind,
+                            &o->slot, &o->subchannel, &o->index);
     return sum;
 }
 
 static uint32_t run_look(const struct side *side, struct outcome *o, uint32_t from, uint32_t to) {
     uint32_t sum = 0;
     for (const struct request *q = requests + from; q < requests + to; q++)
-        sum += side->look(q->mode, q->size, q->cell, q->mask, q->symbol, source_grid, q->grid_len, q->carrier,
-                          &o->kind, o->point, &o->slot, &o->subchannel, &o->index);
+        sum += side->look(q->mode, q->size, q->cell, q->mask, q->symbol, q->pilots, q->pilots_len, source_grid,
+                          q->grid_len, q->carrier, &o->kind, o->point, &o->slot, &o->subchannel, &o->index);
     return sum;
 }
 
@@ -224,7 +230,7 @@ static uint32_t run_burst_owners(const struct side *side, struct outcome *o, uin
 
 // --- by table --------------------------------------------------------------------------------------------------------
 
-// What a caller keeps who stays in one cell, for the slots whose pilots are on the same carriers: the places of all lit
+// What a caller keeps who stays in one cell and with one pilot list, for the slots whose pilots are on the same carriers: the places of all lit
 // subchannels, the number of each of these among them, and the ground.
 static struct kept {
     uint32_t lit, number[MOST_SUBCHANNELS], places[INDICES * MOST_SUBCHANNELS];
@@ -245,17 +251,17 @@ static void keep(const struct request *q) {
     for (uint32_t s = 0; s < subchannels(q->mode, q->size); s++) {
         if (!is_lit(q->mode, q->mask, s)) continue;
         k->number[s] = k->lit++;
-        bp_places(q->mode, q->size, q->cell, slot, s, k->places + INDICES * k->number[s]);
+        bp_places(q->mode, q->size, q->cell, slot, s, q->pilots, q->pilots_len, k->places + INDICES * k->number[s]);
     }
-    bp_ground(q->mode, q->size, q->cell, q->mask, slot, pilot, k->ground, q->grid_len);
+    bp_ground(q->mode, q->size, q->cell, q->mask, slot, q->pilots, q->pilots_len, pilot, k->ground, q->grid_len);
 }
 
-// What serves for all slots of a request's cell.
+// What serves for all slots of a request's cell, and of its pilot list.
 static void keep_cell(struct request q) {
     for (q.slot = 0; q.slot < 3; q.slot++) keep(&q);
 }
 
-// These do by what is kept, whatever the request's cell, what run_slot, run_lay and run_empty do by a side's calls.
+// These do by what is kept, whatever the request's cell and pilots, what run_slot, run_lay and run_empty do by a side's calls.
 
 static uint32_t put_slot(const struct side *none, struct outcome *o, uint32_t from, uint32_t to) {
     (void)none;
@@ -437,6 +443,7 @@ static const struct setup {
     {"AMC 1x6, 512", AMC_1X6, 512, 0, ALL_SIZES, 0},
     {"AMC 1x6, 1024", AMC_1X6, 1024, 0, ALL_SIZES, 0},
     {"AMC 1x6, 2048", AMC_1X6, 2048, 0, ENDS, 0.06},
+    {"FUSC, 2048", FUSC, 2048, 0, ENDS, 0},
 };
 enum { SETUPS = sizeof setups / sizeof setups[0] };
 
@@ -488,6 +495,8 @@ static void heading(void) {
            "lit subchannels as bp_places gives them, 4 bytes a point, and the slot's ground; three of each where the\n"
            "pilots move from slot to slot (optional FUSC, AMC 6x1, AMC 3x2), else one. It asks nothing. slot: a copy\n"
            "of the ground, then of each point to its place; lay, empty: a copy of each point.\n"
+           "FUSC: the list of 166 pilots is checked in every call, and plain C passes over it for each point; by table it\n"
+           "is one list for all slots.\n"
            "before: the ratio published for empty when it went subchannel by subchannel, from another run, where\n"
            "there is one; it goes by carrier now.\n"
            "Bursts: so many in a list, which is checked in every call; the zone has 512 slots, and the bursts tile\n"

@@ -1,10 +1,10 @@
 // What the command line's fill and batch do, in C over the library, for bench/files.py to hold them to:
 //
-//     files fill MODE SIZE CELL MASK SLOTS <points >grids
+//     files fill MODE SIZE CELL MASK SLOTS [PILOT..] <points >grids
 //     files place <requests >answers
 //
-// fill takes the points of SLOTS slots in a row again and again, the first of them slot 0. place takes lines of six
-// numbers behind the word place.
+// fill takes the points of SLOTS slots in a row again and again, the first of them slot 0, all with the same pilots. place
+// takes lines of six numbers behind the word place, of modes that have no pilot list.
 #include "bellpulsar.h"
 
 #include <stdio.h>
@@ -12,7 +12,8 @@
 #include <string.h>
 #include <unistd.h>
 
-enum { LAID = 96, PHASES = 3, MOST_SUBCHANNELS = 192, BLOCK = 1 << 17 }; // BLOCK: bytes of grids, about
+enum { LAID = 96, PHASES = 3, MOST_SUBCHANNELS = 192, MOST_PILOTS = 166, FILL_WORDS = 7 };
+enum { BLOCK = 1 << 17 }; // bytes of grids, about
 
 static void fail(const char *what) {
     fprintf(stderr, "files: %s\n", what);
@@ -42,21 +43,24 @@ static void write_bytes(const void *from, size_t bytes) {
 }
 
 struct zone {
-    uint32_t mode, size, cell, mask, slots;
+    uint32_t mode, size, cell, mask, slots, pilots[MOST_PILOTS];
+    size_t pilots_len;
 };
 
 // The subchannels that a lay accepts.
-static uint32_t lit_subchannels(struct zone z, uint32_t lit[MOST_SUBCHANNELS], float *grid, size_t grid_len) {
+static uint32_t lit_subchannels(const struct zone *z, uint32_t lit[MOST_SUBCHANNELS], float *grid, size_t grid_len) {
     static const float points[LAID];
     uint32_t count = 0;
     for (uint32_t s = 0; s < MOST_SUBCHANNELS; s++)
-        if (bp_lay(z.mode, z.size, z.cell, z.mask, 0, s, points, LAID, grid, grid_len) == BP_ACCEPTED) lit[count++] = s;
+        if (bp_lay(z->mode, z->size, z->cell, z->mask, 0, s, z->pilots, z->pilots_len, points, LAID, grid, grid_len) ==
+            BP_ACCEPTED)
+            lit[count++] = s;
     return count;
 }
 
 // A block of slots at a time, in places whose ground serves every slot that agrees mod 3 with the one it was laid for.
-static int fill(struct zone z) {
-    size_t points_len = bp_lit_points_len(z.mode, z.size, z.mask), grid_len = bp_grid_len(z.mode, z.size), got;
+static int fill(const struct zone *z) {
+    size_t points_len = bp_lit_points_len(z->mode, z->size, z->mask), grid_len = bp_grid_len(z->mode, z->size), got;
     size_t room = BLOCK / (grid_len * sizeof(float)) / PHASES * PHASES;
     room = room ? room : PHASES;
     float *points = malloc(room * points_len * sizeof *points), *grids = calloc(room * grid_len, sizeof *grids);
@@ -65,14 +69,16 @@ static int fill(struct zone z) {
     memset(phases, 0xFF, room * sizeof *phases);
     uint32_t count = lit_subchannels(z, lit, grids, grid_len);
     while ((got = read_bytes(points, room * points_len * sizeof *points) / (points_len * sizeof *points))) {
-        for (size_t at = 0; at < got; at++, slot = (slot + 1) % z.slots) {
+        for (size_t at = 0; at < got; at++, slot = (slot + 1) % z->slots) {
             float pilot[2] = {1, 0}, *own = points + at * points_len, *grid = grids + at * grid_len;
             uint32_t refused = 0;
             if (phases[at] != slot % PHASES)
-                refused |= bp_ground(z.mode, z.size, z.cell, z.mask, slot, pilot, grid, grid_len);
+                refused |= bp_ground(z->mode, z->size, z->cell, z->mask, slot, z->pilots, z->pilots_len, pilot, grid,
+                                     grid_len);
             phases[at] = slot % PHASES;
             for (uint32_t rank = 0; rank < count; rank++, own += LAID)
-                refused |= bp_lay(z.mode, z.size, z.cell, z.mask, slot, lit[rank], own, LAID, grid, grid_len);
+                refused |= bp_lay(z->mode, z->size, z->cell, z->mask, slot, lit[rank], z->pilots, z->pilots_len, own,
+                                  LAID, grid, grid_len);
             if (refused) fail("refused");
         }
         write_bytes(grids, got * grid_len * sizeof *grids);
@@ -87,15 +93,20 @@ static int place(void) {
         int32_t carrier;
         char *at = line + strlen("place");
         for (int i = 0; i < 6; i++) field[i] = (uint32_t)strtoul(at, &at, 10);
-        if (bp_place(field[0], field[1], field[2], field[3], field[4], field[5], &symbol, &carrier)) fail("refused");
+        if (bp_place(field[0], field[1], field[2], field[3], field[4], field[5], NULL, 0, &symbol, &carrier))
+            fail("refused");
         printf("symbol %u carrier %d\n", symbol, carrier);
     }
     return 0;
 }
 
 int main(int argc, char **argv) {
-    if (argc == 7 && strcmp(argv[1], "fill") == 0)
-        return fill((struct zone){number(argv[2]), number(argv[3]), number(argv[4]), number(argv[5]), number(argv[6])});
+    if (argc >= FILL_WORDS && argc <= FILL_WORDS + MOST_PILOTS && strcmp(argv[1], "fill") == 0) {
+        struct zone z = {.mode = number(argv[2]), .size = number(argv[3]), .cell = number(argv[4]),
+                         .mask = number(argv[5]), .slots = number(argv[6])};
+        for (int i = FILL_WORDS; i < argc; i++) z.pilots[z.pilots_len++] = number(argv[i]);
+        return fill(&z);
+    }
     if (argc == 2 && strcmp(argv[1], "place") == 0) return place();
-    fail("usage: files fill MODE SIZE CELL MASK SLOTS, or files place");
+    fail("usage: files fill MODE SIZE CELL MASK SLOTS [PILOT..], or files place");
 }

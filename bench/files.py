@@ -24,7 +24,8 @@ FRAME = 500  # slots
 WRITTEN = 2**26  # bytes of grids: where 1,000 slots have less, more of them are filled, so that there is enough to time
 REQUESTS = 200000
 
-MODES = ("pusc-dl", "pusc-ul", "ofusc", "amc-6x1", "amc-2x3", "amc-3x2", "amc-1x6")
+MODES = ("pusc-dl", "pusc-ul", "ofusc", "amc-6x1", "amc-2x3", "amc-3x2", "amc-1x6", "fusc")
+PILOTS = [str(1702 * i // 166) for i in range(166)]  # of FUSC, spread over the band
 
 
 class Setup(NamedTuple):
@@ -54,6 +55,7 @@ SETUPS = [
     Setup("amc-3x2", 2048, 0, 6144, 8192),
     Setup("amc-1x6", 256, 0, 2304, 3072),
     Setup("amc-1x6", 2048, 0, 18432, 24576),
+    Setup("fusc", 2048, 0, 3072, 4096),
 ]
 CELL = "11"
 
@@ -68,7 +70,10 @@ class Pair(NamedTuple):
 def filling(setup, frame):
     size, mask, frame = str(setup.size), str(setup.mask), str(frame)
     in_c = [IN_C, "fill", str(MODES.index(setup.mode)), size, CELL, mask, frame]
-    return Pair(in_c, [COMMAND, "fill", setup.mode, size, CELL, "--mask", mask, "--slots", frame, "-", "-"])
+    command = [COMMAND, "fill", setup.mode, size, CELL, "--mask", mask, "--slots", frame, "-", "-"]
+    if setup.mode == "fusc":
+        return Pair(in_c + PILOTS, command + ["--pilots", ",".join(PILOTS)])
+    return Pair(in_c, command)
 
 
 PLACING = Pair([IN_C, "place"], [COMMAND, "batch"])

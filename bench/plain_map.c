@@ -18,6 +18,9 @@ static const uint8_t q_table[70] = {
     16, 47, 51, 8,  62, 14, 33, 24, 32, 17, 54, 29, 67, 49, 65, 35, 38, 59, 64, 28, 60, 0};
 static const uint8_t b12_table[12] = {6, 9, 4, 8, 10, 11, 5, 2, 7, 3, 1, 0};
 static const uint8_t b8_table[8] = {7, 4, 0, 2, 1, 5, 3, 6};
+// The sequence of FUSC.
+static const uint8_t b32_table[32] = {3,  18, 2,  8, 16, 10, 11, 15, 26, 22, 6, 9,  27, 20, 25, 1,
+                                      29, 7,  21, 5, 28, 31, 23, 17, 4,  24, 0, 13, 12, 19, 14, 30};
 // P of document 004, two digits to base 7.
 static const uint8_t p_table[48] = {1,  22, 46, 52, 42, 41, 26, 50, 5,  33, 62, 43, 63, 65, 32, 40,
                                     4,  11, 23, 61, 21, 24, 13, 60, 6,  55, 31, 25, 35, 36, 51, 20,
@@ -25,7 +28,7 @@ static const uint8_t p_table[48] = {1,  22, 46, 52, 42, 41, 26, 50, 5,  33, 62, 
 // Of the six major groups of PUSC downlink.
 static const uint8_t first_cluster[GROUPS] = {0, 24, 40, 64, 80, 104};
 
-static uint8_t r_inverse[120], q_inverse[70], b12_inverse[12], b8_inverse[8];
+static uint8_t r_inverse[120], q_inverse[70], b12_inverse[12], b8_inverse[8], b32_inverse[32];
 static uint8_t p_inverse[49]; // by the number in base 7
 static uint8_t p1[33][32], p2[33][32];
 
@@ -39,6 +42,7 @@ void plain_tables(void) {
     invert(q_table, q_inverse, 70);
     invert(b12_table, b12_inverse, 12);
     invert(b8_table, b8_inverse, 8);
+    invert(b32_table, b32_inverse, 32);
     for (uint32_t i = 0; i < 48; i++) p_inverse[7 * (p_table[i] / 10) + p_table[i] % 10] = (uint8_t)i;
     for (uint32_t a = 0; a < 4; a++) {
         uint32_t n = 4u << a, x = 1;
@@ -53,10 +57,15 @@ void plain_tables(void) {
 
 // --- carriers --------------------------------------------------------------------------------------------------------
 
-// What a point goes through is inline. The compiler would else call place for each point: with seven modes it is long.
+// What a point goes through is inline. The compiler would else call place for each point: with eight modes it is long.
 
-static inline uint32_t left_guards(uint32_t mode, uint32_t size) { return mode < OFUSC ? 184 : 5 * (size / 64); }
-static inline uint32_t used_numbers(uint32_t mode, uint32_t size) { return mode < OFUSC ? 1680 : 54 * (size / 64); }
+static inline uint32_t left_guards(uint32_t mode, uint32_t size) {
+    return mode < OFUSC ? 184 : mode == FUSC ? 173 : 5 * (size / 64);
+}
+
+static inline uint32_t used_numbers(uint32_t mode, uint32_t size) {
+    return mode < OFUSC ? 1680 : mode == FUSC ? FUSC_USED : 54 * (size / 64);
+}
 
 // The column of DC in its symbol's row of a grid. A carrier is its column less that.
 static inline int32_t dc_column(uint32_t size) { return (int32_t)(size / 2); }
@@ -164,18 +173,33 @@ static inline uint32_t used_amc(uint32_t mode, uint32_t cell, uint32_t slot, uin
     return used_of_data(symbol, data);
 }
 
+// The used number of a data number of FUSC: the i-th pilot has pilots[i] - i data numbers before it.
+static inline uint32_t past_pilots(const uint32_t *pilots, uint32_t data) {
+    uint32_t used = data;
+    for (uint32_t i = 0; i < PILOTS; i++) used += pilots[i] - i <= data;
+    return used;
+}
+
+static inline uint32_t used_fusc(uint32_t cell, uint32_t s, uint32_t m, const uint32_t *pilots, uint32_t *row) {
+    uint32_t n = (m + 13 * s) % 48;
+    *row = 0;
+    return past_pilots(pilots, 32 * n + (b32_table[(n + s) % 32] + cell) % 32);
+}
+
 // The column of a point, and its row by pointer.
 static inline uint32_t place(uint32_t mode, uint32_t size, uint32_t cell, uint32_t slot, uint32_t s, uint32_t m,
-                             uint32_t *row) {
+                             const uint32_t *pilots, uint32_t *row) {
     if (mode == PUSC_DL) return column_of(mode, size, used_pusc_dl(cell, s, m, row));
     if (mode == PUSC_UL) return column_of(mode, size, used_pusc_ul(cell, s, m, row));
     if (mode == OFUSC) return column_of(mode, size, used_ofusc(size / 64, cell, slot, s, m, row));
+    if (mode == FUSC) return column_of(mode, size, used_fusc(cell, s, m, pilots, row));
     return column_of(mode, size, used_amc(mode, cell, slot, s, m, row));
 }
 
 // The place of a point in its slot's grid, which is counted in points.
-static inline uint32_t grid_place(uint32_t mode, uint32_t size, uint32_t cell, uint32_t slot, uint32_t s, uint32_t m) {
-    uint32_t row, column = place(mode, size, cell, slot, s, m, &row);
+static inline uint32_t grid_place(uint32_t mode, uint32_t size, uint32_t cell, uint32_t slot, uint32_t s, uint32_t m,
+                                  const uint32_t *pilots) {
+    uint32_t row, column = place(mode, size, cell, slot, s, m, pilots, &row);
     return row * size + column;
 }
 
@@ -188,20 +212,22 @@ static uint32_t subchannel_refusal(uint32_t mode, uint32_t size, uint32_t cell, 
 }
 
 uint32_t plain_place(uint32_t mode, uint32_t size, uint32_t cell, uint32_t slot, uint32_t subchannel, uint32_t index,
-                     uint32_t *symbol, int32_t *carrier) {
+                     const uint32_t *pilots, size_t pilots_len, uint32_t *symbol, int32_t *carrier) {
     uint32_t row, refusal = subchannel_refusal(mode, size, cell, slot, subchannel);
     if (refusal) return refusal;
     if (index >= INDICES) return 6;
-    *carrier = (int32_t)place(mode, size, cell, slot, subchannel, index, &row) - dc_column(size);
+    if (!is_pilot_list(mode, pilots, pilots_len)) return 20;
+    *carrier = (int32_t)place(mode, size, cell, slot, subchannel, index, pilots, &row) - dc_column(size);
     *symbol = slot * symbols(mode) + row;
     return 0;
 }
 
 uint32_t plain_places(uint32_t mode, uint32_t size, uint32_t cell, uint32_t slot, uint32_t subchannel,
-                      uint32_t places[48]) {
+                      const uint32_t *pilots, size_t pilots_len, uint32_t places[48]) {
     uint32_t refusal = subchannel_refusal(mode, size, cell, slot, subchannel);
     if (refusal) return refusal;
-    for (uint32_t m = 0; m < INDICES; m++) places[m] = grid_place(mode, size, cell, slot, subchannel, m);
+    if (!is_pilot_list(mode, pilots, pilots_len)) return 20;
+    for (uint32_t m = 0; m < INDICES; m++) places[m] = grid_place(mode, size, cell, slot, subchannel, m, pilots);
     return 0;
 }
 
@@ -259,6 +285,12 @@ static inline uint32_t address_amc(uint32_t mode, uint32_t cell, uint32_t symbol
     return s;
 }
 
+static inline uint32_t address_fusc(uint32_t cell, uint32_t data, uint32_t *index) {
+    uint32_t n = data / 32, s = (b32_inverse[(data % 32 + 32 - cell) % 32] + 64 - n) % 32;
+    *index = (n + 48 * 9 - 13 * s) % 48;
+    return s;
+}
+
 static inline uint32_t address(uint32_t mode, uint32_t size, uint32_t cell, uint32_t symbol, uint32_t used,
                                uint32_t *slot, uint32_t *index) {
     if (mode == PUSC_DL) return *slot = symbol / 2, address_pusc_dl(cell, symbol % 2, used, index);
@@ -268,18 +300,34 @@ static inline uint32_t address(uint32_t mode, uint32_t size, uint32_t cell, uint
     return address_amc(mode, cell, symbol, data, slot, index);
 }
 
-uint32_t plain_locate(uint32_t mode, uint32_t size, uint32_t cell, uint32_t symbol, int32_t carrier, uint32_t *kind,
-                      uint32_t *slot, uint32_t *subchannel, uint32_t *index) {
+// A used number of FUSC: one pass over the list tells whether it is a pilot and how many are before it.
+static inline void locate_fusc(uint32_t cell, uint32_t symbol, uint32_t used, const uint32_t *pilots, uint32_t *kind,
+                               uint32_t *slot, uint32_t *subchannel, uint32_t *index) {
+    uint32_t before = 0, is_listed = 0;
+    for (uint32_t i = 0; i < PILOTS; i++) {
+        before += pilots[i] < used;
+        is_listed |= pilots[i] == used;
+    }
+    *kind = is_listed ? PILOT : DATA;
+    if (!is_listed) *slot = symbol, *subchannel = address_fusc(cell, used - before, index);
+}
+
+uint32_t plain_locate(uint32_t mode, uint32_t size, uint32_t cell, uint32_t symbol, int32_t carrier,
+                      const uint32_t *pilots, size_t pilots_len, uint32_t *kind, uint32_t *slot, uint32_t *subchannel,
+                      uint32_t *index) {
     uint32_t refusal = setup_refusal(mode, size, cell);
     if (refusal) return refusal;
     if (symbol >= SLOTS * symbols(mode)) return 4;
     if (carrier < -dc_column(size) || carrier >= dc_column(size)) return 7;
+    if (!is_pilot_list(mode, pilots, pilots_len)) return 20;
     uint32_t column = (uint32_t)(dc_column(size) + carrier);
     uint32_t left = left_guards(mode, size), used = column - left - (carrier > 0);
     if (column < left || column > left + used_numbers(mode, size)) {
         *kind = GUARD;
     } else if (carrier == 0) {
         *kind = DC;
+    } else if (mode == FUSC) {
+        locate_fusc(cell, symbol, used, pilots, kind, slot, subchannel, index);
     } else if (is_pilot(mode, symbol, used)) {
         *kind = PILOT;
     } else {
@@ -301,8 +349,10 @@ static uint32_t slot_refusal(uint32_t mode, uint32_t size, uint32_t cell, uint32
     return slot < SLOTS ? 0 : 4;
 }
 
-// Questions 8 and 9, about the points of the whole slot.
-static uint32_t buffers_refusal(uint32_t mode, uint32_t size, uint32_t mask, size_t points_len, size_t grid_len) {
+// Questions 20, 8 and 9, about the points of the whole slot.
+static uint32_t buffers_refusal(uint32_t mode, uint32_t size, uint32_t mask, const uint32_t *pilots, size_t pilots_len,
+                                size_t points_len, size_t grid_len) {
+    if (!is_pilot_list(mode, pilots, pilots_len)) return 20;
     if (points_len != 2 * INDICES * (size_t)lit_subchannels(mode, size, mask)) return 8;
     return grid_len == grid_floats(mode, size) ? 0 : 9;
 }
@@ -318,8 +368,12 @@ void plain_take(const uint32_t *places, size_t count, const float *grid, float *
 }
 
 static inline void put_ground(uint32_t mode, uint32_t size, uint32_t cell, uint32_t mask, uint32_t slot,
-                              const float pilot[2], float *grid) {
+                              const uint32_t *pilots, const float pilot[2], float *grid) {
     memset(grid, 0, sizeof(float) * grid_floats(mode, size));
+    if (mode == FUSC) {
+        for (uint32_t i = 0; i < PILOTS; i++) copy_point(grid + 2 * column_of(mode, size, pilots[i]), pilot);
+        return;
+    }
     for (uint32_t row = 0; row < symbols(mode); row++)
         for (uint32_t used = 0; used < used_numbers(mode, size); used++)
             if (is_pilot(mode, slot * symbols(mode) + row, used) && is_lit_used(mode, cell, mask, used))
@@ -327,68 +381,73 @@ static inline void put_ground(uint32_t mode, uint32_t size, uint32_t cell, uint3
 }
 
 static inline void put_points(uint32_t mode, uint32_t size, uint32_t cell, uint32_t slot, uint32_t subchannel,
-                              const float *points, float *grid) {
+                              const uint32_t *pilots, const float *points, float *grid) {
     for (uint32_t m = 0; m < INDICES; m++)
-        copy_point(grid + 2 * grid_place(mode, size, cell, slot, subchannel, m), points + 2 * m);
+        copy_point(grid + 2 * grid_place(mode, size, cell, slot, subchannel, m, pilots), points + 2 * m);
 }
 
-uint32_t plain_ground(uint32_t mode, uint32_t size, uint32_t cell, uint32_t mask, uint32_t slot, const float pilot[2],
-                      float *grid, size_t grid_len) {
+uint32_t plain_ground(uint32_t mode, uint32_t size, uint32_t cell, uint32_t mask, uint32_t slot,
+                      const uint32_t *pilots, size_t pilots_len, const float pilot[2], float *grid, size_t grid_len) {
     uint32_t refusal = slot_refusal(mode, size, cell, mask, slot);
     if (refusal) return refusal;
+    if (!is_pilot_list(mode, pilots, pilots_len)) return 20;
     if (grid_len != grid_floats(mode, size)) return 9;
-    put_ground(mode, size, cell, mask, slot, pilot, grid);
+    put_ground(mode, size, cell, mask, slot, pilots, pilot, grid);
     return 0;
 }
 
 uint32_t plain_lay(uint32_t mode, uint32_t size, uint32_t cell, uint32_t mask, uint32_t slot, uint32_t subchannel,
-                   const float *points, size_t points_len, float *grid, size_t grid_len) {
+                   const uint32_t *pilots, size_t pilots_len, const float *points, size_t points_len, float *grid,
+                   size_t grid_len) {
     uint32_t refusal = slot_refusal(mode, size, cell, mask, slot);
     if (refusal) return refusal;
     if (subchannel >= subchannels(mode, size) || !is_lit(mode, mask, subchannel)) return 5;
+    if (!is_pilot_list(mode, pilots, pilots_len)) return 20;
     if (points_len != 2 * INDICES) return 8;
     if (grid_len != grid_floats(mode, size)) return 9;
-    put_points(mode, size, cell, slot, subchannel, points, grid);
+    put_points(mode, size, cell, slot, subchannel, pilots, points, grid);
     return 0;
 }
 
-uint32_t plain_fill(uint32_t mode, uint32_t size, uint32_t cell, uint32_t mask, uint32_t slot, const float pilot[2],
-                    const float *points, size_t points_len, float *grid, size_t grid_len) {
+uint32_t plain_fill(uint32_t mode, uint32_t size, uint32_t cell, uint32_t mask, uint32_t slot, const uint32_t *pilots,
+                    size_t pilots_len, const float pilot[2], const float *points, size_t points_len, float *grid,
+                    size_t grid_len) {
     uint32_t refusal = slot_refusal(mode, size, cell, mask, slot);
-    if (!refusal) refusal = buffers_refusal(mode, size, mask, points_len, grid_len);
+    if (!refusal) refusal = buffers_refusal(mode, size, mask, pilots, pilots_len, points_len, grid_len);
     if (refusal) return refusal;
-    put_ground(mode, size, cell, mask, slot, pilot, grid);
+    put_ground(mode, size, cell, mask, slot, pilots, pilot, grid);
     for (uint32_t s = 0; s < subchannels(mode, size); s++) {
         if (!is_lit(mode, mask, s)) continue;
-        put_points(mode, size, cell, slot, s, points, grid);
+        put_points(mode, size, cell, slot, s, pilots, points, grid);
         points += 2 * INDICES;
     }
     return 0;
 }
 
-uint32_t plain_empty(uint32_t mode, uint32_t size, uint32_t cell, uint32_t mask, uint32_t slot, const float *grid,
-                     size_t grid_len, float *points, size_t points_len) {
+uint32_t plain_empty(uint32_t mode, uint32_t size, uint32_t cell, uint32_t mask, uint32_t slot, const uint32_t *pilots,
+                     size_t pilots_len, const float *grid, size_t grid_len, float *points, size_t points_len) {
     uint32_t refusal = slot_refusal(mode, size, cell, mask, slot);
-    if (!refusal) refusal = buffers_refusal(mode, size, mask, points_len, grid_len);
+    if (!refusal) refusal = buffers_refusal(mode, size, mask, pilots, pilots_len, points_len, grid_len);
     if (refusal) return refusal;
     for (uint32_t s = 0; s < subchannels(mode, size); s++) {
         if (!is_lit(mode, mask, s)) continue;
         for (uint32_t m = 0; m < INDICES; m++)
-            copy_point(points + 2 * m, grid + 2 * grid_place(mode, size, cell, slot, s, m));
+            copy_point(points + 2 * m, grid + 2 * grid_place(mode, size, cell, slot, s, m, pilots));
         points += 2 * INDICES;
     }
     return 0;
 }
 
 uint32_t plain_empty_first(uint32_t mode, uint32_t size, uint32_t cell, uint32_t mask, uint32_t slot, uint32_t carriers,
-                           const float *grid, size_t grid_len, float *points, size_t points_len) {
+                           const uint32_t *pilots, size_t pilots_len, const float *grid, size_t grid_len, float *points,
+                           size_t points_len) {
     uint32_t refusal = slot_refusal(mode, size, cell, mask, slot);
-    if (!refusal) refusal = buffers_refusal(mode, size, mask, points_len, grid_len);
+    if (!refusal) refusal = buffers_refusal(mode, size, mask, pilots, pilots_len, points_len, grid_len);
     if (refusal) return refusal;
     for (uint32_t s = 0; s < subchannels(mode, size); s++) {
         if (!is_lit(mode, mask, s)) continue;
         for (uint32_t m = 0; m < INDICES; m++) {
-            uint32_t at = grid_place(mode, size, cell, slot, s, m);
+            uint32_t at = grid_place(mode, size, cell, slot, s, m, pilots);
             if (at < carriers) copy_point(points + 2 * m, grid + 2 * at);
         }
         points += 2 * INDICES;
@@ -396,13 +455,14 @@ uint32_t plain_empty_first(uint32_t mode, uint32_t size, uint32_t cell, uint32_t
     return 0;
 }
 
-uint32_t plain_look(uint32_t mode, uint32_t size, uint32_t cell, uint32_t mask, uint32_t symbol, const float *grid,
-                    size_t grid_len, int32_t carrier, uint32_t *kind, float point[2], uint32_t *slot,
-                    uint32_t *subchannel, uint32_t *index) {
+uint32_t plain_look(uint32_t mode, uint32_t size, uint32_t cell, uint32_t mask, uint32_t symbol, const uint32_t *pilots,
+                    size_t pilots_len, const float *grid, size_t grid_len, int32_t carrier, uint32_t *kind,
+                    float point[2], uint32_t *slot, uint32_t *subchannel, uint32_t *index) {
     uint32_t what, at_slot, at_subchannel, at_index, refusal = setup_refusal(mode, size, cell);
     if (refusal) return refusal;
     if (!is_mask(mode, mask)) return 17;
-    refusal = plain_locate(mode, size, cell, symbol, carrier, &what, &at_slot, &at_subchannel, &at_index);
+    refusal = plain_locate(mode, size, cell, symbol, carrier, pilots, pilots_len, &what, &at_slot, &at_subchannel,
+                           &at_index);
     if (refusal) return refusal;
     if (grid_len != grid_floats(mode, size)) return 9;
     uint32_t column = (uint32_t)(dc_column(size) + carrier), used = column - left_guards(mode, size) - (carrier > 0);

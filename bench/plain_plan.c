@@ -12,7 +12,7 @@ static uint32_t place_refusal(uint32_t size, const uint32_t *zones, uint32_t k) 
     uint32_t mode = zone[0], refusal = zone_refusal(mode, size, zone[1], zone[2], zone[3]);
     if (refusal) return refusal;
     if (k == 0) return size == 2048 && mode != PUSC_DL ? 14 : 0;
-    return zones[VALUES * (k - 1)] >= AMC && mode < AMC ? 14 : 0;
+    return is_amc(zones[VALUES * (k - 1)]) && !is_amc(mode) ? 14 : 0;
 }
 
 struct bytes {

@@ -4,18 +4,22 @@
 #define PLAIN_RANGES_H
 
 #include <stdbool.h>
+#include <stddef.h>
 #include <stdint.h>
 
-enum { PUSC_DL, PUSC_UL, OFUSC, AMC, AMC_2X3, AMC_3X2, AMC_1X6, MODES };
+enum { PUSC_DL, PUSC_UL, OFUSC, AMC, AMC_2X3, AMC_3X2, AMC_1X6, FUSC, MODES };
 enum { SLOTS = 512, INDICES = 48, AMC_CELLS = 2352 };
 enum { GROUPS = 6, FULL_MASK = 63 }; // of PUSC downlink; the other modes have mask 0
+enum { PILOTS = 166, FUSC_USED = 1702 }; // of FUSC: the entries of its pilot list, and its used numbers
 static const uint8_t first_subchannel[GROUPS] = {0, 12, 20, 32, 40, 52};
 
 static inline bool is_bin_size(uint32_t size) { return size == 256 || size == 512 || size == 1024 || size == 2048; }
+static inline bool is_amc(uint32_t mode) { return mode >= AMC && mode <= AMC_1X6; }
+static inline bool has_bins(uint32_t mode) { return mode == OFUSC || is_amc(mode); }
 
 static inline uint32_t cells(uint32_t mode, uint32_t size) {
     uint32_t n = size / 64;
-    return mode == PUSC_DL ? 32 : mode == PUSC_UL ? 70 : mode == OFUSC ? n * n : AMC_CELLS;
+    return mode == PUSC_DL || mode == FUSC ? 32 : mode == PUSC_UL ? 70 : mode == OFUSC ? n * n : AMC_CELLS;
 }
 
 // Symbols a slot.
@@ -23,7 +27,7 @@ static inline uint32_t symbols(uint32_t mode) {
     return mode == PUSC_DL || mode == AMC_3X2 ? 2 : mode == PUSC_UL || mode == AMC_2X3 ? 3 : mode == AMC_1X6 ? 6 : 1;
 }
 
-// A subchannel of AMC is six bins in all, so that there are N for each symbol.
+// A subchannel of AMC is six bins in all, so that there are N for each symbol. FUSC has 32, which is N at its size.
 static inline uint32_t subchannels(uint32_t mode, uint32_t size) {
     return mode == PUSC_DL ? 60 : mode == PUSC_UL ? 70 : size / 64 * symbols(mode);
 }
@@ -53,10 +57,19 @@ static inline bool is_mask(uint32_t mode, uint32_t mask) {
     return mode == PUSC_DL ? mask >= 1 && mask <= FULL_MASK : mask == 0;
 }
 
+// Question 20: a list that rises has none beyond its last.
+static inline bool is_pilot_list(uint32_t mode, const uint32_t *pilots, size_t len) {
+    uint32_t falls = 0;
+    if (mode != FUSC) return len == 0;
+    if (len != PILOTS) return false;
+    for (uint32_t i = 1; i < PILOTS; i++) falls |= pilots[i - 1] >= pilots[i];
+    return !falls && pilots[PILOTS - 1] < FUSC_USED;
+}
+
 // The first of questions 1, 2 and 3 that is answered no, or 0.
 static inline uint32_t setup_refusal(uint32_t mode, uint32_t size, uint32_t cell) {
     if (mode >= MODES) return 1;
-    if (mode < OFUSC ? size != 2048 : !is_bin_size(size)) return 2;
+    if (has_bins(mode) ? !is_bin_size(size) : size != 2048) return 2;
     return cell < cells(mode, size) ? 0 : 3;
 }
 

@@ -13,6 +13,17 @@ static uint32_t below(uint32_t n) {
     return (uint32_t)((uint64_t)state * n >> 32);
 }
 
+// Lists of pilots: those that are right, one after the other, and a damaged one for each stray.
+enum { RIGHT_LISTS = 16 };
+static uint32_t right_lists[RIGHT_LISTS][PILOTS], stray_lists[STRAYS][PILOTS];
+
+// Every used number is in it as likely as any other.
+static void draw_list(uint32_t *list) {
+    uint32_t count = 0;
+    for (uint32_t used = 0; used < FUSC_USED; used++)
+        if (below(FUSC_USED - used) < PILOTS - count) list[count++] = used;
+}
+
 // One in `odds` times puts into a field its own limit, or a limit of another one, or a number next to these.
 static void disturb(uint32_t *field, uint32_t limit, uint32_t odds) {
     static const uint32_t limits[] = {0,    2,    4,    6,    8,    16,   24,   32,    48,    60,    64,
@@ -42,11 +53,26 @@ static struct request accepted_request(uint32_t mode, uint32_t size, uint32_t ma
         .points_len = 2 * INDICES * lit_subchannels(mode, size, mask),
         .grid_len = 2 * size * symbols(mode),
         .carriers = size * symbols(mode) / 2,
+        .pilots = mode == FUSC ? right_lists[below(RIGHT_LISTS)] : NULL,
+        .pilots_len = mode == FUSC ? PILOTS : 0,
     };
 }
 
+// One in six times another length, and one in three a list that is not strictly rising or goes beyond the band, at one
+// entry, most often the last or the first.
+static void disturb_pilots(struct request *q, uint32_t *list) {
+    uint32_t at[4] = {0, PILOTS - 1, below(PILOTS), 1 + below(PILOTS - 1)}, i = at[below(4)];
+    draw_list(list);
+    q->pilots = list;
+    if (below(6) == 0) q->pilots_len = q->pilots_len == PILOTS ? below(PILOTS) : 1 + below(PILOTS);
+    if (below(3)) return;
+    uint32_t others[4] = {list[i > 0 ? i - 1 : 0], list[i < PILOTS - 1 ? i + 1 : i], FUSC_USED - 1 + below(3),
+                          list[i] + (1u << below(32))};
+    list[i] = others[below(4)];
+}
+
 // PUSC downlink has any mask half of the time, with the points that it lights.
-static void disturb_request(struct request *q) {
+static void disturb_request(struct request *q, uint32_t *list) {
     uint32_t cell_count = cells(q->mode, q->size), subchannel_count = subchannels(q->mode, q->size);
     if (q->mode == PUSC_DL && below(2)) q->mask = below(FULL_MASK + 2);
     q->points_len = 2 * INDICES * lit_subchannels(q->mode, q->size, q->mask);
@@ -72,12 +98,14 @@ static void disturb_request(struct request *q) {
     };
     for (uint32_t i = 0; i < sizeof fields / sizeof fields[0]; i++) disturb(fields[i].field, fields[i].limit, 6);
     if (below(2)) q->carrier = ~q->carrier; // the range is its own mirror image, and so are the numbers past it
+    disturb_pilots(q, list);
 }
 
 void draw_requests(uint32_t mode, uint32_t size, uint32_t mask) {
     state = 64 * size + mode;
+    for (uint32_t n = 0; n < RIGHT_LISTS; n++) draw_list(right_lists[n]);
     for (uint32_t i = 0; i < REQUESTS + STRAYS; i++) requests[i] = accepted_request(mode, size, mask);
-    for (uint32_t i = REQUESTS; i < REQUESTS + STRAYS; i++) disturb_request(&requests[i]);
+    for (uint32_t n = 0; n < STRAYS; n++) disturb_request(&requests[REQUESTS + n], stray_lists[n]);
 }
 
 // A zone with any mask that its mode has.
@@ -89,7 +117,7 @@ static void set_zone(struct plan *p, uint32_t k, uint32_t mode, uint32_t cell, u
     zone[3] = mode == PUSC_DL ? 1 + below(FULL_MASK) : 0;
 }
 
-static uint32_t any_amc(void) { return AMC + below(MODES - AMC); }
+static uint32_t any_amc(void) { return AMC + below(AMC_1X6 + 1 - AMC); }
 
 // One zone, each value but the size in one byte: 7 bytes.
 static void shortest_plan(struct plan *p) {
@@ -113,8 +141,9 @@ static void longest_plan(struct plan *p) {
 static void any_plan(struct plan *p) {
     p->count = 1 + below(8);
     p->size = 256u << below(4);
-    uint32_t amc_from = 1 + below(8), other = p->size == 2048 ? PUSC_DL : OFUSC;
+    uint32_t amc_from = 1 + below(8);
     for (uint32_t k = 0; k < p->count; k++) {
+        uint32_t other = p->size != 2048 ? OFUSC : k > 0 && below(2) ? FUSC : PUSC_DL;
         uint32_t mode = below(12) == 0 ? below(MODES) : k < amc_from ? other : any_amc();
         set_zone(p, k, mode, below(cells(mode, p->size)), 1 + below(SLOTS));
     }

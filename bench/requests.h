@@ -2,6 +2,7 @@
 #ifndef REQUESTS_H
 #define REQUESTS_H
 
+#include <stddef.h>
 #include <stdint.h>
 
 // Each array starts with requests that are accepted; these are timed. The strays after them are compared alone: some of
@@ -9,11 +10,14 @@
 enum { REQUESTS = 512, PLANS = 128, LISTS = 128, STRAYS = 512, PLAN_ROOM = 56, MOST_BURSTS = 64 };
 
 // All fields that a call of the map may have; the second cell and subchannel are those of the collision calls, lay_len
-// is the points' length in lay. carriers, of empty_first, is half of the grid, in a stray any number to past its end.
+// is the points' length in lay. carriers, of empty_first, is half of the grid, in a stray any number to past its end. pilots
+// is the pilot list, of which several requests may have the same; a stray's may be unfit.
 struct request {
     uint32_t mode, size, cell, mask, slot, subchannel, index, symbol, cell_b, subchannel_b;
     uint32_t lay_len, points_len, grid_len, carriers;
     int32_t carrier;
+    const uint32_t *pilots;
+    size_t pilots_len;
 };
 
 // A plan as its fields and as its bytes, and the room for writing it.

@@ -33,14 +33,14 @@ expect 0 "symbol 0 carrier 838
 holds slot 0 subchannel 1 index 11" point 0 2048 0 0 1 11
 expect 0 "symbol 4 carrier -6
 holds slot 1 subchannel 5 index 1" point 4 256 176 1 5 1
-expect 1 "refused 1: Is the mode listed (in a plan and of bursts: 0 or 2 to 6)?" point 7 1024 256 0 0 0
+expect 1 "refused 1: Is the mode listed (in a plan and of bursts: 0 or 2 to 7)?" point 8 1024 256 0 0 0
 expect 1 "refused 2: Is the size that mode's (of a plan: 256, 512, 1024 or 2048)?" point 2 128 256 0 0 0
 expect 1 "refused 3: Is the cell in range?" point 2 1024 256 0 0 0
 expect 1 "refused 4: Is the slot below 512, the zone's symbol below 512 times the slot length?" point 3 256 2351 512 0 0
 expect 1 "refused 5: Is the subchannel in range (of a lay: and lit)?" point 1 2048 69 511 70 48
 expect 1 "refused 6: Is the index below 48?" point 2 1024 17 0 0 48
 # A number that 32 bits do not hold is refused, not cut to one that they hold.
-expect 1 "refused 1: Is the mode listed (in a plan and of bursts: 0 or 2 to 6)?" point 4294967298 1024 17 0 0 0
+expect 1 "refused 1: Is the mode listed (in a plan and of bursts: 0 or 2 to 7)?" point 4294967298 1024 17 0 0 0
 expect 1 "refused 3: Is the cell in range?" point 2 1024 -1 0 0 0
 expect 1 "refused 6: Is the index below 48?" point 2 1024 17 0 0 340282366920938463463374607431768211456
 for word in first "" " 3" "3 " "	3" " -18446744073709551615" "- 3" - --3 +3 1_0 0x1 1.0 1e3 "٣"; do
@@ -82,7 +82,7 @@ expect 0 "$(table 1 2 1024 17 0 0)" places 2 1024 17 0 0
 expect 0 "$(table 2 0 2048 5 511 59)" places 0 2048 5 511 59
 expect 0 "$(table 3 1 2048 69 7 69)" places 1 2048 69 7 69
 expect 0 "$(table 6 6 256 176 1 23)" places 6 256 176 1 23
-expect 1 "refused 1: Is the mode listed (in a plan and of bursts: 0 or 2 to 6)?" places 7 128 256 512 16
+expect 1 "refused 1: Is the mode listed (in a plan and of bursts: 0 or 2 to 7)?" places 8 128 256 512 16
 expect 1 "refused 2: Is the size that mode's (of a plan: 256, 512, 1024 or 2048)?" places 2 128 256 512 16
 expect 1 "refused 3: Is the cell in range?" places 2 1024 256 512 16
 expect 1 "refused 4: Is the slot below 512, the zone's symbol below 512 times the slot length?" places 2 1024 255 512 16
@@ -150,6 +150,36 @@ for word in "" x 0x3F 3F +7; do
 done
 expect 2 "" slot 0 2048 5 3
 
+# FUSC with the evenly spread lists, from the first to the last, and with all pilots above the data.
+for fields in "0 0 31 46 26 -217" "31 511 0 0 0 -848" "31 511 31 47 51 -209"; do
+    set -- $fields
+    expect 0 "symbol $2 carrier $6
+holds slot $2 subchannel $3 index $4
+166 pilots, 1536 points, 346 carriers with nothing
+1536 points: all back" fusc "$1" "$2" "$3" "$4" "$5" 10
+done
+expect 0 "symbol 3 carrier -343
+holds slot 3 subchannel 7 index 20
+166 pilots, 1536 points, 346 carriers with nothing
+1536 points: all back" fusc 5 3 7 20 1536 1
+expect 1 "refused 3: Is the cell in range?" fusc 32 512 32 48 52 10
+expect 1 "refused 4: Is the slot below 512, the zone's symbol below 512 times the slot length?" fusc 31 512 32 48 52 10
+expect 1 "refused 5: Is the subchannel in range (of a lay: and lit)?" fusc 31 511 32 48 52 10
+expect 1 "refused 6: Is the index below 48?" fusc 31 511 31 48 52 10
+pilots="refused 20: Are the pilots 166 rising used numbers below 1702 in mode 7, none in the others?"
+for spread in "52 10" "1537 1" "0 11" "0 0" "0 -1" "-1 1" "4294967296 1" "0 4294967295" "26 4294967306"; do
+    expect 1 "$pilots" fusc 31 511 31 47 $spread
+done
+# The examples for the modes that have pilots of their own give no list.
+expect 1 "$pilots" point 7 2048 31 511 31 47
+expect 1 "$pilots" carrier 7 2048 31 511 0
+expect 1 "$pilots" places 7 2048 31 511 31
+expect 1 "$pilots" slot 7 2048 31 0 511
+expect 1 "$pilots" capture 7 2048 31 0 511
+expect 2 "" fusc 0 0 31 46 26
+expect 2 "" fusc 0 0 31 46 26 10 0
+expect 2 "" fusc 0 0 31 46 26 x
+
 expect 0 "128 of 256 carriers: 96 of 192 points
 256 of 256 carriers: 192 of 192 points
 points as emptied at once" capture 2 256 15 0 9
@@ -166,7 +196,7 @@ expect 0 "1024 of 4096 carriers: 240 of 960 points
 3072 of 4096 carriers: 720 of 960 points
 4096 of 4096 carriers: 960 of 960 points
 points as emptied at once" capture 0 2048 5 3 3
-expect 1 "refused 1: Is the mode listed (in a plan and of bursts: 0 or 2 to 6)?" capture 7 2048 5 3 3
+expect 1 "refused 1: Is the mode listed (in a plan and of bursts: 0 or 2 to 7)?" capture 8 2048 5 3 3
 expect 1 "refused 2: Is the size that mode's (of a plan: 256, 512, 1024 or 2048)?" capture 2 0 0 0 0
 expect 1 "refused 3: Is the cell in range?" capture 0 2048 32 64 512
 expect 1 "$mask" capture 0 2048 31 64 512
@@ -192,6 +222,13 @@ bytes 02 80 08 04 B0 01 01 00 03 00 02 00" plan 02 80 08 04 B0 01 01 00 03 00 02
 order="refused 14: At 2048, is the first zone mode 0, and does only AMC (modes 3 to 6) follow AMC?"
 expect 1 "$order" plan 01 80 10 02 00 0C 00
 expect 1 "$order" plan 02 80 08 04 B0 01 01 00 02 00 02 00
+expect 0 "size 2048
+mode 0 cell 0 slots 12 mask 63
+mode 7 cell 31 slots 1 mask 0
+mode 3 cell 0 slots 2 mask 0
+bytes 03 80 10 00 00 0C 3F 07 1F 01 00 03 00 02 00" plan 03 80 10 00 00 0C 3F 07 1F 01 00 03 00 02 00
+expect 1 "$order" plan 01 80 10 07 00 01 00
+expect 1 "$order" plan 03 80 10 00 00 0C 3F 03 00 02 00 07 00 01 00
 expect 1 "$mask" plan 01 80 10 02 00 0C 3F
 expect 1 "$mask" plan 01 80 10 00 00 0C 00
 expect 1 "refused 11: Does the value end by its third group, in shortest form?" plan 81 00
@@ -221,10 +258,14 @@ subchannels 59 to 59: burst 0" bursts 0 2048 5 12 1 11 59 59 1 11 1
 expect 0 "1 bursts
 slot 511 subchannel 191: no burst, 1 looked at
 subchannels 0 to 191: no burst" bursts 6 2048 2351 511 0 511 191 0 192 0 511
+expect 0 "1 bursts
+slot 5 subchannel 31: burst 0, 1 looked at
+subchannels 0 to 29: no burst
+subchannels 30 to 31: burst 0" bursts 7 2048 31 6 0 5 31 30 2 5 1
 expect 0 "0 bursts
 slot 0 subchannel 0: no burst, 0 looked at
 subchannels 0 to 3: no burst" bursts 2 256 15 1 0 0 0
-expect 1 "refused 1: Is the mode listed (in a plan and of bursts: 0 or 2 to 6)?" bursts 1 2048 0 1 0 0 0
+expect 1 "refused 1: Is the mode listed (in a plan and of bursts: 0 or 2 to 7)?" bursts 1 2048 0 1 0 0 0
 expect 1 "refused 2: Is the size that mode's (of a plan: 256, 512, 1024 or 2048)?" bursts 0 1024 32 0 64 512 60 0 0 0 0
 expect 1 "refused 3: Is the cell in range?" bursts 0 2048 32 0 64 512 60 0 0 0 0
 for word in 0 513 -1 4294967297; do

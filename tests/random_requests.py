@@ -6,8 +6,9 @@ Ten thousand requests a call. Every answer, every byte that is written and every
 A thousand times a slot is filled in two moves: its ground, then lays of all its subchannels, unlit ones too, in any order
 with repeats. Fails where one differs, and also where a refusal, a kind of carrier, lit or not, a mode, size and mask that a
 call has (with carriers on both sides of DC, within the range and past it; with counts of carriers that write none, some and
-all of the points), a mask refused in each mode, a mode after another that a plan may have, or a kind of list of bursts with
-each of its answers (burst_lists.py), never occurred.
+all of the points), a mask refused in each mode, a mode after another that a plan may have, a kind of pilot list that FUSC
+takes and each damage of one (pilot_lists.py), a list refused in each other mode and size, or a kind of list of bursts with each
+of its answers (burst_lists.py), never occurred.
 """
 
 import random
@@ -15,10 +16,12 @@ import sys
 from array import array
 from collections import Counter
 from functools import lru_cache, partial
+from itertools import cycle
 from operator import itemgetter
 
 import burst_lists
 import lent
+import pilot_lists
 import reference as ref
 from lent import Arena, signed_word, words
 
@@ -27,7 +30,8 @@ ROUND = 40  # requests of each call over one mode, size, cell, mask and slot
 SLOT_ROUND = 4  # slots filled in two moves, over the same
 SETUPS = [(mode, size) for mode in ref.MODES for size in ref.sizes(mode)]
 LIT = [(*setup, mask) for setup in SETUPS for mask in ref.masks(setup[0])]  # mode, size and mask
-TURNS = [lit for lit in LIT for _ in range(1 if lit[0] == ref.PUSC_DL else 9)]
+OFTEN = {ref.PUSC_DL: 1, ref.FUSC: 18}  # how often each mode, size and mask has its turn; the other modes' 9 times
+TURNS = [lit for lit in LIT for _ in range(OFTEN.get(lit[0], 9))]
 ORDERS = [(a, b) for a in ref.PLAN_MODES for b in ref.PLAN_MODES if a not in ref.SHAPES or b in ref.SHAPES]
 KINDS = {ref.GUARD: 0, ref.DC: 1, ref.PILOT: 2, ref.DATA: 3}
 LARGEST = 2**32 - 1
@@ -116,6 +120,51 @@ def pointer(dice, address, length):
     return address if length else dice.choice([address, address, 0, 4, 2**47])
 
 
+# --- pilot lists ------------------------------------------------------------------------------
+
+LIST_PIECE = 4 * (2 * pilot_lists.COUNT)  # bytes: twice the right length
+
+# Cases of a call that has a pilot list: each kind and each damage in FUSC, and any list in another mode and size.
+LISTS = [("list", kind) for kind in [*pilot_lists.GOOD, "random", *pilot_lists.DAMAGES] + ["long"] * lent.HAS_LONG]
+LISTS += [("list", *setup) for setup in SETUPS if setup[0] != ref.FUSC]
+
+
+class Lent:
+    """A pilot list as it is lent to a call: its kind, its numbers, and the numbers that stand in memory."""
+
+    in_turn = cycle(pilot_lists.GOOD.items())
+    good = []  # the kinds and the lists that FUSC has in this turn
+
+    @classmethod
+    def next_turn(cls, dice):
+        cls.good = [next(cls.in_turn), ("random", pilot_lists.random_list(dice))]
+
+    def __init__(self, dice, mode, last=True):
+        """Most often one that the mode takes. Behind it stand numbers that go on with it. Last: no other piece is behind
+        it, so that its length can be one past 32 bits."""
+        if mode == ref.FUSC:
+            self.kind, self.numbers = dice.choice(self.good) if dice.randrange(4) else pilot_lists.damaged(dice)
+        else:
+            self.kind = "none" if dice.randrange(8) else "other"
+            self.numbers = () if self.kind == "none" else pilot_lists.unfit(dice, mode)
+        end = min(LARGEST - pilot_lists.COUNT, max(self.numbers, default=-1))
+        self.given = words([*self.numbers, *range(end + 1, end + 1 + pilot_lists.COUNT)][: 2 * pilot_lists.COUNT])
+        if last and lent.HAS_LONG and dice.randrange(20) == 0:
+            # Too long, though its lowest 32 bits are not.
+            self.kind, self.numbers = "long", range(lent.LONG + len(self.numbers))
+
+    def arguments(self, dice, address):
+        length = len(self.numbers)
+        return [pointer(dice, address, length), length]
+
+    def met(self, fields, number):
+        """What LISTS has of it: the list was accepted, or was what the call refused."""
+        if number not in (0, 20):
+            return []
+        mode, size = fields[:2]
+        return [("list", self.kind)] if mode == ref.FUSC else [("list", mode, size)] if number == 20 else []
+
+
 # --- the calls --------------------------------------------------------------------------------
 
 # A request is a call's arguments, what the arena is given before, the refusal, what is written to the arena, and the
@@ -137,30 +186,35 @@ CARRIERS = [(*setup, *case) for setup in SETUPS for case in ((0, -1), (0, 0), (0
 
 
 class Place:
-    name, arena = "bp_place", Arena(4, 4)
-    refusals, cases = [1, 2, 3, 4, 5, 6], [(*setup, side) for setup in SETUPS for side in (-1, 1)]
+    name, arena = "bp_place", Arena(4, 4, LIST_PIECE)
+    refusals, cases = [1, 2, 3, 4, 5, 6, 20], [(*setup, side) for setup in SETUPS for side in (-1, 1)] + LISTS
 
     def request(self, dice, noise, mode, size, cell, mask, slot):
         limits = setup_limits(mode, size) + [ref.SLOTS, ref.subchannels(mode, size), ref.POINTS]
         good = [mode, size] + [within(dice, limit) for limit in limits[2:]]
         fields = spoiled(dice, good, limits, {1: other_size})
-        number, symbol, carrier = ref.place(*fields)
+        pilots = Lent(dice, mode)
+        number, symbol, carrier = ref.place(*fields, pilots.numbers)
         written = [] if number else [(0, words([symbol])), (1, signed_word(carrier))]
-        met = [] if number else [(*fields[:2], side(carrier))]
-        return fields + list(map(self.arena.address, (0, 1))), [], number, written, met
+        met = ([] if number else [(*fields[:2], side(carrier))]) + pilots.met(fields, number)
+        *outs, last = map(self.arena.address, range(3))
+        return fields + pilots.arguments(dice, last) + outs, [(2, pilots.given)], number, written, met
 
 
 class Places:
-    name, arena = "bp_places", Arena(4 * ref.POINTS)
-    refusals, cases = [1, 2, 3, 4, 5], SETUPS
+    name, arena = "bp_places", Arena(4 * ref.POINTS, LIST_PIECE)
+    refusals, cases = [1, 2, 3, 4, 5, 20], SETUPS + LISTS
 
     def request(self, dice, noise, mode, size, cell, mask, slot):
         limits = setup_limits(mode, size) + [ref.SLOTS, ref.subchannels(mode, size)]
         good = [mode, size] + [within(dice, limit) for limit in limits[2:]]
         fields = spoiled(dice, good, limits, {1: other_size})
-        number, places = ref.places(*fields)
+        pilots = Lent(dice, mode)
+        number, places = ref.places(*fields, pilots.numbers)
         written = [] if number else [(0, words(places))]
-        return fields + [self.arena.address(0)], [], number, written, [] if number else [tuple(fields[:2])]
+        met = ([] if number else [tuple(fields[:2])]) + pilots.met(fields, number)
+        out, last = map(self.arena.address, range(2))
+        return fields + pilots.arguments(dice, last) + [out], [(1, pilots.given)], number, written, met
 
 
 def place_in(dice, mode, size, slot):
@@ -171,17 +225,21 @@ def place_in(dice, mode, size, slot):
 
 
 class Locate:
-    name, arena = "bp_locate", Arena(4, 4, 4, 4)
-    refusals, cases = [1, 2, 3, 4, 7], CARRIERS + [ref.GUARD, ref.DC, ref.PILOT, ref.DATA]
+    name, arena = "bp_locate", Arena(4, 4, 4, 4, LIST_PIECE)
+    FOUND = [(kind, mode) for kind in KINDS for mode in ref.MODES]
+    refusals, cases = [1, 2, 3, 4, 7, 20], CARRIERS + FOUND + LISTS
 
     def request(self, dice, noise, mode, size, cell, mask, slot):
         place, limits = place_in(dice, mode, size, slot)
         others = {1: other_size, 4: other_carrier}
         fields = spoiled(dice, [mode, size, cell] + place, setup_limits(mode, size) + limits, others)
-        number, what = ref.locate(*fields)
+        pilots = Lent(dice, mode)
+        number, what = ref.locate(*fields, pilots.numbers)
         written = [] if number else [(i, words([x])) for i, x in enumerate((KINDS[what[0]],) + what[1:])]
-        met = [(*fields[:2], number, side(fields[4]))] + ([] if number else [what[0]])
-        return fields + list(map(self.arena.address, range(4))), [], number, written, met
+        met = [(*fields[:2], number, side(fields[4]))] + pilots.met(fields, number)
+        met += [] if number else [(what[0], fields[0])]
+        *outs, last = map(self.arena.address, range(5))
+        return fields + pilots.arguments(dice, last) + outs, [(4, pilots.given)], number, written, met
 
 
 class PointsLen:
@@ -212,24 +270,24 @@ class GridLen(PointsLen):
 
 
 @lru_cache(maxsize=64)
-def ground_sources(mode, size, cell, mask, slot):
+def ground_sources(mode, size, cell, mask, slot, pilots):
     """For each float of the ground, which of (0, the pilot's two) it is: the reference lays it with these numbers."""
-    return itemgetter(*ref.ground(mode, size, cell, mask, slot, [1, 2], [9] * ref.grid_floats(mode, size))[1])
+    return itemgetter(*ref.ground(mode, size, cell, mask, slot, [1, 2], [9] * ref.grid_floats(mode, size), pilots)[1])
 
 
 @lru_cache(maxsize=64)
-def fill_sources(mode, size, cell, mask, slot):
+def fill_sources(mode, size, cell, mask, slot, pilots):
     """For each float of the filled grid, which of (0, the pilot's two, the points') it is: the reference fills a grid
     with these numbers."""
-    points = list(range(3, 3 + ref.lit_points_len(mode, size, mask)))
-    return itemgetter(*ref.fill(mode, size, cell, mask, slot, [1, 2], points, [0] * ref.grid_floats(mode, size))[1])
+    points, grid = list(range(3, 3 + ref.lit_points_len(mode, size, mask))), [0] * ref.grid_floats(mode, size)
+    return itemgetter(*ref.fill(mode, size, cell, mask, slot, [1, 2], points, grid, pilots)[1])
 
 
 @lru_cache(maxsize=64)
-def empty_sources(mode, size, cell, mask, slot):
+def empty_sources(mode, size, cell, mask, slot, pilots):
     """For each float of the points, which one of the grid it is."""
     points = [0] * ref.lit_points_len(mode, size, mask)
-    return ref.empty(mode, size, cell, mask, slot, list(range(ref.grid_floats(mode, size))), points)[1]
+    return ref.empty(mode, size, cell, mask, slot, list(range(ref.grid_floats(mode, size))), points, pilots)[1]
 
 
 def slot_fields(dice, mode, size, cell, mask, slot):
@@ -238,33 +296,39 @@ def slot_fields(dice, mode, size, cell, mask, slot):
 
 
 class Ground:
-    name, arena = "bp_ground", Arena(8, 4 * GRID_ROOM)
-    refusals, cases = [1, 2, 3, 17, 4, 9], MASKS
+    """The list lies before the grid or behind it, so that either's length can be one past 32 bits; so in the calls below."""
+
+    name, arena = "bp_ground", Arena(8, LIST_PIECE, 4 * GRID_ROOM, LIST_PIECE)
+    refusals, cases = [1, 2, 3, 17, 4, 20, 9], MASKS + LISTS
 
     def request(self, dice, noise, mode, size, cell, mask, slot):
-        fields = slot_fields(dice, mode, size, cell, mask, slot)
-        grid_len = some_length(dice, ref.grid_floats(mode, size), LAID * ref.subchannels(mode, size), GRID_ROOM, True)
-        number = ref.ground_refusal(*fields, grid_len)
-        pilot, grid = map(self.arena.address, range(2))
-        arguments = fields + [pilot, pointer(dice, grid, grid_len), grid_len]
+        fields, piece = slot_fields(dice, mode, size, cell, mask, slot), dice.choice([1, 3])
+        pilots, floats = Lent(dice, mode, piece == 3), LAID * ref.subchannels(mode, size)
+        grid_len = some_length(dice, ref.grid_floats(mode, size), floats, GRID_ROOM, piece == 1)
+        number = ref.ground_refusal(*fields, grid_len, pilots.numbers)
+        pilot, grid, given = self.arena.address(0), self.arena.address(2), [(piece, pilots.given)]
+        lent_list = pilots.arguments(dice, self.arena.address(piece))
+        arguments = fields + lent_list + [pilot, pointer(dice, grid, grid_len), grid_len]
+        met = masks_met(fields, number) + pilots.met(fields, number)
         if number:
-            return arguments, [], number, [], masks_met(fields, number)
+            return arguments, given, number, [], met
         floats = array("I", noise.run(dice, 8))
-        after = ground_sources(*fields)(array("I", [0]) + floats)
-        written = [(1, array("I", after).tobytes())]
-        return arguments, [(0, floats.tobytes())], 0, written, masks_met(fields, 0)
+        after = ground_sources(*fields, pilots.numbers)(array("I", [0]) + floats)
+        written = [(2, array("I", after).tobytes())]
+        return arguments, given + [(0, floats.tobytes())], 0, written, met
 
 
 class Lay:
     """The points lie before the grid or behind it, so that either's length can be one past 32 bits."""
 
-    name, arena = "bp_lay", Arena(4 * MOST_POINTS, 4 * GRID_ROOM, 4 * MOST_POINTS)
-    refusals, cases = [1, 2, 3, 17, 4, 5, 8, 9], MASKS + ["unlit"]
+    name, arena = "bp_lay", Arena(LIST_PIECE, 4 * MOST_POINTS, 4 * GRID_ROOM, 4 * MOST_POINTS, LIST_PIECE)
+    refusals, cases = [1, 2, 3, 17, 4, 5, 20, 8, 9], MASKS + LISTS + ["unlit"]
 
-    def lengths(self, dice, mode, size, points_last):
+    def lengths(self, dice, mode, size, last):
+        """The points' and the grid's; last is the piece behind all others."""
         points, grid = LAID * ref.subchannels(mode, size), ref.grid_floats(mode, size)
-        points_len = some_length(dice, LAID, points, MOST_POINTS, points_last)
-        return points_len, some_length(dice, grid, points, GRID_ROOM, not points_last)
+        points_len = some_length(dice, LAID, points, MOST_POINTS, last == 3)
+        return points_len, some_length(dice, grid, points, GRID_ROOM, last == 2)
 
     def fields(self, dice, mode, size, cell, mask, slot):
         """The subchannel is any, or a lit one."""
@@ -274,24 +338,28 @@ class Lay:
 
     def request(self, dice, noise, mode, size, cell, mask, slot):
         fields = self.fields(dice, mode, size, cell, mask, slot)
-        piece = dice.choice([0, 2])
-        points_len, grid_len = self.lengths(dice, mode, size, piece == 2)
-        number = ref.lay_refusal(*fields, points_len, grid_len)
-        points, grid = self.arena.address(piece), self.arena.address(1)
-        arguments = fields + [pointer(dice, points, points_len), points_len, pointer(dice, grid, grid_len), grid_len]
+        piece, list_piece = dice.choice([1, 3]), dice.choice([0, 4])
+        pilots = Lent(dice, mode, list_piece == 4)
+        points_len, grid_len = self.lengths(dice, mode, size, max(2, piece, list_piece))
+        number = ref.lay_refusal(*fields, points_len, grid_len, pilots.numbers)
+        points, grid, given = self.arena.address(piece), self.arena.address(2), [(list_piece, pilots.given)]
+        arguments = fields + pilots.arguments(dice, self.arena.address(list_piece))
+        arguments += [pointer(dice, points, points_len), points_len, pointer(dice, grid, grid_len), grid_len]
+        met = masks_met(fields, number) + pilots.met(fields, number)
         if number:
             unlit = number == 5 and fields[5] < ref.subchannels(*fields[:2])
-            return arguments, [], number, [], masks_met(fields, number) + ["unlit"] * unlit
+            return arguments, given, number, [], met + ["unlit"] * unlit
         laid, before = array("I", noise.run(dice, 4 * LAID)), array("I", noise.run(dice, 4 * grid_len))
-        after = array("I", ref.lay(*fields, laid, before)[1])
-        given = [(piece, laid.tobytes()), (1, before.tobytes())]
-        return arguments, given, 0, [(1, after.tobytes())], masks_met(fields, 0)
+        after = array("I", ref.lay(*fields, laid, before, pilots.numbers)[1])
+        given += [(piece, laid.tobytes()), (2, before.tobytes())]
+        return arguments, given, 0, [(2, after.tobytes())], met
 
 
-def ground_and_lays(library, fields, pilot, lays, grid, grid_len):
+def ground_and_lays(library, fields, pilots, pilot, lays, grid, grid_len):
     """Both moves; lays are pairs of a subchannel and where its points are. The greatest refusal, or 0."""
-    numbers = [library.bp_ground(*fields, pilot, grid, grid_len)]
-    numbers += [library.bp_lay(*fields, subchannel, points, LAID, grid, grid_len) for subchannel, points in lays]
+    numbers = [library.bp_ground(*fields, *pilots, pilot, grid, grid_len)]
+    for subchannel, points in lays:
+        numbers.append(library.bp_lay(*fields, subchannel, *pilots, points, LAID, grid, grid_len))
     return max(numbers)
 
 
@@ -300,7 +368,7 @@ class Slot:
     unlit one is refused, with any floats. So the grid is the one that the reference fills."""
 
     OTHERS = 1000  # floats that any points are taken from
-    name, arena = "ground_and_lays", Arena(8, 4 * MOST_POINTS, 4 * OTHERS, 4 * MOST_GRID)
+    name, arena = "ground_and_lays", Arena(8, 4 * MOST_POINTS, 4 * OTHERS, 4 * MOST_GRID, LIST_PIECE)
     refusals, cases, a_round = [5], LIT, SLOT_ROUND
 
     def lays(self, dice, subchannels, lit):
@@ -315,37 +383,49 @@ class Slot:
     def request(self, dice, noise, mode, size, cell, mask, slot):
         fields, subchannels = (mode, size, cell, mask, slot), ref.subchannels(mode, size)
         lit = ref.lit_subchannels(mode, size, mask)
-        pilot, grid = self.arena.address(0), self.arena.address(3)
-        arguments = [fields, pilot, list(self.lays(dice, subchannels, lit)), grid, ref.grid_floats(mode, size)]
+        pilot, grid, pilots = self.arena.address(0), self.arena.address(3), ()
+        if mode == ref.FUSC:
+            pilots = dice.choice(Lent.good)[1]
+        lent_list = self.arena.address(4), len(pilots)
+        lays = list(self.lays(dice, subchannels, lit))
+        arguments = [fields, lent_list, pilot, lays, grid, ref.grid_floats(mode, size)]
         floats = array("I", noise.run(dice, 8 + 4 * LAID * len(lit)))
-        after = fill_sources(*fields)(array("I", [0]) + floats)
+        after = fill_sources(*fields, pilots)(array("I", [0]) + floats)
         given, written = [(0, floats[:2].tobytes()), (1, floats[2:].tobytes())], [(3, array("I", after).tobytes())]
+        given.append((4, words(pilots)))
         return arguments, given, 0 if len(lit) == subchannels else 5, written, [(mode, size, mask)]
 
 
 class Empty:
-    name, arena = "bp_empty", Arena(4 * GRID_ROOM, 4 * POINTS_ROOM)
-    refusals, cases = [1, 2, 3, 17, 4, 8, 9], MASKS
+    name, arena = "bp_empty", Arena(LIST_PIECE, 4 * GRID_ROOM, 4 * POINTS_ROOM, LIST_PIECE)
+    refusals, cases = [1, 2, 3, 17, 4, 20, 8, 9], MASKS + LISTS
 
-    def buffers(self, dice, mode, size, mask):
+    def lent_list(self, dice, mode):
+        """A pilot list, the piece where it lies, and its arguments."""
+        piece = dice.choice([0, 3])
+        pilots = Lent(dice, mode, piece == 3)
+        return pilots, piece, pilots.arguments(dice, self.arena.address(piece))
+
+    def buffers(self, dice, mode, size, mask, points_last):
         """The grid and the points, each a pointer and a length."""
         points_floats, grid_floats = ref.lit_points_len(mode, size, mask), ref.grid_floats(mode, size)
         others = [grid_floats, ref.points_len(mode, size), points_floats + LAID, points_floats - LAID]
-        points_len = some_length(dice, points_floats, dice.choice(others), POINTS_ROOM, True)
+        points_len = some_length(dice, points_floats, dice.choice(others), POINTS_ROOM, points_last)
         grid_len = some_length(dice, grid_floats, points_floats, GRID_ROOM, False)
-        grid, points = map(self.arena.address, range(2))
+        grid, points = map(self.arena.address, (1, 2))
         return [pointer(dice, grid, grid_len), grid_len, pointer(dice, points, points_len), points_len]
 
     def request(self, dice, noise, mode, size, cell, mask, slot):
         fields = slot_fields(dice, mode, size, cell, mask, slot)
-        buffers = self.buffers(dice, mode, size, mask)
-        number = ref.buffers_refusal(*fields, buffers[3], buffers[1])
+        pilots, piece, lent_list = self.lent_list(dice, mode)
+        buffers, given = self.buffers(dice, mode, size, mask, piece == 0), [(piece, pilots.given)]
+        number = ref.buffers_refusal(*fields, buffers[3], buffers[1], pilots.numbers)
+        arguments, met = fields + lent_list + buffers, masks_met(fields, number) + pilots.met(fields, number)
         if number:
-            return fields + buffers, [], number, [], masks_met(fields, number)
+            return arguments, given, number, [], met
         floats = array("I", noise.run(dice, 4 * buffers[1]))
-        after = itemgetter(*empty_sources(*fields))(floats)
-        written = [(1, array("I", after).tobytes())]
-        return fields + buffers, [(0, floats.tobytes())], 0, written, masks_met(fields, 0)
+        after = itemgetter(*empty_sources(*fields, pilots.numbers))(floats)
+        return arguments, given + [(1, floats.tobytes())], 0, [(2, array("I", after).tobytes())], met
 
 
 def some_count(dice, mode, size):
@@ -360,49 +440,53 @@ class EmptyFirst(Empty):
     """The points on later carriers keep the floats that were there. The count is never refused."""
 
     name = "bp_empty_first"
-    cases = MASKS + [(*setup, part) for setup in SETUPS for part in ("none", "some", "all")]
+    cases = Empty.cases + [(*setup, part) for setup in SETUPS for part in ("none", "some", "all")]
 
     def request(self, dice, noise, mode, size, cell, mask, slot):
         fields = slot_fields(dice, mode, size, cell, mask, slot)
-        buffers, count = self.buffers(dice, mode, size, mask), some_count(dice, mode, size)
-        number = ref.buffers_refusal(*fields, buffers[3], buffers[1])
-        arguments = fields + [count] + buffers
+        pilots, piece, lent_list = self.lent_list(dice, mode)
+        buffers, count = self.buffers(dice, mode, size, mask, piece == 0), some_count(dice, mode, size)
+        number = ref.buffers_refusal(*fields, buffers[3], buffers[1], pilots.numbers)
+        arguments, given = fields + [count] + lent_list + buffers, [(piece, pilots.given)]
+        met = masks_met(fields, number) + pilots.met(fields, number)
         if number:
-            return arguments, [], number, [], masks_met(fields, number)
+            return arguments, given, number, [], met
         floats, old = (array("I", noise.run(dice, 4 * length)) for length in (buffers[1], buffers[3]))
-        sources = empty_sources(*fields)
+        sources = empty_sources(*fields, pilots.numbers)
         after = array("I", [floats[source] if source < 2 * count else kept for source, kept in zip(sources, old)])
         part = "all" if max(sources) < 2 * count else "some" if min(sources) < 2 * count else "none"
-        given = [(0, floats.tobytes()), (1, old.tobytes())]
-        return arguments, given, 0, [(1, after.tobytes())], masks_met(fields, 0) + [(*fields[:2], part)]
+        given += [(1, floats.tobytes()), (2, old.tobytes())]
+        return arguments, given, 0, [(2, after.tobytes())], met + [(*fields[:2], part)]
 
 
 class Look:
-    name, arena = "bp_look", Arena(4, 8, 4, 4, 4, 4 * GRID_ROOM)
+    name, arena = "bp_look", Arena(4, 8, 4, 4, 4, LIST_PIECE, 4 * GRID_ROOM, LIST_PIECE)
     # What is seen, and what the map has there: nothing also where a pilot or data is unlit.
     SEEN = [("nothing", kind) for kind in KINDS] + [(ref.PILOT, ref.PILOT), (ref.DATA, ref.DATA)]
-    refusals, cases = [1, 2, 3, 17, 4, 7, 9], CARRIERS + MASKS + SEEN
+    refusals, cases = [1, 2, 3, 17, 4, 7, 20, 9], CARRIERS + MASKS + SEEN + LISTS
 
     def request(self, dice, noise, mode, size, cell, mask, slot):
         place, limits = place_in(dice, mode, size, slot)
         others = {1: other_size, 3: other_mask, 5: other_carrier}
         fields = spoiled(dice, [mode, size, cell, mask] + place, lit_limits(mode, size) + limits, others)
-        carrier = fields[5]
-        grid_len = some_length(dice, ref.grid_floats(mode, size), 96 * ref.subchannels(mode, size), GRID_ROOM, True)
-        number = ref.look_refusal(*fields[:5], grid_len, carrier)
-        outs, grid = list(map(self.arena.address, range(5))), pointer(dice, self.arena.address(5), grid_len)
-        arguments = fields[:5] + [grid, grid_len, carrier] + outs
-        met = [(*fields[:2], number, side(carrier))] + masks_met(fields, number)
+        carrier, piece, floats = fields[5], dice.choice([5, 7]), 96 * ref.subchannels(mode, size)
+        pilots = Lent(dice, mode, piece == 7)
+        grid_len = some_length(dice, ref.grid_floats(mode, size), floats, GRID_ROOM, piece == 5)
+        number = ref.look_refusal(*fields[:5], grid_len, carrier, pilots.numbers)
+        outs, grid = list(map(self.arena.address, range(5))), pointer(dice, self.arena.address(6), grid_len)
+        lent_list, given = pilots.arguments(dice, self.arena.address(piece)), [(piece, pilots.given)]
+        arguments = fields[:5] + lent_list + [grid, grid_len, carrier] + outs
+        met = [(*fields[:2], number, side(carrier))] + masks_met(fields, number) + pilots.met(fields, number)
         if number:
-            return arguments, [], number, [], met
+            return arguments, given, number, [], met
         patterns = array("I", noise.run(dice, 4 * grid_len))
-        what = ref.look(*fields[:5], patterns, carrier)[1]
+        what = ref.look(*fields[:5], patterns, carrier, pilots.numbers)[1]
         written = [(0, words([KINDS.get(what[0], 0)]))]
         if what[0] != "nothing":
             written.append((1, words(what[1])))
             written += [(2 + i, words([x])) for i, x in enumerate(what[2:])]
-        located = ref.locate(*fields[:3], *fields[4:])[1]
-        return arguments, [(5, patterns.tobytes())], 0, written, met + [(what[0], located[0])]
+        located = ref.locate(*fields[:3], *fields[4:], pilots.numbers)[1]
+        return arguments, given + [(6, patterns.tobytes())], 0, written, met + [(what[0], located[0])]
 
 
 class OfuscCollisions:
@@ -453,7 +537,7 @@ def good_plan(dice):
         zones.append(good_zone(dice, ref.PUSC_DL, size))
     for _ in range(dice.randrange(0 if zones else 1, 9 - len(zones))):
         amc = dice.choice(list(ref.SHAPES))
-        modes = [ref.OFUSC, amc] + [ref.PUSC_DL] * (size == 2048)
+        modes = [ref.OFUSC, amc] + [ref.PUSC_DL, ref.FUSC] * (size == 2048)
         mode = amc if zones and zones[-1][0] in ref.SHAPES else dice.choice(modes)
         zones.append(good_zone(dice, mode, size))
     return size, zones
@@ -696,6 +780,7 @@ def main():
     noise = lent.Noise(dice)
     tallies = [Tally(call) for call in CALLS]
     for mode, size, mask in TURNS:
+        Lent.next_turn(dice)
         setup = mode, size, within(dice, ref.cells(mode, size)), mask, within(dice, ref.SLOTS)
         for tally in tallies:
             for _ in range(tally.a_round):

@@ -1,9 +1,10 @@
-"""Document 01, as changed by document 02's wishes 1 to 7, in plain Python, written from the papers alone.
+"""Document 01, as changed by document 02's wishes 1 to 8, in plain Python, written from the papers alone.
 
 The stored vectors and the tests through C are made from this file. It is as simple as it can be
 and slow where that is simpler: locating builds the whole slot by placing and looks the carrier up.
 
-A refusal is document 01's number; 0 means accepted. Floats are handled as 32-bit patterns.
+A refusal is document 01's number; 0 means accepted. Floats are handled as 32-bit patterns. A pilot list is the used numbers of
+FUSC's pilots; it comes last in a call, and is empty in every other mode.
 """
 
 from functools import lru_cache
@@ -20,6 +21,12 @@ R = [
 BASE_12 = [6, 9, 4, 8, 10, 11, 5, 2, 7, 3, 1, 0]
 BASE_8 = [7, 4, 0, 2, 1, 5, 3, 6]
 
+# Document 000, section 2.1: the basic permutation sequence of FUSC.
+FUSC_BASE = [
+    3, 18, 2, 8, 16, 10, 11, 15, 26, 22, 6, 9, 27, 20, 25, 1,
+    29, 7, 21, 5, 28, 31, 23, 17, 4, 24, 0, 13, 12, 19, 14, 30,
+]
+
 # Document 000, section 2.2.2: the tile permutation.
 Q = [
     6, 48, 58, 57, 50, 1, 13, 26, 46, 44, 30, 3, 27, 53, 22, 18, 61, 7, 55, 36, 45, 37, 52, 15,
@@ -33,24 +40,26 @@ P = """
     06 55 31 25 35 36 51 20 02 44 15 34 14 12 45 30 03 66 54 16 56 53 64 10
 """.split()
 
-MODES = range(7)
+MODES = range(8)
 UNLISTED = len(MODES)  # the first number that is no mode
-PUSC_DL, PUSC_UL, OFUSC, AMC, AMC_2X3, AMC_3X2, AMC_1X6 = MODES
+PUSC_DL, PUSC_UL, OFUSC, AMC, AMC_2X3, AMC_3X2, AMC_1X6, FUSC = MODES
 
 # The slot of each AMC mode (document 02, wish 2): how many bins a subchannel is wide, how many symbols a slot is long.
 SHAPES = {AMC: (6, 1), AMC_2X3: (2, 3), AMC_3X2: (3, 2), AMC_1X6: (1, 6)}
 
-SLOT_LENGTH = {PUSC_DL: 2, PUSC_UL: 3, OFUSC: 1, **{mode: symbols for mode, (_, symbols) in SHAPES.items()}}
+SLOT_LENGTH = {PUSC_DL: 2, PUSC_UL: 3, OFUSC: 1, FUSC: 1, **{mode: symbols for mode, (_, symbols) in SHAPES.items()}}
 BIN_SIZES = [256, 512, 1024, 2048]
 SLOTS = 512
 POINTS = 48
+FUSC_USED = frozenset(range(1702))  # its used numbers (document 02, wish 8)
+FUSC_PILOTS = 166  # of its one symbol
 
 
 # --- ranges -----------------------------------------------------------------------------------
 
 
 def sizes(mode):
-    return [2048] if mode in (PUSC_DL, PUSC_UL) else BIN_SIZES
+    return [2048] if mode in (PUSC_DL, PUSC_UL, FUSC) else BIN_SIZES
 
 
 def n_of(size):
@@ -59,7 +68,7 @@ def n_of(size):
 
 
 def cells(mode, size):
-    if mode == PUSC_DL:
+    if mode in (PUSC_DL, FUSC):
         return 32
     if mode == PUSC_UL:
         return 70
@@ -73,6 +82,8 @@ def subchannels(mode, size):
         return 70
     if mode == OFUSC:
         return n_of(size)
+    if mode == FUSC:
+        return 32
     wide, _ = SHAPES[mode]
     return 6 * n_of(size) // wide
 
@@ -112,6 +123,13 @@ def lit_questions(mode, size, cell, mask):
     yield 17, mask in masks(mode)
 
 
+def pilot_questions(mode, pilots):
+    """Of every call that has a pilot list (document 02, wish 8): as many as the mode has, each at least one more than
+    the one before it, and none beyond the last used number."""
+    right = FUSC_PILOTS if mode == FUSC else 0
+    yield 20, len(pilots) == right and list(pilots) == sorted(FUSC_USED.intersection(pilots))
+
+
 def subchannel_questions(mode, size, cell, slot, subchannel):
     """Of a call that has a slot and a subchannel, lit or not."""
     yield from setup_questions(mode, size, cell)
@@ -120,53 +138,62 @@ def subchannel_questions(mode, size, cell, slot, subchannel):
 
 
 @refusal
-def place_refusal(mode, size, cell, slot, subchannel, index):
+def place_refusal(mode, size, cell, slot, subchannel, index, pilots=()):
     yield from subchannel_questions(mode, size, cell, slot, subchannel)
     yield 6, index < POINTS
-
-
-places_refusal = refusal(subchannel_questions)
+    yield from pilot_questions(mode, pilots)
 
 
 @refusal
-def locate_refusal(mode, size, cell, symbol, carrier):
+def places_refusal(mode, size, cell, slot, subchannel, pilots=()):
+    yield from subchannel_questions(mode, size, cell, slot, subchannel)
+    yield from pilot_questions(mode, pilots)
+
+
+@refusal
+def locate_refusal(mode, size, cell, symbol, carrier, pilots=()):
     yield from setup_questions(mode, size, cell)
     yield 4, symbol < SLOTS * SLOT_LENGTH[mode]
     yield 7, carrier in carriers(size)
+    yield from pilot_questions(mode, pilots)
 
 
 @refusal
-def ground_refusal(mode, size, cell, mask, slot, grid_len):
+def ground_refusal(mode, size, cell, mask, slot, grid_len, pilots=()):
     """Lengths count floats."""
     yield from lit_questions(mode, size, cell, mask)
     yield 4, slot < SLOTS
+    yield from pilot_questions(mode, pilots)
     yield 9, grid_len == grid_floats(mode, size)
 
 
 @refusal
-def lay_refusal(mode, size, cell, mask, slot, subchannel, points_len, grid_len):
+def lay_refusal(mode, size, cell, mask, slot, subchannel, points_len, grid_len, pilots=()):
     """Here 8 is about 96 floats (document 02, wish 4)."""
     yield from lit_questions(mode, size, cell, mask)
     yield 4, slot < SLOTS
     yield 5, subchannel in lit_subchannels(mode, size, mask)
+    yield from pilot_questions(mode, pilots)
     yield 8, points_len == 2 * POINTS
     yield 9, grid_len == grid_floats(mode, size)
 
 
 @refusal
-def buffers_refusal(mode, size, cell, mask, slot, points_len, grid_len):
+def buffers_refusal(mode, size, cell, mask, slot, points_len, grid_len, pilots=()):
     """Of empty and empty_first, and of fill as document 01 has it."""
     yield from lit_questions(mode, size, cell, mask)
     yield 4, slot < SLOTS
+    yield from pilot_questions(mode, pilots)
     yield 8, points_len == 96 * len(lit_subchannels(mode, size, mask))
     yield 9, grid_len == grid_floats(mode, size)
 
 
 @refusal
-def look_refusal(mode, size, cell, mask, symbol, grid_len, carrier):
+def look_refusal(mode, size, cell, mask, symbol, grid_len, carrier, pilots=()):
     yield from lit_questions(mode, size, cell, mask)
     yield 4, symbol < SLOTS * SLOT_LENGTH[mode]
     yield 7, carrier in carriers(size)
+    yield from pilot_questions(mode, pilots)
     yield 9, grid_len == grid_floats(mode, size)
 
 
@@ -199,6 +226,8 @@ def carriers(size):
 
 
 def used_numbers(mode, size):
+    if mode == FUSC:
+        return len(FUSC_USED)
     return 1680 if mode in (PUSC_DL, PUSC_UL) else 54 * n_of(size)
 
 
@@ -222,7 +251,9 @@ def bin_pilot(symbol):
     return 3 * (symbol % 3) + 1
 
 
-def is_pilot(mode, symbol, used):
+def is_pilot(mode, symbol, used, pilots):
+    if mode == FUSC:
+        return used in pilots
     if mode == PUSC_DL:
         return used % 14 in cluster_pilots(symbol)
     if mode == PUSC_UL:
@@ -358,9 +389,24 @@ def place_amc(mode, cell, slot, subchannel, index):
     return symbol, used_of_bin_place(symbol, wide * subchannel + b, x)
 
 
-def placed(mode, size, cell, slot, subchannel, index):
+@lru_cache(maxsize=256)
+def fusc_data(pilots):
+    """The used numbers that are no pilots, rising: data number d stands on the one at d."""
+    return sorted(FUSC_USED.difference(pilots))
+
+
+def place_fusc(cell, slot, subchannel, index, pilots):
+    turned = FUSC_BASE[subchannel:] + FUSC_BASE[:subchannel]  # to the left, as document 000 has it
+    n = (index + 13 * subchannel) % 48
+    data = 32 * n + (turned[n % 32] + cell) % 32
+    return slot, fusc_data(tuple(pilots))[data]
+
+
+def placed(mode, size, cell, slot, subchannel, index, pilots=()):
     """(symbol, carrier) of a point whose questions were put."""
-    if mode == PUSC_DL:
+    if mode == FUSC:
+        symbol, used = place_fusc(cell, slot, subchannel, index, pilots)
+    elif mode == PUSC_DL:
         symbol, used = place_pusc_dl(cell, slot, subchannel, index)
     elif mode == PUSC_UL:
         symbol, used = place_pusc_ul(cell, slot, subchannel, index)
@@ -371,10 +417,10 @@ def placed(mode, size, cell, slot, subchannel, index):
     return symbol, carrier_of_used(mode, size, used)
 
 
-def place(mode, size, cell, slot, subchannel, index):
+def place(mode, size, cell, slot, subchannel, index, pilots=()):
     """(refusal, symbol, carrier)."""
-    number = place_refusal(mode, size, cell, slot, subchannel, index)
-    return (number, 0, 0) if number else (0, *placed(mode, size, cell, slot, subchannel, index))
+    number = place_refusal(mode, size, cell, slot, subchannel, index, pilots)
+    return (number, 0, 0) if number else (0, *placed(mode, size, cell, slot, subchannel, index, pilots))
 
 
 # --- its reverse ------------------------------------------------------------------------------
@@ -386,37 +432,38 @@ def slot_symbols(mode, slot):
     return range(slot * SLOT_LENGTH[mode], (slot + 1) * SLOT_LENGTH[mode])
 
 
-def slot_pilots(mode, size, slot):
+def slot_pilots(mode, size, slot, pilots):
     """(symbol, carrier) of every pilot of a slot."""
+    lent = frozenset(pilots)
     return [
         (symbol, carrier_of_used(mode, size, used))
         for symbol in slot_symbols(mode, slot)
         for used in range(used_numbers(mode, size))
-        if is_pilot(mode, symbol, used)
+        if is_pilot(mode, symbol, used, lent)
     ]
 
 
 @lru_cache(maxsize=64)
-def slot_map(mode, size, cell, slot):
-    """What stands on each (symbol, carrier) of a slot; every place is taken once."""
+def slot_map(mode, size, cell, slot, pilots=()):
+    """What stands on each (symbol, carrier) of a slot; every place is taken once. The pilots are a tuple."""
     found = {(symbol, 0): (DC,) for symbol in slot_symbols(mode, slot)}
-    for pilot in slot_pilots(mode, size, slot):
+    for pilot in slot_pilots(mode, size, slot, pilots):
         assert pilot not in found
         found[pilot] = (PILOT,)
     for subchannel in range(subchannels(mode, size)):
         for index in range(POINTS):
-            symbol, carrier = placed(mode, size, cell, slot, subchannel, index)
+            symbol, carrier = placed(mode, size, cell, slot, subchannel, index, pilots)
             assert (symbol, carrier) not in found
             found[symbol, carrier] = (DATA, slot, subchannel, index)
     return found
 
 
-def locate(mode, size, cell, symbol, carrier):
+def locate(mode, size, cell, symbol, carrier, pilots=()):
     """(refusal, what): (GUARD,), (DC,), (PILOT,) or (DATA, slot, subchannel, index)."""
-    number = locate_refusal(mode, size, cell, symbol, carrier)
+    number = locate_refusal(mode, size, cell, symbol, carrier, pilots)
     if number:
         return number, None
-    found = slot_map(mode, size, cell, symbol // SLOT_LENGTH[mode])
+    found = slot_map(mode, size, cell, symbol // SLOT_LENGTH[mode], tuple(pilots))
     return 0, found.get((symbol, carrier), (GUARD,))
 
 
@@ -466,12 +513,12 @@ def grid_at(mode, size, symbol, carrier):
     return 2 * (symbol % SLOT_LENGTH[mode] * size + column(size, carrier))
 
 
-def places(mode, size, cell, slot, subchannel):
+def places(mode, size, cell, slot, subchannel, pilots=()):
     """(refusal, the place in the slot's grid of each of the subchannel's points), counted in points."""
-    number = places_refusal(mode, size, cell, slot, subchannel)
+    number = places_refusal(mode, size, cell, slot, subchannel, pilots)
     if number:
         return number, []
-    at = [placed(mode, size, cell, slot, subchannel, index) for index in range(POINTS)]
+    at = [placed(mode, size, cell, slot, subchannel, index, pilots) for index in range(POINTS)]
     return 0, [grid_at(mode, size, symbol, carrier) // 2 for symbol, carrier in at]
 
 
@@ -480,40 +527,40 @@ def points_at(mode, size, mask, subchannel, index):
     return 2 * (POINTS * rank(mode, size, mask, subchannel) + index)
 
 
-def ground(mode, size, cell, mask, slot, pilot, grid):
+def ground(mode, size, cell, mask, slot, pilot, grid, pilots=()):
     """(refusal, the grid afterwards): the pilot point on lit pilots, zeros elsewhere, on data carriers too."""
-    number = ground_refusal(mode, size, cell, mask, slot, len(grid))
+    number = ground_refusal(mode, size, cell, mask, slot, len(grid), pilots)
     if number:
         return number, list(grid)
     after, lit = [0] * len(grid), lit_carriers(mode, size, cell, mask)
-    for symbol, carrier in slot_pilots(mode, size, slot):
+    for symbol, carrier in slot_pilots(mode, size, slot, pilots):
         if carrier in lit:
             at = grid_at(mode, size, symbol, carrier)
             after[at : at + 2] = pilot
     return 0, after
 
 
-def lay(mode, size, cell, mask, slot, subchannel, points, grid):
+def lay(mode, size, cell, mask, slot, subchannel, points, grid, pilots=()):
     """(refusal, the grid afterwards): one subchannel's 48 points where they are placed, no other float touched."""
-    number = lay_refusal(mode, size, cell, mask, slot, subchannel, len(points), len(grid))
+    number = lay_refusal(mode, size, cell, mask, slot, subchannel, len(points), len(grid), pilots)
     if number:
         return number, list(grid)
     after = list(grid)
     for index in range(POINTS):
-        symbol, carrier = placed(mode, size, cell, slot, subchannel, index)
+        symbol, carrier = placed(mode, size, cell, slot, subchannel, index, pilots)
         at = grid_at(mode, size, symbol, carrier)
         after[at : at + 2] = points[2 * index : 2 * index + 2]
     return 0, after
 
 
-def fill(mode, size, cell, mask, slot, pilot, points, grid):
+def fill(mode, size, cell, mask, slot, pilot, points, grid, pilots=()):
     """(refusal, the grid afterwards). No call any more, but what the ground and a lay of every lit subchannel must give;
     the points are the lit subchannels', rising."""
-    number = buffers_refusal(mode, size, cell, mask, slot, len(points), len(grid))
+    number = buffers_refusal(mode, size, cell, mask, slot, len(points), len(grid), pilots)
     if number:
         return number, list(grid)
     after, lit = [0] * len(grid), lit_carriers(mode, size, cell, mask)
-    for (symbol, carrier), what in slot_map(mode, size, cell, slot).items():
+    for (symbol, carrier), what in slot_map(mode, size, cell, slot, tuple(pilots)).items():
         at = grid_at(mode, size, symbol, carrier)
         if what[0] == PILOT and carrier in lit:
             after[at : at + 2] = pilot
@@ -523,30 +570,30 @@ def fill(mode, size, cell, mask, slot, pilot, points, grid):
     return 0, after
 
 
-def empty(mode, size, cell, mask, slot, grid, points):
+def empty(mode, size, cell, mask, slot, grid, points, pilots=()):
     """(refusal, the points afterwards): the lit subchannels' points, rising."""
-    number = buffers_refusal(mode, size, cell, mask, slot, len(points), len(grid))
+    number = buffers_refusal(mode, size, cell, mask, slot, len(points), len(grid), pilots)
     if number:
         return number, list(points)
     after = []
     for subchannel in lit_subchannels(mode, size, mask):
         for index in range(POINTS):
-            symbol, carrier = placed(mode, size, cell, slot, subchannel, index)
+            symbol, carrier = placed(mode, size, cell, slot, subchannel, index, pilots)
             at = grid_at(mode, size, symbol, carrier)
             after += grid[at : at + 2]
     return 0, after
 
 
-def empty_first(mode, size, cell, mask, slot, carriers, grid, points):
+def empty_first(mode, size, cell, mask, slot, carriers, grid, points, pilots=()):
     """(refusal, the points afterwards): of the lit subchannels' points those that stand on so many carriers from the
     grid's start, guards, DC and pilots counted too; no other float touched. Any count will do (document 02, wish 6)."""
-    number = buffers_refusal(mode, size, cell, mask, slot, len(points), len(grid))
+    number = buffers_refusal(mode, size, cell, mask, slot, len(points), len(grid), pilots)
     if number:
         return number, list(points)
     after = list(points)
     for subchannel in lit_subchannels(mode, size, mask):
         for index in range(POINTS):
-            symbol, carrier = placed(mode, size, cell, slot, subchannel, index)
+            symbol, carrier = placed(mode, size, cell, slot, subchannel, index, pilots)
             at = grid_at(mode, size, symbol, carrier)
             if at < 2 * carriers:
                 to = points_at(mode, size, mask, subchannel, index)
@@ -554,12 +601,12 @@ def empty_first(mode, size, cell, mask, slot, carriers, grid, points):
     return 0, after
 
 
-def look(mode, size, cell, mask, symbol, grid, carrier):
+def look(mode, size, cell, mask, symbol, grid, carrier, pilots=()):
     """(refusal, what): ("nothing",), (PILOT, point) or (DATA, point, slot, subchannel, index)."""
-    number = look_refusal(mode, size, cell, mask, symbol, len(grid), carrier)
+    number = look_refusal(mode, size, cell, mask, symbol, len(grid), carrier, pilots)
     if number:
         return number, None
-    _, what = locate(mode, size, cell, symbol, carrier)
+    _, what = locate(mode, size, cell, symbol, carrier, pilots)
     at = grid_at(mode, size, symbol, carrier)
     point = list(grid[at : at + 2])
     if what[0] in (GUARD, DC) or carrier not in lit_carriers(mode, size, cell, mask):
@@ -608,7 +655,7 @@ def amc_collisions(cell_a, cell_b):
 
 PLACES = 8
 NO_ZONE = (0, 0, 0, 0)
-PLAN_MODES = [PUSC_DL, OFUSC, *SHAPES]
+PLAN_MODES = [PUSC_DL, OFUSC, *SHAPES, FUSC]
 
 
 class Refused(Exception):

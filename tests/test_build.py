@@ -19,8 +19,8 @@ LIBRARY = os.path.join(ROOT, "build", "libbellpulsar.a")
 ASKED = ["place", "2", "1024", "17", "0", "0", "0"]
 ANSWER = "symbol 0 carrier -425\n"
 PLACED = "Place(symbol=0, carrier=-425)\n"
-VERSION = "#define BP_VERSION 4\n"
-SHARED = "libbellpulsar.so.4"
+VERSION = "#define BP_VERSION 5\n"
+SHARED = "libbellpulsar.so.5"
 
 # Each stub notes its process where that matters, in a file of the tree: it is run in a folder of its own. The first proves at
 # once, crate by crate, and makes static libraries, where it notes its process, and says the crates below again, as the prover

@@ -25,6 +25,7 @@ import unittest
 import xml.etree.ElementTree as ElementTree
 from array import array
 
+import pilot_lists
 import reference as ref
 
 ROOT = os.path.dirname(os.path.dirname(os.path.abspath(__file__)))
@@ -126,6 +127,19 @@ def located(what):
     return "data slot %d subchannel %d index %d" % tuple(address) if address else NAMES.get(kind, kind)
 
 
+def as_word(pilots):
+    return ",".join(map(str, pilots))
+
+
+PILOTS = range(26, 1677, 10)  # of FUSC: every tenth used number
+SPREAD = as_word(PILOTS)
+
+
+def last_of_fusc():
+    """The carrier of its last point under the last cell, with these pilots."""
+    return ref.place(7, 2048, 31, 511, 31, 47, PILOTS)[2]
+
+
 class Map(Case):
     def test_as_a_process(self):
         done = run("place", 2, 1024, 17, 0, 0, 0)
@@ -152,7 +166,10 @@ class Map(Case):
         self.refused(5, "place 6 2048 2351 511 192 47")
         self.prints("locate 6 2048 2351 3071 863", "pilot\n")
         self.refused(4, "locate 6 2048 2351 3072 863")
-        self.refused(1, "place 7 2048 0 0 0 0")
+        self.prints("place 7 2048 31 511 31 47 --pilots " + SPREAD, "symbol 511 carrier %d\n" % last_of_fusc())
+        self.refused(3, "place 7 2048 32 511 31 47 --pilots " + SPREAD)
+        self.refused(5, "place 7 2048 31 511 32 47 --pilots " + SPREAD)
+        self.refused(1, "place 8 2048 0 0 0 0")
 
     def test_locate(self):
         for cell in (0, 5, 31):
@@ -177,10 +194,10 @@ class Map(Case):
 
     def test_every_refusal_of_a_field(self):
         good = "2 1024 255 511 15 47".split()
-        for at, bad in enumerate("7 2047 256 512 16 48".split()):
+        for at, bad in enumerate("8 2047 256 512 16 48".split()):
             self.refused(at + 1, "place " + " ".join(good[:at] + [bad] + good[at + 1 :]))
         good = "1 2048 69 1535 1023".split()
-        for at, (bad, number) in enumerate([(7, 1), (1024, 2), (70, 3), (1536, 4), (1024, 7)]):
+        for at, (bad, number) in enumerate([(8, 1), (1024, 2), (70, 3), (1536, 4), (1024, 7)]):
             self.refused(number, "locate " + " ".join(good[:at] + [str(bad)] + good[at + 1 :]))
 
     def test_numbers_of_any_size(self):
@@ -226,7 +243,8 @@ class Words(Case):
     """A refusal says what was asked, the value given and what would be accepted."""
 
     def test_of_fields(self):
-        self.refused(1, "place 7 1024 256 0 0 0", "mode 7 is not one of the map's: 0 to 6")
+        self.refused(1, "place 8 1024 256 0 0 0", "mode 8 is not one of the map's: 0 to 7")
+        self.refused(2, "place 7 1024 256 0 0 0", "size 1024 is not one of mode 7's: 2048")
         self.refused(2, "place 0 1024 0 0 0 0", "size 1024 is not one of mode 0's: 2048")
         self.refused(3, "place 2 1024 256 0 0 0", "cell 256 is not one of mode 2's at size 1024: 0 to 255")
         self.refused(4, "locate 1 2048 0 1536 0", "symbol 1536 is not one of mode 1's: 0 to 1535")
@@ -246,7 +264,7 @@ class Words(Case):
         self.refused(5, "show 0 2048 0 0 --mask 0b100011 --subchannel 20", words)
 
     def test_of_any_size(self):
-        self.refused(1, "place %d 0 0 0 0 0" % 2**64, "mode %d is not one of the map's: 0 to 6" % 2**64)
+        self.refused(1, "place %d 0 0 0 0 0" % 2**64, "mode %d is not one of the map's: 0 to 7" % 2**64)
         words = "cell of more than 20 digits is not one of mode 0's: 0 to 31"
         self.refused(3, "place 0 2048 %s 0 0 0" % ("9" * 6000), words)
 
@@ -257,7 +275,10 @@ class Words(Case):
         for mode in range(3, 7):
             words = "zone 2: mode 2 follows mode %d, after which only modes 3 to 6 are accepted" % mode
             self.refused(14, "plan write 1024 %d,0,1,0 2,0,1,0" % mode, words)
-        self.refused(1, "plan write 1024 7,0,1,0", "zone 1: mode 7 is not one of a plan's: 0, 2, 3, 4, 5, 6")
+        self.refused(1, "plan write 1024 8,0,1,0", "zone 1: mode 8 is not one of a plan's: 0, 2, 3, 4, 5, 6, 7")
+        self.refused(2, "plan write 1024 7,0,1,0", "zone 1: size 1024 is not one of mode 7's: 2048")
+        words = "zone 3: mode 7 follows mode 4, after which only modes 3 to 6 are accepted"
+        self.refused(14, "plan write 2048 0,0,1,63 4,0,1,0 7,0,1,0", words)
         self.refused(17, "plan write 2048 0,0,1,0", "zone 1: mask 0 is not one of mode 0's: 1 to 63")
         self.refused(17, "plan write 2048 0,0,1,1 2,0,1,1", "zone 2: mask 1 is not one of mode 2's: 0")
         self.refused(15, "plan read %s 00" % EXAMPLE, "13 bytes are given, and the plan ends after 12")
@@ -310,6 +331,8 @@ class Plans(Case):
         self.prints("plan read 01 80 10 00 05 0C 01", "size 2048\nmode 0 cell 5 slots 12 mask 1\n")
         text = "size 1024\nmode 4 cell 0 slots 1 mask 0\nmode 3 cell 0 slots 1 mask 0\n"
         self.prints("plan read 02 80 08 04 00 01 00 03 00 01 00", text)
+        text = "size 2048\nmode 0 cell 5 slots 12 mask 63\nmode 7 cell 31 slots 9 mask 0\n"
+        self.prints("plan read 02 80 10 00 05 0C 3F 07 1F 09 00", text)
 
     def test_read_refusals(self):
         self.refused(14, "plan read 01 80 10 02 00 0C 00")
@@ -321,7 +344,11 @@ class Plans(Case):
         self.refused(12, "plan read 00")
         self.refused(2, "plan read 01 00")
         self.refused(1, "plan read 01 80 08 01 00 01 00")
-        self.refused(1, "plan read 01 80 08 07 00 01 00")
+        self.refused(1, "plan read 01 80 08 08 00 01 00")
+        self.refused(2, "plan read 01 80 08 07 00 01 00")
+        self.refused(14, "plan read 01 80 10 07 00 01 00")
+        self.refused(3, "plan read 02 80 10 00 05 0C 3F 07 20 01 00")
+        self.refused(17, "plan read 02 80 10 00 05 0C 3F 07 1F 01 01")
         self.refused(3, "plan read 01 80 08 02 80 02 01 00")
         self.refused(13, "plan read 01 80 08 02 00 00 3F")
         self.refused(15, "plan read %s 00" % EXAMPLE)
@@ -348,6 +375,9 @@ class Plans(Case):
         self.prints("plan write 256 %s" % " ".join(["3,0,1,0"] * 8), "08 80 02" + " 03 00 01 00" * 8 + "\n")
         amc = "plan write 256 2,0,1,0 6,0,1,0 5,0,1,0 4,0,1,0 3,0,1,0 4,0,1,0 5,0,1,0 6,0,1,0"
         self.prints(amc, "08 80 02 " + " ".join("%02X 00 01 00" % mode for mode in (2, 6, 5, 4, 3, 4, 5, 6)) + "\n")
+        fusc = "plan write 2048 0,5,12,63 fusc,31,9,0 0,0,1,1 7,0,1,0 7,1,1,0 2,0,1,0 7,2,1,0 3,0,1,0"
+        rest = " 07 1F 09 00 00 00 01 01 07 00 01 00 07 01 01 00 02 00 01 00 07 02 01 00 03 00 01 00"
+        self.prints(fusc, "08 80 10 00 05 0C 3F" + rest + "\n")
 
     def test_write_refusals(self):
         self.refused(12, "plan write 1024")
@@ -367,6 +397,9 @@ class Plans(Case):
         self.refused(14, "plan write 1024 3,0,1,0 2,0,1,0")
         self.refused(14, "plan write 2048 0,0,1,63 6,0,1,0 0,0,1,63")
         self.refused(14, "plan write 2048 4,0,1,0")
+        self.refused(14, "plan write 2048 fusc,0,1,0")
+        for mode in range(3, 7):
+            self.refused(14, "plan write 2048 0,0,1,63 %d,0,1,0 7,0,1,0" % mode)
 
 
 # --- bursts -----------------------------------------------------------------------------------
@@ -428,7 +461,7 @@ class Bursts(Case):
             "owners 0 2048 5 12 11 " + as_words(MAP),
             "subchannels 0 to 19 burst 1\nsubchannels 20 to 58 burst none\nsubchannels 59 to 59 burst 3\n",
         )
-        for mode in (0, 2, 3, 4, 5, 6):
+        for mode in (0, 2, 3, 4, 5, 6, 7):
             for size in ref.sizes(mode):
                 last = ref.subchannels(mode, size)
                 bursts = [(last - 1, 1, 0, 3), (0, 1, 1, 1), (1, last // 2, 1, 2)]
@@ -529,7 +562,8 @@ class Bursts(Case):
                 self.assertTrue(done.stderr.decode().endswith(fault), done.stderr)
 
     def test_refusals(self):
-        zones = [("1 2048 32 513", 64, 1), ("7 2048 32 513", 64, 1), ("0 1024 32 513", 64, 2), ("0 2048 32 513", 64, 3)]
+        zones = [("1 2048 32 513", 64, 1), ("8 2048 32 513", 64, 1), ("0 1024 32 513", 64, 2), ("0 2048 32 513", 64, 3)]
+        zones += [("7 1024 32 513", 64, 2), ("7 2048 32 513", 64, 3), ("7 2048 31 513", 64, 13), ("7 2048 31 1", 1, 17)]
         zones += [("0 2048 31 %d" % slots, 64, 13) for slots in (513, 0, -1, 2**32 + 1)]
         zones += [("0 2048 31 12", 64, 17), ("2 256 15 512", 63, 17), ("0 2048 31 12", 0, 17)]
         for zone, mask, number in zones:
@@ -546,7 +580,7 @@ class Bursts(Case):
         self.refused(18, "bursts 0 2048 31 12 0,1,0,1 0,1,0,%s" % ("9" * 6000))
         self.refused(18, "bursts 0 2048 31 12 0,1,0,1 1,1,4294967295,2")
         self.refused(19, "bursts 0 2048 31 12 0,2,0,2 1,2,1,2")
-        self.refused(1, "bursts 1 2048 0 1 0,1,0,1", "mode 1 is not one of a plan's: 0, 2, 3, 4, 5, 6")
+        self.refused(1, "bursts 1 2048 0 1 0,1,0,1", "mode 1 is not one of a plan's: 0, 2, 3, 4, 5, 6, 7")
 
 
 # --- a capture --------------------------------------------------------------------------------
@@ -612,7 +646,7 @@ class First(Case):
         self.assertTrue(told.endswith(": error: argument CARRIERS: '-5' is not a count\n"), told)
 
     def test_refusals(self):
-        self.refused(1, "first 7 2048 0 0 0")
+        self.refused(1, "first 8 2048 0 0 0")
         self.refused(2, "first 0 1024 0 0 0")
         self.refused(3, "first 0 2048 32 512 0 --mask 64")
         self.refused(4, "first 0 2048 31 512 %d" % 2**32, "slot 512 is not one of a zone's: 0 to 511")
@@ -685,7 +719,7 @@ class Show(Case):
             self.assertEqual(done.stdout.decode().splitlines()[-1], "- guard  D DC  P pilot  . data" + more)
 
     def test_refusals(self):
-        self.refused(1, "show 7 2048 0 0")
+        self.refused(1, "show 8 2048 0 0")
         self.refused(2, "show 0 1024 0 0")
         self.refused(3, "show 0 2048 32 0 --subchannel 60")
         self.refused(4, "show 0 2048 31 1024 --subchannel 60")
@@ -737,12 +771,12 @@ def is_awaited(mode, size, symbol, carrier, what, carriers):
     return what[0] == ref.DATA and carriers is not None and ref.grid_at(mode, size, symbol, carrier) >= 2 * carriers
 
 
-def slot_as_drawn(mode, size, cell, mask, slot, picked, carriers=None):
+def slot_as_drawn(mode, size, cell, mask, slot, picked, carriers=None, pilots=()):
     """The same from the reference."""
     first, found = slot * ref.SLOT_LENGTH[mode], {}
     for offset in range(ref.SLOT_LENGTH[mode]):
         for carrier in ref.carriers(size):
-            what = ref.locate(mode, size, cell, first + offset, carrier)[1]
+            what = ref.locate(mode, size, cell, first + offset, carrier, pilots)[1]
             data = "subchannel-%d" % what[2] if what[0] == ref.DATA and picked in (None, what[2]) else "other"
             lit = data if what[0] == ref.DATA else what[0]
             if is_awaited(mode, size, first + offset, carrier, what, carriers):
@@ -784,13 +818,13 @@ def carrier_axis(part):
 
 
 class Pictures(Case):
-    def every_carrier(self, root, mode, size, cell, mask, slot, picked, carriers=None):
+    def every_carrier(self, root, mode, size, cell, mask, slot, picked, carriers=None, pilots=()):
         """What is drawn, and told of it, is the reference's."""
         found, told = drawn_slot(root)
-        self.assertEqual(found, slot_as_drawn(mode, size, cell, mask, slot, picked, carriers))
+        self.assertEqual(found, slot_as_drawn(mode, size, cell, mask, slot, picked, carriers, pilots))
         for (offset, carrier), title in told.items():
             symbol = slot * ref.SLOT_LENGTH[mode] + offset
-            what = ref.locate(mode, size, cell, symbol, carrier)[1]
+            what = ref.locate(mode, size, cell, symbol, carrier, pilots)[1]
             awaited = is_awaited(mode, size, symbol, carrier, what, carriers)
             unlit = is_unlit(mode, size, cell, mask, carrier, what)
             more = ", unlit" if unlit else ", not arrived yet" if awaited else ""
@@ -853,6 +887,36 @@ class Pictures(Case):
             title = "%s (mode %d), size %d, cell %d, slot %d%s, first %d carriers%s"
             name = refusals.MODES[mode].name
             self.assertEqual(root.find(SVG + "title").text, title % (name, mode, size, cell, slot, lit, carriers, out))
+
+    def test_slots_of_fusc(self):
+        for (name, pilots), cell, slot, picked, carriers in (
+            (("even", pilot_lists.EVEN), 5, 3, None, None),
+            (("ends", pilot_lists.ENDS), 31, 511, 31, None),
+            (("around dc", pilot_lists.AROUND_DC), 0, 0, None, 1000),
+        ):
+            words = [] if picked is None else ["--subchannel", picked]
+            words += [] if carriers is None else ["--carriers", carriers]
+            root = drawing("slot", "fusc", 2048, cell, slot, *words, "--pilots", as_word(pilots))
+            self.every_carrier(root, 7, 2048, cell, 0, slot, picked, carriers, pilots)
+            told = "FUSC (mode 7), size 2048, cell %d, slot %d" % (cell, slot)
+            told += "" if carriers is None else ", first 1000 carriers"
+            told += "" if picked is None else ", subchannel 31 picked out"
+            self.assertEqual(root.find(SVG + "title").text, told, name)
+
+    def test_a_subchannel_of_fusc(self):
+        """Under three cells; those that share a carrier are ringed."""
+        root = drawing("subchannel", 7, 2048, "0,31,0", 9, 31, "--pilots", SPREAD)
+        panels = of_class(root, "g", "panel")
+        points = [[ref.place(7, 2048, cell, 9, 31, j, PILOTS)[1:] for j in range(48)] for cell in (0, 31, 0)]
+        for at, (panel, places) in enumerate(zip(panels, points)):
+            marks = of_class(panel, "circle", "point")
+            drawn = [float(mark.get("cx")) * 2048 / 1280 - 0.5 - 1024 for mark in marks]
+            self.assertEqual([round(carrier) for carrier in drawn], [carrier for _, carrier in places])
+            others = {place for number, its in enumerate(points) if number != at for place in its}
+            ringed = [mark.get("class") == "point shared" for mark in marks]
+            self.assertEqual(ringed, [place in others for place in places])
+            self.assertEqual(all(ringed), at != 1)
+        self.assertEqual(len(panels), 3)
 
     def test_where_all_has_arrived_nothing_is_pale(self):
         for slot, carriers in (([4, 256, 176, 1], 768), ([0, 2048, 5, 3, "--mask", 3], 4096)):
@@ -960,6 +1024,7 @@ class Pictures(Case):
         zones = [((0, 2048, 5, 12), 63, MAP), ((0, 2048, 5, 12), 3, MAP), ((0, 2048, 31, 1), 42, [(0, 60, 0, 1)])]
         zones += [((6, 2048, 2351, 512), 0, corners), ((6, 2048, 0, 512), 0, [(0, 192, 0, 512)])]
         zones += [((2, 256, 15, 1), 0, [(3, 1, 0, 1), (0, 1, 0, 1)]), ((3, 256, 0, 1), 0, []), ((5, 512, 9, 98), 0, [])]
+        zones += [((7, 2048, 31, 5), 0, [(0, 32, 0, 1), (31, 1, 4, 1)])]
         zones += [((2, 2048, 1023, 2), 0, FULL), ((4, 1024, 176, 37), 0, [(0, 48, 0, 36), (0, 48, 36, 1)])]
         for zone, mask, bursts in zones:
             words = as_words(bursts).split() or ["--list", "/dev/null"]
@@ -1067,7 +1132,7 @@ class Pictures(Case):
             self.assertEqual((done.stdout, done.returncode), (run("picture", "slot", 2, 256, 0, 0).stdout, 0))
 
     def test_refusals(self):
-        self.refused(1, "picture slot 7 2048 0 0")
+        self.refused(1, "picture slot 8 2048 0 0")
         self.refused(5, "picture slot 4 2048 0 0 --subchannel 96")
         self.refused(4, "picture slot 0 2048 0 -1 --subchannel -1")
         self.refused(5, "picture slot 0 2048 0 0 --subchannel 60")
@@ -1088,7 +1153,7 @@ class Pictures(Case):
         for line, path in commands:
             with open(os.path.join(ROOT, path)) as file:
                 text = file.read()
-            self.prints(line, text)
+            self.prints(line.replace(" docs/", " %s/docs/" % ROOT), text)
             self.assertLess(len(text), 400000)
 
 
@@ -1098,7 +1163,7 @@ def numbered(count):
 
 # --- modes by name ----------------------------------------------------------------------------
 
-MODE_NAMES = ("pusc-dl", "pusc-ul", "ofusc", "amc-6x1", "amc-2x3", "amc-3x2", "amc-1x6")
+MODE_NAMES = ("pusc-dl", "pusc-ul", "ofusc", "amc-6x1", "amc-2x3", "amc-3x2", "amc-1x6", "fusc")
 
 
 class Names(Case):
@@ -1113,9 +1178,11 @@ class Names(Case):
         lines += ["show {} 2048 1 2", "place {} 2048 2352 0 0 0", "picture subchannel {} 2048 0,1 0 1"]
         lines += ["bursts {} 2048 1 12 0,1,0,1", "owner {} 2048 1 12 0 0 0,1,0,1", "owners {} 2048 1 12 0 0,1,0,1"]
         lines += ["plan write 2048 0,0,1,63 {},1,2,0", "plan write 2048 {},0,1,63", "plan write 1024 {},0,1,0"]
-        for mode in range(7):
+        for mode in range(8):
             for line in lines:
                 self.alike(line, mode)
+        for line in lines[:5] + lines[6:7]:
+            self.alike(line + " --pilots " + SPREAD, bellpulsar.FUSC)
         for line in ("picture slot {} 256 0 0", "picture zone {} 256 0 2 0,1,0,1", "place {} 256 16 0 0 0"):
             self.alike(line, 2)
 
@@ -1124,7 +1191,7 @@ class Names(Case):
             self.assertIn("\n  %d %-7s  %s  " % (mode, name, refusals.MODES[mode].name), command_line.RANGES)
 
     def test_names_that_are_none(self):
-        for name in ("pusc", "PUSC-DL", "pusc_dl", "amc", "amc-6x2", "amc-6x1x", "ofusc2", "x", "dl", "2a", "0x2"):
+        for name in ("pusc", "PUSC-DL", "pusc_dl", "amc", "amc-6x2", "amc-6x1x", "ofusc2", "FUSC", "x", "2a", "0x2"):
             for line in ("place {} 256 0 0 0 0", "locate {} 256 0 0 0", "table {} 256 0 0", "first {} 256 0 0 0"):
                 self.not_understood(*line.format(name).split())
             self.not_understood("plan", "write", "256", "%s,0,1,0" % name)
@@ -1132,7 +1199,7 @@ class Names(Case):
             self.not_understood("fill", name, "256", "0", "/dev/null", "/dev/null")
         told = asked("place", "amc", 256, 0, 0, 0, 0).stderr.decode()
         every = ", ".join(MODE_NAMES)
-        self.assertTrue(told.endswith(": error: argument MODE: 'amc' is not a mode: 0 to 6 or %s\n" % every), told)
+        self.assertTrue(told.endswith(": error: argument MODE: 'amc' is not a mode: 0 to 7 or %s\n" % every), told)
         for word in ("", "+2", "1.0", " 2", "2 ", "-"):
             self.not_understood("place", word, 256, 0, 0, 0, 0)
         self.not_understood("place", 2, "ofusc", 0, 0, 0, 0)
@@ -1165,7 +1232,7 @@ class Table(Case):
                 self.assertEqual({tuple(row) for row in objects}, {("subchannel", "index", "symbol", "carrier")})
 
     def test_refusals(self):
-        self.refused(1, "table 7 2048 0 0")
+        self.refused(1, "table 8 2048 0 0")
         self.refused(2, "table 0 1024 0 0")
         self.refused(3, "table 2 256 16 512")
         self.refused(4, "table ofusc 256 15 512", "slot 512 is not one of a zone's: 0 to 511")
@@ -1244,7 +1311,8 @@ class Json(Case):
         self.assertEqual(last, numbers_in(self.text(line).splitlines()[-1]))
 
     def test_refusals(self):
-        lines = ["place 7 0 0 0 0 0", "locate 2 256 0 0 128", "table 2 256 0 512", "first 0 2048 0 0 0 --mask 64"]
+        lines = ["place 8 0 0 0 0 0", "place 7 2048 0 0 0 0", "locate 7 2048 0 0 0 --pilots 5", "locate 2 256 0 0 128"]
+        lines += ["table 2 256 0 512", "first 0 2048 0 0 0 --mask 64"]
         lines += ["collisions amc 0 2352", "plan read 81 00", "plan write 1024", "bursts 2 256 0 1 0,0,0,0"]
         lines += ["owner 2 256 0 1 0 4 0,1,0,1", "owners 2 256 0 1 512 0,1,0,1"]
         for line in lines:
@@ -1269,14 +1337,14 @@ def patterns(data):
     return list(array("I", data))
 
 
-def filled(mode, size, cell, mask, numbers, points, pilot=(1.0, 0.0)):
+def filled(mode, size, cell, mask, numbers, points, pilot=(1.0, 0.0), pilots=()):
     """The grids of slots with these numbers, from the reference."""
     each = ref.lit_points_len(mode, size, mask)
     points, pilot = patterns(points), patterns(struct.pack("2f", *pilot))
     grid, data = [0] * ref.grid_len(mode, size), b""
     for at, slot in enumerate(numbers):
         own = points[at * each : (at + 1) * each]
-        data += array("I", ref.fill(mode, size, cell, mask, slot, pilot, own, grid)[1]).tobytes()
+        data += array("I", ref.fill(mode, size, cell, mask, slot, pilot, own, grid, pilots)[1]).tobytes()
     return data
 
 
@@ -1450,7 +1518,7 @@ class Streams(Files):
     def test_refusals(self):
         for what in ("fill", "empty"):
             for number, setup in (
-                (1, "7 2048 0"),
+                (1, "8 2048 0"),
                 (2, "0 1024 0"),
                 (3, "0 2048 32 --mask 64 --slot 512"),
                 (17, "0 2048 31 --mask 64 --slot 512"),
@@ -1528,6 +1596,214 @@ class Streams(Files):
             self.assertEqual(os.listdir(self.directory), [])
 
 
+# --- FUSC -------------------------------------------------------------------------------------
+
+
+class Fusc(Files):
+    """Its pilots are a list, given as a word or by a file."""
+
+    # What takes a list, with fields in range; a file named FILE is for the words of fill and empty.
+    LINES = ("place 7 2048 5 3 31 46", "locate 7 2048 5 3 -100", "table 7 2048 5 3", "first 7 2048 5 3 700")
+    LINES += ("show 7 2048 5 3", "picture slot 7 2048 5 3", "picture subchannel 7 2048 5 3 31")
+    LINES += ("fill 7 2048 5 /dev/null /dev/null", "empty 7 2048 5 /dev/null /dev/null")
+
+    def test_known_points(self):
+        for pilots, carrier in ((pilot_lists.START, 739 - 851), (pilot_lists.END, 573 - 851), (PILOTS, 634 - 851)):
+            self.prints("place 7 2048 0 9 31 46 --pilots " + as_word(pilots), "symbol 9 carrier %d\n" % carrier)
+            told = "data slot 9 subchannel 31 index 46\n"
+            self.prints("locate fusc 2048 0 9 %d --pilots=%s" % (carrier, as_word(pilots)), told)
+        for carrier, told in ((0, "DC"), (-852, "guard"), (852, "guard"), (26 - 851, "pilot"), (1676 - 850, "pilot")):
+            self.prints("locate 7 2048 0 9 %d --pilots %s" % (carrier, SPREAD), told + "\n")
+        told = '{"kind": "pilot"}\n'
+        self.prints("locate 7 2048 0 9 -825 --json --pilots " + SPREAD, told)
+
+    def test_slots_against_the_reference(self):
+        for pilots, cell, slot in ((pilot_lists.ENDS, 31, 511), (pilot_lists.EVEN, 0, 1)):
+            setup, lent = "7 2048 %d %d" % (cell, slot), " --pilots " + as_word(pilots)
+            every = itertools.product(range(32), range(48))
+            points = [(*point, *ref.place(7, 2048, cell, slot, *point, pilots)[1:]) for point in every]
+            rows = "".join("%d,%d,%d,%d\n" % point for point in points)
+            self.prints("table %s --csv%s" % (setup, lent), "subchannel,index,symbol,carrier\n" + rows)
+            for count in (0, 173, 900, 1024, 1700, 2048, 2**32):
+                there = [sum(p[3] + 1024 < count for p in points if p[0] == s) for s in range(32)]
+                told = "".join("subchannel %d points %d of 48\n" % pair for pair in enumerate(there))
+                told += "points %d of 1536\n" % sum(there)
+                self.prints("first %s %d%s" % (setup, count, lent), told)
+            rows = asked(*("show %s --subchannel 31%s" % (setup, lent)).split()).stdout.decode().splitlines()
+            self.assertEqual("".join(row[9:] for row in rows[1:-1]), self.shown(cell, slot, 31, pilots))
+            self.assertEqual(rows[-1], "- guard  D DC  P pilot  . data  # data of subchannel 31")
+
+    def shown(self, cell, symbol, picked, pilots):
+        signs, text = {ref.GUARD: "-", ref.DC: "D", ref.PILOT: "P", ref.DATA: "."}, ""
+        for carrier in ref.carriers(2048):
+            what = ref.locate(7, 2048, cell, symbol, carrier, pilots)[1]
+            text += "#" if what[0] == ref.DATA and what[2] == picked else signs[what[0]]
+        return text
+
+    def test_from_file_to_file(self):
+        points = some_points(7, 2048, 0, 9)
+        for pilots, words, numbers in (
+            (PILOTS, [], range(9)),
+            (pilot_lists.ENDS, ["--slot", 510], [510, 511] * 5),
+            (pilot_lists.START, ["--slot=5", "--slots=2"], [5, 6] * 5),
+        ):
+            setup = ("7", 2048, 17, *words, "--pilots", as_word(pilots))
+            self.done("fill", *setup, "--pilot=0.5,-2", self.put("points", points), self.path("grids"))
+            wanted = filled(7, 2048, 17, 0, list(numbers)[:9], points, (0.5, -2), pilots)
+            self.assertTrue(self.data("grids") == wanted, words)
+            self.done("empty", *setup, self.path("grids"), self.path("again"))
+            self.assertTrue(self.data("again") == points, words)
+        grids = run("fill", "fusc", 2048, 17, "--pilots", self.put("list", SPREAD.encode()), "-", "-", input=points)
+        self.put("grids", grids.stdout)
+        back = run("empty", 7, 2048, 17, "--pilots", "-", self.path("grids"), "-", input=SPREAD.encode())
+        self.assertTrue((back.stdout, back.stderr, back.returncode) == (points, b"", 0))
+
+    def test_forms_of_a_list(self):
+        told = "symbol 3 carrier %d\n" % ref.place(7, 2048, 5, 3, 31, 46, PILOTS)[2]
+        lines = "".join("%d\n" % used for used in PILOTS)
+        half = SPREAD[: SPREAD.index(",1026,")]
+        mixed = "# of a cell\r\n\r\n %s\t# half\r\n\n\t%s  \n#" % (half, SPREAD[len(half) + 1 :].replace(",", " , "))
+        texts = [lines, lines.rstrip(), "\n" + lines, SPREAD, SPREAD.replace(",", "\t \t"), mixed, "\ufeff" + lines]
+        texts += [lines.replace("\n", "\r\n"), lines + "# \u00fc", lines.replace("26\n", "00026\n", 1)]
+        for text in texts:
+            self.prints("place 7 2048 5 3 31 46 --pilots -", told, input=text.encode())
+            self.prints("place 7 2048 5 3 31 46 --pilots '%s'" % self.put("a list", text.encode()), told)
+        for name in ("-1", "-x", "1,2", "7", "26,", "=", "--help"):
+            self.put(name, lines.encode())
+        for name in ("./-1", "-x", "./1,2", "./7", "26,", "=", "--help"):
+            self.prints("place 7 2048 5 3 31 46 --pilots %s" % name, told, cwd=self.directory)
+        for word in (SPREAD, "00" + SPREAD):
+            self.prints("place 7 2048 5 3 31 46 --pilots %s" % word, told)
+            self.prints("place --pilots=%s 7 2048 5 3 31 46" % word, told)
+        for word in ("7", "1,2", "-1", "-1,-2"):  # lists, whatever files there are
+            count = "%d pilots are given, not 166" % (1 + word.count(","))
+            self.refused(20, "place 7 2048 5 3 31 46 --pilots %s" % word, count, cwd=self.directory)
+        for data in (b"", b"\n\n", b"# 1 2 3", b" \t\r\n"):
+            self.refused(20, "place 7 2048 5 3 31 46 --pilots -", "0 pilots are given, not 166", input=data)
+            self.prints("place 2 1024 17 0 0 0 --pilots -", "symbol 0 carrier -425\n", input=data)
+
+    def test_lists_that_are_not_understood(self):
+        for text, line, word in (
+            ("26\n36\nx\n46\n", 3, "'x' is not a number"),
+            ("\n# x\n26 36 4 6x # y", 3, "'6x' is not a number"),
+            ("1,2,,4\n", 1, "'' is not a number"),
+            ("26,\n", 1, "'' is not a number"),
+            ("26;36", 1, "'26;36' is not a number"),
+            ("26\n0x24", 2, "'0x24' is not a number"),
+            ("26\n+36", 2, "'+36' is not a number"),
+            ("26\n3.6", 2, "'3.6' is not a number"),
+            ("26\n- 36", 2, "'-' is not a number"),
+            ("26\v36", 1, r"'26\x0b36' is not a number"),
+        ):
+            for line_asked in ("place 7 2048 5 3 31 46", "show 2 256 0 0"):
+                done = run(*line_asked.split(), "--pilots", "-", input=text.encode())
+                told = "bellpulsar %s: error: argument --pilots: -, line %d: %s\n" % (line_asked.split()[0], line, word)
+                self.assertEqual((done.stdout, done.returncode), (b"", 2))
+                self.assertTrue(done.stderr.decode().endswith(told), done.stderr)
+        for data in (b"\00026", b"26\000", b"\xff", "\u0663".encode(), b"26\xa036", b"26\f", "26\u00a0".encode()):
+            done = run("place", 7, 2048, 5, 3, 31, 46, "--pilots", "-", input=data)
+            self.assertEqual((done.stdout, done.returncode), (b"", 2))
+            self.assertIn(b"argument --pilots: -, line 1: ", done.stderr)
+            self.assertNotIn(b"\0", done.stderr)
+        done = run("place", 7, 2048, 5, 3, 31, 46, "--pilots", "/dev/zero")
+        told = b"argument --pilots: /dev/zero has more than 1048576 bytes\n"
+        self.assertTrue(done.stderr.endswith(told), done.stderr)
+        self.assertEqual((done.stdout, done.returncode), (b"", 2))
+
+    def test_files_that_cannot_be_read(self):
+        for line in self.LINES:
+            for name, why in (("/none", "No such file or directory"), ("/", "Is a directory"), ("1,x", "No such file")):
+                done = asked(*line.split(), "--pilots", name)
+                self.assertEqual((done.stdout, done.returncode), (b"", 2), line)
+                self.assertTrue(done.stderr.decode().startswith("bellpulsar: %s: %s" % (name, why)), done.stderr)
+        done = run_shell("'%s' place 7 2048 5 3 31 46 --pilots - <&-" % COMMAND)
+        told = (b"", b"bellpulsar: standard input is closed\n", 2)
+        self.assertEqual((done.stdout, done.stderr, done.returncode), told)
+
+    def test_standard_input_has_one_thing(self):
+        told = "argument --pilots: - is standard input, which has something else\n"
+        for words in ("fill 7 2048 5 - - --pilots -", "empty --pilots=- 7 2048 5 - /dev/null", "batch --pilots -"):
+            done = run(*words.split(), input=SPREAD.encode())
+            self.assertEqual((done.stdout, done.returncode), (b"", 2), words)
+            self.assertTrue(done.stderr.decode().endswith(told), done.stderr)
+        self.put("points", some_points(7, 2048, 0, 1))
+        done = run("fill", 7, 2048, 5, self.path("points"), "-", "--pilots", "-", input=SPREAD.encode())
+        self.assertEqual((len(done.stdout), done.stderr, done.returncode), (4 * 4096, b"", 0))
+
+    def test_refusals(self):
+        """Each command that takes a list, without one, with a damaged one, and in another mode with one."""
+        random.seed(80217)
+        for line in self.LINES:
+            self.assertEqual(asked(*line.split(), "--pilots", SPREAD).returncode, 0, line)
+            self.refused(20, line, "0 pilots are given, not 166")
+            for damage in pilot_lists.DAMAGES.values():
+                pilots = damage(random, pilot_lists.some_good(random))
+                if pilots:
+                    self.refused(20, "%s --pilots %s" % (line, as_word(pilots)))
+            other = line.replace("7 2048 5", "2 2048 5")
+            self.refused(20, "%s --pilots %s" % (other, SPREAD), "166 pilots are given, and mode 2 takes none")
+            self.assertEqual(asked(*other.split()).returncode, 0, other)
+        place = "place 7 2048 5 3 31 46 --pilots "
+        used = "pilot %d is %s, not one of mode 7's used numbers: 0 to 1701"
+        self.refused(20, place + SPREAD.replace("1676", "1702"), used % (165, 1702))
+        self.refused(20, place + SPREAD.replace("1676", str(2**32 + 1676)), used % (165, 2**32 + 1676))
+        self.refused(20, place + SPREAD.replace("26,", "-26,", 1), used % (0, -26))
+        self.refused(20, place + SPREAD.replace("1676", "9" * 6000), used % (165, "of more than 20 digits"))
+        words = "pilot 165 is 1666, not larger than pilot 164, which is 1666"
+        self.refused(20, place + SPREAD.replace("1676", "1666"), words)
+
+    def test_the_first_refusal(self):
+        """The list comes after every question about a field of its command."""
+        for number, line in (
+            (2, "place 7 1024 32 512 32 48"),
+            (3, "place 7 2048 32 512 32 48"),
+            (4, "place 7 2048 31 512 32 48"),
+            (5, "place 7 2048 31 511 32 48"),
+            (6, "place 7 2048 31 511 31 48"),
+            (7, "locate 7 2048 31 511 1024"),
+            (4, "table 7 2048 31 512"),
+            (17, "first 7 2048 31 512 0 --mask 63"),
+            (4, "first 7 2048 31 512 0"),
+            (17, "show 7 2048 31 512 --subchannel 32 --mask 1"),
+            (4, "show 7 2048 31 512 --subchannel 32"),
+            (5, "show 7 2048 31 511 --subchannel 32"),
+            (4, "picture slot 7 2048 31 512 --subchannel 32"),
+            (5, "picture slot 7 2048 31 511 --subchannel 32"),
+            (5, "picture subchannel 7 2048 31 511 32"),
+            (17, "fill 7 2048 31 /none /none --mask 63 --slot 512"),
+            (4, "empty 7 2048 31 /none /none --slot 512"),
+        ):
+            self.refused(number, line)
+            self.refused(number, line + " --pilots 5")
+        self.refused(3, "picture subchannel 7 2048 0,32 0 0 --pilots " + SPREAD)
+
+    def test_in_a_batch(self):
+        """A list for all requests in mode 7 that have none of their own, and for no other."""
+        start, path = as_word(pilot_lists.START), self.put("list", SPREAD.replace(",", "\n").encode())
+        lines = ["place 7 2048 0 9 31 46", "place 2 1024 17 0 0 0", "place fusc 2048 0 9 31 46 --pilots " + start]
+        lines += ["place 07 2048 0 9 31 46", "locate 7 2048 0 9 -825", "place fusc 2048 0 9 31 46 --pilots " + path]
+        lines += ["collisions amc 7 7", "place 7 2048 0 9 31 46 --pilots 7", "owner 7 2048 0 1 0 0 0,1,0,1"]
+        lines += ["place 2 1024 17 0 0 0", "place 7 2048 0 9 31 46"]
+        told = ["symbol 9 carrier -217", "symbol 0 carrier -425", "symbol 9 carrier -112"]
+        told += ["symbol 9 carrier -217", "pilot", "symbol 9 carrier -217"]
+        told += asked("collisions", "amc", 7, 7).stdout.decode().splitlines()
+        told += ["refused 20: 1 pilots are given, not 166", "burst 0 looked 1"]
+        told += ["symbol 0 carrier -425", "symbol 9 carrier -217"]
+        for word in (path, SPREAD):
+            done = batch("\n".join(lines), "--pilots", word)
+            self.assertEqual((done.stdout.decode().splitlines(), done.stderr, done.returncode), (told, b"", 0))
+        done = batch("first 7 2048 0 9 2048\n%s\n" % lines[0], "--json", "--pilots=" + SPREAD)
+        first, place = map(json.loads, done.stdout.splitlines())
+        self.assertEqual((first["points"], place), (1536, {"symbol": 9, "carrier": -217}))
+        none = "refused 20: 0 pilots are given, not 166"
+        self.assertEqual(batch(lines[0]).stdout.decode(), none + "\n")
+        done = batch(lines[0] + " --pilots -\n" + lines[0] + " --pilots /none\n" + lines[1])
+        told = ["error: - is standard input, which has the requests", "error: /none: No such file or directory"]
+        self.assertEqual(done.stdout.decode().splitlines(), [*told, "symbol 0 carrier -425"])
+        self.assertEqual(done.returncode, 2)
+        self.fails("bellpulsar: /none: No such file or directory\n", "batch", "--pilots", "/none", input=b"")
+
+
 class Bar(Files):
     def on_a_terminal(self, slots, pause):
         """What a terminal is told that is standard error; the slots come in two halves, with a pause between them."""
@@ -1589,8 +1865,15 @@ class Batch(Case):
         "owner 0 2048 5 12 3 25 0,20,0,12 20,30,0,6",
         "owner 2 256 0 1 0 0 --list /dev/null",
         "owner 0 2048 5 12 0 59 --mask 0b000001 0,60,0,1",
+        "place 7 2048 0 0 31 46 --pilots %s",
+        "locate fusc 2048 0 0 -825 --pilots=%s",
+        "locate fusc 2048 0 0 -825 --pilots %s --json",
+        "place 7 2048 0 0 31 46",
+        "place 7 2048 0 0 31 46 --pilots 5",
+        "place 2 1024 17 0 0 0 --pilots %s",
+        "owner 7 2048 5 12 3 25 0,20,0,12 20,12,0,6",
         "place 2 1024 256 0 0 0",
-        "place 7 0 0 0 0 0",
+        "place 8 0 0 0 0 0",
         "place 2 1024 17 0 0 4294967296",
         "locate 6 2048 2351 3072 863",
         "collisions amc 0 2352",
@@ -1598,8 +1881,10 @@ class Batch(Case):
         "plan write 1024",
         "owner 0 2048 5 12 0 0 0,0,0,0",
     )
+    LINES = tuple(line.replace("%s", SPREAD) for line in LINES)
     OBJECTS = (
         "first 2 256 0 0 128",
+        "first 7 2048 0 0 128 --pilots " + SPREAD,
         "first 0 2048 5 3 700 --mask 1",
         "plan read " + EXAMPLE,
         "plan read 81 00",
@@ -1736,6 +2021,7 @@ PUBLIC_PLACES = "include/*.h python/*.py python/bellpulsar/*.py rust/*.rs rust/s
 PUBLIC_PLACES += " examples/*.sh examples/c/*.* examples/rust/*.* examples/gnuradio/*.*"
 PUBLIC_TEXTS = [name for place in PUBLIC_PLACES.split() for name in sorted(glob.glob(os.path.join(ROOT, place)))]
 MASKED = ("first", "fill", "empty", "show", "picture slot", *OF_BURSTS)
+LISTED = ("place", "locate", "table", "first", "fill", "empty", "show", "picture slot", "picture subchannel")
 
 
 class Usage(Case):
@@ -1745,6 +2031,7 @@ class Usage(Case):
             self.assertRegex(text, r"\n    %s\s" % name.split()[0])
         for words in ("PUSC downlink", "PUSC uplink", "optional FUSC", "AMC 6x1", "256 512 1024 2048", "0..2351"):
             self.assertIn(words, text)
+        self.assertIn("  7 fusc     FUSC  ", text)
 
     def test_version(self):
         with open(os.path.join(ROOT, "include", "bellpulsar.h")) as file:
@@ -1767,15 +2054,25 @@ class Usage(Case):
         for name in COMMANDS.split("|"):
             text = asked(*name.split(), "--help").stdout.decode()
             self.assertEqual("--mask MASK" in text, name in MASKED, name)
+            self.assertEqual("--pilots PILOTS" in text, name in (*LISTED, "batch"), name)
             self.assertEqual("--list FILE" in text, name in OF_BURSTS, name)
             self.assertEqual("[BURST ...]" in text, name in OF_BURSTS, name)
             self.assertEqual("MODE,CELL,SLOTS,MASK" in text, name == "plan write", name)
             self.assertEqual("--carriers CARRIERS" in text, name == "picture slot", name)
 
+    def test_pilots_of_the_help(self):
+        told = command_line.RANGES.replace("\n", " ")
+        self.assertIn("PILOTS, of %s and %s, are the pilots of mode 7" % (", ".join(LISTED[:-1]), LISTED[-1]), told)
+        self.assertIn("7, which needs them, as no other mode does: 166 used numbers, rising, below 1702.", told)
+        self.assertIn("Used number u is carrier u - 851 below 851, and u - 850 from there on.", told)
+        for used in (200, 850, 851, 1701):
+            carrier, pilots = used - 851 if used < 851 else used - 850, [*range(165), used]
+            self.prints("locate 7 2048 0 0 %d --pilots %s" % (carrier, as_word(pilots)), "pilot\n")
+
     def test_ranges_of_the_help(self):
         row = r"^  (\d) [\w-]+ +([\w ]+?)  +([\d ]+?)  +0\.\.(\S+) +0\.\.(\S+) +(\d)$"
         rows = re.findall(row, command_line.RANGES, re.MULTILINE)
-        self.assertEqual([int(row[0]) for row in rows], list(range(7)))
+        self.assertEqual([int(row[0]) for row in rows], list(range(8)))
         for row in rows:
             mode, sizes = int(row[0]), list(map(int, row[2].split()))
             self.assertEqual(row[1], refusals.MODES[mode].name)
@@ -1815,9 +2112,15 @@ class Usage(Case):
                 found = re.findall(r"^    \$ \./bellpulsar (.*)\n((?:    [^$\n].*\n)+)", file.read(), re.MULTILINE)
             self.assertGreaterEqual(len(found), 5, name)
             examples += found
-        for line, output in examples:
-            text = "".join(part[4:] + "\n" for part in output.splitlines())
-            self.assertEqual(asked(*shlex.split(line)).stdout.decode(), text, line)
+        self.addCleanup(os.chdir, os.getcwd())
+        with tempfile.TemporaryDirectory() as directory:
+            os.chdir(directory)
+            made = re.findall(r"^    \$ (seq .* >pilots\.txt)$", file_text("docs/GUIDE.md"), re.MULTILINE)
+            self.assertEqual([run_shell(line).returncode for line in made], [0])
+            for line, output in examples:
+                text = "".join(part[4:] + "\n" for part in output.splitlines())
+                self.assertEqual(asked(*shlex.split(line)).stdout.decode(), text, line)
+            os.chdir("/")
 
     def test_public_texts_cite_no_paper(self):
         """Users do not have the papers: nothing is told them by the number of one."""
@@ -1839,6 +2142,9 @@ class Usage(Case):
         # Options stand behind the command's words.
         lines += ["--mask 3 owner 0 2048 5 12 1 20 0,60,0,1", "--mask=3 owner 0 2048 5 12 1 20 0,60,0,1"]
         lines += ["--mask 3 show 0 2048 5 3", "--list x bursts 0 2048 5 12", "--output x picture slot 2 256 0 0"]
+        lines += ["place 7 2048 0 0 0 0 --pilots", "picture zone 7 2048 0 1 0,1,0,1 --pilots 1"]
+        lines += ["owner 7 2048 0 1 0 0 0,1,0,1 --pilots 1", "plan write 2048 0,0,1,63 --pilots 1"]
+        lines += ["--pilots 1 place 7 2048 0 0 0 0", "collisions amc 0 1 --pilots 1", "plan read 01 --pilots 1"]
         lines += ["picture --output x slot 2 256 0 0", "picture --mask=3 zone 0 2048 5 12 0,60,0,1", "plan --file x read 01"]
         for line in lines:
             self.not_understood(*line.split())
@@ -1969,6 +2275,21 @@ class RuleSheet(Case):
         self.assertEqual(self.rules["a"], wanted)
         for letter in "ef":
             self.assertRegex(self.rules[letter], "^In optional FUSC, at one FFT size, ")
+
+    def test_where_there_is_no_figure(self):
+        words = " ".join(self.sheet.replace(">", " ").split())
+        self.assertIn("For PUSC, downlink and uplink, this sheet gives no figure:", words)
+        self.assertIn("For FUSC, the mandatory full usage, no figure is given:", words)
+        told = "For PUSC, downlink and uplink, and for FUSC (mode 7; optional FUSC is mode 2), no figure is given."
+        self.assertIn(told, words)
+        for name, told in (
+            ("include/bellpulsar.h", "There is none for PUSC and for FUSC."),
+            ("docs/bellpulsar.1", "There is none for PUSC and for FUSC."),
+            ("python/bellpulsar/__init__.py", "There is no such call for PUSC and for FUSC."),
+            ("docs/GUIDE.md", "For PUSC and for FUSC there is no such call."),
+            ("docs/FIGURES.md", "there is none for PUSC and for FUSC."),
+        ):
+            self.assertIn(told, " ".join(file_text(name).replace("\n *", " ").split()), name)
 
     def test_sum_and_one_cell(self):
         total = self.figure("e-sum", r"sum n \(λ t\. ofuscOf \(64 \* n\) a s b t \.count\) ≡ (\d+)")

@@ -57,9 +57,14 @@ C = """\
 #include <stdio.h>
 
 int main(void) {
-    uint32_t symbol;
+    uint32_t symbol, pilots[166];
     int32_t carrier;
-    if (bp_version() != BP_VERSION_NUMBER || bp_place(BP_OFUSC, 1024, 17, 0, 0, 0, &symbol, &carrier) != BP_ACCEPTED)
+    for (uint32_t i = 0; i < 166; i++)
+        pilots[i] = 26 + 10 * i;
+    if (bp_version() != BP_VERSION_NUMBER ||
+        bp_place(BP_FUSC, 2048, 5, 0, 31, 46, pilots, 166, &symbol, &carrier) != BP_ACCEPTED || carrier != -247 ||
+        bp_place(BP_FUSC, 2048, 5, 0, 31, 46, pilots, 165, &symbol, &carrier) != BP_REFUSED_PILOTS ||
+        bp_place(BP_OFUSC, 1024, 17, 0, 0, 0, NULL, 0, &symbol, &carrier) != BP_ACCEPTED)
         return 1;
     printf("symbol %u carrier %d\\n", (unsigned)symbol, (int)carrier);
     return 0;
@@ -78,13 +83,13 @@ int main() {
     points[0] = {0.5f, -2.0f};
     auto *laid = reinterpret_cast<float *>(points.data()), *held = reinterpret_cast<float *>(grid.data());
     const float pilot[2] = {1.0f, 0.0f};
-    if (bp_ground(BP_OFUSC, 1024, 17, 0, 0, pilot, held, 2 * grid.size()) != BP_ACCEPTED ||
-        bp_lay(BP_OFUSC, 1024, 17, 0, 0, 0, laid, 96, held, 2 * grid.size()) != BP_ACCEPTED)
+    if (bp_ground(BP_OFUSC, 1024, 17, 0, 0, nullptr, 0, pilot, held, 2 * grid.size()) != BP_ACCEPTED ||
+        bp_lay(BP_OFUSC, 1024, 17, 0, 0, 0, nullptr, 0, laid, 96, held, 2 * grid.size()) != BP_ACCEPTED)
         return 1;
     uint32_t kind, slot, subchannel, index;
     std::complex<float> seen;
-    if (bp_look(BP_OFUSC, 1024, 17, 0, 0, held, 2 * grid.size(), -425, &kind, reinterpret_cast<float *>(&seen), &slot,
-                &subchannel, &index) != BP_ACCEPTED || kind != BP_DATA)
+    if (bp_look(BP_OFUSC, 1024, 17, 0, 0, nullptr, 0, held, 2 * grid.size(), -425, &kind,
+                reinterpret_cast<float *>(&seen), &slot, &subchannel, &index) != BP_ACCEPTED || kind != BP_DATA)
         return 1;
     std::cout << grid[1024 / 2 - 425] << seen << std::endl;
 }
@@ -113,6 +118,7 @@ fn main() {
 PYTHON = """\
 import bellpulsar
 print(bellpulsar.__file__, bellpulsar.__version__)
+assert bellpulsar.place(7, 2048, 5, 0, 31, 46, pilots=range(26, 1677, 10)).carrier == -247
 print("symbol %d carrier %d" % bellpulsar.place(2, 1024, 17, 0, 0, 0))
 """
 
@@ -435,6 +441,13 @@ class ManPage(Case):
             words, answer = example.split("\n", 1)
             done = run([COMMAND, *words.split()], cwd=self.folder)
             self.assertEqual((done.stdout, done.stderr), (answer, ""), words)
+
+    def test_the_example_with_a_list(self):
+        text = read(self.PAGE).partition(".SH EXAMPLES")[2].split(".EX\n")[2].partition(".EE")[0].replace("\\-", "-")
+        lines = [line[2:] for line in text.splitlines() if line.startswith("$ ")]
+        answer = "".join(line + "\n" for line in text.splitlines() if not line.startswith("$ "))
+        self.assertEqual(len(lines), 2)
+        self.prints(answer, "; ".join(lines).replace("bellpulsar", COMMAND), cwd=self.folder)
 
     @unittest.skipUnless(shutil.which("groff"), "groff is missing")
     def test_it_is_set_without_a_warning(self):

@@ -178,8 +178,9 @@ import bellpulsar, importlib.metadata
 print(bellpulsar.__file__)
 print(bellpulsar.__version__, importlib.metadata.version("bellpulsar"))
 print(bellpulsar.place(2, 1024, 17, 0, 0, 0), len(bellpulsar.slot_places(0, 2048, 5, 3)))
+print(bellpulsar.place(7, 2048, 5, 0, 31, 46, pilots=range(26, 1677, 10)))
 """
-USED = "%s %s\nPlace(symbol=0, carrier=-425) 2880\n" % (VERSION, VERSION)
+USED = "%s %s\nPlace(symbol=0, carrier=-425) 2880\nPlace(symbol=0, carrier=-247)\n" % (VERSION, VERSION)
 
 
 class Installed(unittest.TestCase):

@@ -27,6 +27,7 @@ import unittest
 from array import array
 
 import burst_lists
+import pilot_lists
 import reference as ref
 
 ROOT = os.path.dirname(os.path.dirname(os.path.abspath(__file__)))
@@ -42,7 +43,11 @@ except ImportError:
 else:
     from bellpulsar import arrays
 
+# The modes whose pilots are their own, and those of plans.
 SETUPS = [(mode, size) for mode in range(7) for size in ref.sizes(mode)]
+FUSC = (bp.FUSC, 2048)
+PLAN_SETUPS = [setup for setup in SETUPS if setup[0] != ref.PUSC_UL] + [FUSC]
+PLAN_MODES = "0, 2, 3, 4, 5, 6, 7"
 MOST = 2**32 - 1
 HUGE = 10**40
 # Integers that no field takes.
@@ -259,9 +264,9 @@ class Modes(unittest.TestCase):
             self.assertEqual((getattr(bp, name), type(getattr(bp, name))), (number, int))
 
     def test_the_words_of_the_command_line(self):
-        words = "pusc-dl pusc-ul ofusc amc-6x1 amc-2x3 amc-3x2 amc-1x6".split()
+        words = "pusc-dl pusc-ul ofusc amc-6x1 amc-2x3 amc-3x2 amc-1x6 fusc".split()
         self.assertEqual([mode.word for mode in bp.Mode], words)
-        self.assertEqual([int(mode) for mode in bp.Mode], list(range(7)))
+        self.assertEqual([int(mode) for mode in bp.Mode], list(range(8)))
 
     def test_a_mode_is_its_number(self):
         for mode, size in SETUPS:
@@ -269,7 +274,7 @@ class Modes(unittest.TestCase):
             self.assertEqual(bp.place(named, size, 1, 2, 3, 4), bp.place(mode, size, 1, 2, 3, 4))
             self.assertEqual(bp.slot_places(named, size, 1, 2), bp.slot_places(mode, size, 1, 2))
             self.assertEqual((str(named), "%s" % named, "%d" % named, format(named)), (str(mode),) * 4)
-        told = "mode 1 is not one of a plan's: 0, 2, 3, 4, 5, 6"
+        told = "mode 1 is not one of a plan's: " + PLAN_MODES
         self.assertEqual(words(bp.bursts_check, bp.Mode.PUSC_UL, 2048, 0, 1, []), told)
 
     def test_answers_have_numbers(self):
@@ -333,42 +338,42 @@ def kept_by_refusals(*buffers):
         raise
 
 
-def slot_places_with(mode, size, cell, mask, slot):
-    bp.slot_places(mode, size, cell, slot, mask=mask)
+def slot_places_with(mode, size, cell, mask, slot, **pilots):
+    bp.slot_places(mode, size, cell, slot, mask=mask, **pilots)
 
 
-def ground_with(mode, size, cell, mask, slot, grid_len):
+def ground_with(mode, size, cell, mask, slot, grid_len, **pilots):
     grid = floats(grid_len)
     with kept_by_refusals(grid):
-        bp.ground(mode, size, cell, slot, (1.0, 0.0), grid, mask=mask)
+        bp.ground(mode, size, cell, slot, (1.0, 0.0), grid, mask=mask, **pilots)
 
 
-def lay_with(mode, size, cell, mask, slot, subchannel, points_len, grid_len):
+def lay_with(mode, size, cell, mask, slot, subchannel, points_len, grid_len, **pilots):
     points, grid = floats(points_len, 3.0), floats(grid_len)
     with kept_by_refusals(points, grid):
-        bp.lay(mode, size, cell, slot, subchannel, points, grid, mask=mask)
+        bp.lay(mode, size, cell, slot, subchannel, points, grid, mask=mask, **pilots)
 
 
-def fill_with(mode, size, cell, mask, slot, points_len, grid_len):
+def fill_with(mode, size, cell, mask, slot, points_len, grid_len, **pilots):
     points, grid = floats(points_len, 3.0), floats(grid_len)
     with kept_by_refusals(points, grid):
-        bp.fill(mode, size, cell, slot, (1.0, 0.0), points, grid, mask=mask)
+        bp.fill(mode, size, cell, slot, (1.0, 0.0), points, grid, mask=mask, **pilots)
 
 
-def empty_with(mode, size, cell, mask, slot, points_len, grid_len):
+def empty_with(mode, size, cell, mask, slot, points_len, grid_len, **pilots):
     points, grid = floats(points_len, 3.0), floats(grid_len)
     with kept_by_refusals(points, grid):
-        bp.empty(mode, size, cell, slot, grid, points, mask=mask)
+        bp.empty(mode, size, cell, slot, grid, points, mask=mask, **pilots)
 
 
-def empty_first_with(mode, size, cell, mask, slot, points_len, grid_len):
+def empty_first_with(mode, size, cell, mask, slot, points_len, grid_len, **pilots):
     points, grid = floats(points_len, 3.0), floats(grid_len)
     with kept_by_refusals(points, grid):
-        bp.empty_first(mode, size, cell, slot, 100, grid, points, mask=mask)
+        bp.empty_first(mode, size, cell, slot, 100, grid, points, mask=mask, **pilots)
 
 
-def look_with(mode, size, cell, mask, symbol, grid_len, carrier):
-    bp.look(mode, size, cell, symbol, floats(grid_len), carrier, mask=mask)
+def look_with(mode, size, cell, mask, symbol, grid_len, carrier, **pilots):
+    bp.look(mode, size, cell, symbol, floats(grid_len), carrier, mask=mask, **pilots)
 
 
 def check_with(mode, size, cell, slots, mask, count):
@@ -383,14 +388,14 @@ def owners_with(mode, size, cell, slots, mask, slot, count):
     bp.burst_owners(mode, size, cell, slots, slot, [(0, count, 0, 1)], mask=mask)
 
 
-def of_every_index(mode, size, cell, slot, subchannel):
+def of_every_index(mode, size, cell, slot, subchannel, *pilots):
     """The refusal of a whole subchannel's places."""
-    return ref.place_refusal(mode, size, cell, slot, subchannel, 0)
+    return ref.place_refusal(mode, size, cell, slot, subchannel, 0, *pilots)
 
 
-def of_a_slot(mode, size, cell, mask, slot):
+def of_a_slot(mode, size, cell, mask, slot, *pilots):
     """The refusal of a slot without buffers."""
-    return ref.ground_refusal(mode, size, cell, mask, slot, ref.grid_len(mode, size))
+    return ref.ground_refusal(mode, size, cell, mask, slot, ref.grid_len(mode, size), *pilots)
 
 
 def of_a_list(expected):
@@ -402,7 +407,7 @@ def burst_calls_of(mode, size):
     """Those of calls_of that have a list of bursts."""
     subs = ref.subchannels(mode, size)
     good = (mode, size, ref.cells(mode, size) - 1, 512, ref.full_mask(mode))
-    past = (7, size + 1, good[2] + 1, 513, good[4] + 1)
+    past = (8, size + 1, good[2] + 1, 513, good[4] + 1)
     yield check_with, of_a_list(ref.bursts_check), (*good, subs), (*past, subs + 1)
     every = (*good, 511, subs - 1, subs), (*past, 512, subs, subs + 1)
     yield owner_with, of_a_list(ref.burst_owner_refusal), *every
@@ -414,7 +419,7 @@ def calls_of(mode, size):
     cells, subs = ref.cells(mode, size), ref.subchannels(mode, size)
     symbols = 512 * ref.SLOT_LENGTH[mode]
     points, grid = 96 * subs, ref.grid_floats(mode, size)
-    setup, past = (mode, size, cells - 1), (7, size + 1, cells)
+    setup, past = (mode, size, cells - 1), (8, size + 1, cells)
     lit, unlit = (*setup, ref.full_mask(mode)), (*past, ref.full_mask(mode) + 1)
     yield bp.place, ref.place_refusal, (*setup, 511, subs - 1, 47), (*past, 512, subs, 48)
     yield bp.locate, ref.locate_refusal, (*setup, symbols - 1, size // 2 - 1), (*past, symbols, size // 2)
@@ -467,6 +472,7 @@ def below(call, good, at):
 def all_calls():
     for mode, size in SETUPS:
         yield from calls_of(mode, size)
+    yield from burst_calls_of(*FUSC)
     yield AMC_COLLISIONS
 
 
@@ -590,7 +596,7 @@ class Refusals(unittest.TestCase):
                     self.assertTrue(told.endswith(": 0 to %d" % (good[at] - 1)), told)
                     continue
                 self.assertTrue(told.startswith("%s %d is not one of " % (name, past[at])), told)
-                modes = "0, 2, 3, 4, 5, 6" if "burst" in names.get(call, "") else "0 to 6"
+                modes = PLAN_MODES if "burst" in names.get(call, "") else "0 to 7"
                 accepted = {"mode": modes, "size": ", ".join(map(str, ref.sizes(mode))), "slots": "1 to 512"}
                 accepted["carrier"] = "%d to %d" % (-good[at] - 1, good[at])
                 accepted["mask"] = "1 to 63" if mode == 0 else "0"
@@ -610,7 +616,7 @@ class Refusals(unittest.TestCase):
         self.assertEqual(words(look_with, 6, 2048, 0, 0, 3071, 4096, 0), "grid of 4096 floats, not 24576")
 
     def test_words_of_the_shapes(self):
-        self.assertEqual(words(bp.place, 7, 2048, 0, 0, 0, 0), "mode 7 is not one of the map's: 0 to 6")
+        self.assertEqual(words(bp.place, 8, 2048, 0, 0, 0, 0), "mode 8 is not one of the map's: 0 to 7")
         last = "subchannel 192 is not one of mode 6's at size 2048: 0 to 191"
         self.assertEqual(words(bp.place, 6, 2048, 0, 0, 192, 0), last)
         self.assertEqual(words(lay_with, 6, 2048, 0, 0, 0, 192, 96, 24576), last)
@@ -651,8 +657,12 @@ class Refusals(unittest.TestCase):
         self.assertEqual(read("09"), "count 9 is not one of a plan's: 1 to 8")
         self.assertEqual(read("018001"), "size 128 is not one of a plan's: 256, 512, 1024, 2048")
         self.assertEqual(read("028008 02000100 0000013F"), "zone 2: size 1024 is not one of mode 0's: 2048")
-        self.assertEqual(read("028008 02000100 01000100"), "zone 2: mode 1 is not one of a plan's: 0, 2, 3, 4, 5, 6")
-        self.assertEqual(write(1, 256, (7, 0, 1, 0)), "zone 1: mode 7 is not one of a plan's: 0, 2, 3, 4, 5, 6")
+        self.assertEqual(read("028008 02000100 01000100"), "zone 2: mode 1 is not one of a plan's: " + PLAN_MODES)
+        self.assertEqual(write(1, 256, (8, 0, 1, 0)), "zone 1: mode 8 is not one of a plan's: " + PLAN_MODES)
+        self.assertEqual(write(1, 1024, (7, 0, 1, 0)), "zone 1: size 1024 is not one of mode 7's: 2048")
+        first = (0, 0, 1, 63)
+        self.assertEqual(write(2, 2048, first, (7, 32, 1, 0)), "zone 2: cell 32 is not one of mode 7's: 0 to 31")
+        self.assertEqual(write(2, 2048, first, (7, 31, 1, 63)), "zone 2: mask 63 is not one of mode 7's: 0")
         self.assertEqual(read("018008 02 8002 0100"), "zone 1: cell 256 is not one of mode 2's at size 1024: 0 to 255")
         self.assertEqual(read("018008 02 00 8104 00"), "zone 1: slots 513 is not one of a zone's: 1 to 512")
         self.assertEqual(read("018010 000001 40"), "zone 1: mask 64 is not one of mode 0's: 1 to 63")
@@ -662,6 +672,7 @@ class Refusals(unittest.TestCase):
         first = "zone 1: mode %d is first at size 2048, where only mode 0 is accepted"
         self.assertEqual(read("018010 02000100"), first % 2)
         self.assertEqual(write(1, 2048, (3, 5, 1, 0)), first % 3)
+        self.assertEqual(write(1, 2048, (7, 5, 1, 0)), first % 7)
         self.assertEqual(write(1, 2048, (0, 32, 1, 63)), "zone 1: cell 32 is not one of mode 0's: 0 to 31")
         third = "zone 3: mode %d follows mode %d, after which only modes 3 to 6 are accepted"
         for mode in range(3, 7):
@@ -669,6 +680,7 @@ class Refusals(unittest.TestCase):
             self.assertEqual(write(1, 2048, amc), first % mode)
             self.assertEqual(write(3, 1024, (2, 0, 1, 0), amc, (2, 0, 1, 0)), third % (2, mode))
             self.assertEqual(write(3, 2048, (0, 0, 1, 63), amc, (0, 0, 1, 1)), third % (0, mode))
+            self.assertEqual(write(3, 2048, (0, 0, 1, 63), amc, (7, 0, 1, 0)), third % (7, mode))
         self.assertEqual(read(EXAMPLE.hex() + "00" * 500), "512 bytes are given, and the plan ends after 12")
         self.assertEqual(write(-1, 1024), "count -1 is not one of a plan's: 1 to 8")
         place = "place 3 is 0,%s,1,0, where past the count of 1 only zeros are accepted"
@@ -710,10 +722,12 @@ class Refusals(unittest.TestCase):
         over = "burst 2 is 20,3,1,5: it overlaps burst %d, which is %s"
         self.assertEqual(told((0, 20, 0, 12), (21, 1, 5, 1), (20, 3, 1, 5)), over % (1, "21,1,5,1"))
         self.assertEqual(told((0, 21, 5, 1), (21, 1, 5, 1), (20, 3, 1, 5), (0, 0, 0, 0)), over % (0, "0,21,5,1"))
-        self.assertEqual(words(bp.bursts_check, 1, 2048, 0, 1, []), "mode 1 is not one of a plan's: 0, 2, 3, 4, 5, 6")
+        self.assertEqual(words(bp.bursts_check, 1, 2048, 0, 1, []), "mode 1 is not one of a plan's: " + PLAN_MODES)
+        last = "burst 0 is 32,1,0,1: subchannel 32 is not one of mode 7's: 0 to 31"
+        self.assertEqual(told((32, 1, 0, 1), mode=7), last)
 
     def test_the_ranges_that_words_are_made_of(self):
-        for mode, size in SETUPS:
+        for mode, size in [*SETUPS, FUSC]:
             told = refusals.MODES[mode]
             self.assertEqual(list(told.sizes), ref.sizes(mode))
             n = ref.n_of(size)
@@ -721,10 +735,11 @@ class Refusals(unittest.TestCase):
             self.assertEqual(told.symbols, ref.SLOT_LENGTH[mode])
             self.assertEqual(list(told.masks), list(ref.masks(mode)))
         self.assertEqual(refusals.BURSTS, ref.MOST_BURSTS)
+        self.assertEqual((refusals.PILOTS, refusals.USED), (ref.FUSC_PILOTS, len(ref.FUSC_USED)))
 
-    def test_nineteen_questions(self):
-        self.assertEqual(sorted(bp.QUESTIONS), list(range(1, 20)))
-        self.assertEqual(len(set(bp.QUESTIONS.values())), 19)
+    def test_twenty_questions(self):
+        self.assertEqual(sorted(bp.QUESTIONS), list(range(1, 21)))
+        self.assertEqual(len(set(bp.QUESTIONS.values())), 20)
         self.assertTrue(all(text[0].isupper() and text.endswith("?") for text in bp.QUESTIONS.values()))
 
     def test_the_crate_in_rust_has_the_same_questions(self):
@@ -737,14 +752,14 @@ class Refusals(unittest.TestCase):
     def test_the_examples_in_c_have_the_same_questions(self):
         with open(os.path.join(ROOT, "examples", "c", "refusal.h")) as file:
             c = re.findall(r'^    "(.*)",$', file.read(), re.MULTILINE)
-        self.assertEqual(c, [""] + [bp.QUESTIONS[n] for n in range(1, 20)])
+        self.assertEqual(c, [""] + [bp.QUESTIONS[n] for n in range(1, 21)])
 
     def test_every_number_comes_back(self):
         def read(text):
             return refusal(bp.plan_read, bytes.fromhex(text))
 
         numbers = [
-            refusal(bp.place, 7, 1024, 0, 0, 0, 0),
+            refusal(bp.place, 8, 1024, 0, 0, 0, 0),
             refusal(bp.place, 2, 128, 0, 0, 0, 0),
             refusal(bp.place, 2, 1024, 256, 0, 0, 0),
             refusal(bp.place, 2, 1024, 0, 512, 0, 0),
@@ -763,8 +778,9 @@ class Refusals(unittest.TestCase):
             read("01801002000C3F"),
             refusal(bp.bursts_check, 2, 1024, 0, 1, [(0, 0, 0, 1)]),
             refusal(bp.bursts_check, 2, 1024, 0, 1, [(0, 1, 0, 1)] * 2),
+            refusal(bp.place, 7, 2048, 0, 0, 0, 0),
         ]
-        self.assertEqual(numbers, list(range(1, 20)))
+        self.assertEqual(numbers, list(range(1, 21)))
 
 
 # --- grids ------------------------------------------------------------------------------------
@@ -1110,7 +1126,7 @@ class FirstCarriers(unittest.TestCase):
     def test_no_question_about_the_count(self):
         """Whatever it is, the first question that fails is that of empty."""
         points, grid = 384, 512
-        good, past = (2, 256, 15, 0, 511, points, grid), (7, 255, 16, 1, 512, points - 96, grid - 2)
+        good, past = (2, 256, 15, 0, 511, points, grid), (8, 255, 16, 1, 512, points - 96, grid - 2)
         for bad in itertools.product((False, True), repeat=len(good)):
             fields = [past[at] if bad[at] else good[at] for at in range(len(good))]
             mode, size, cell, mask, slot, points_len, grid_len = fields
@@ -1131,6 +1147,217 @@ class FirstCarriers(unittest.TestCase):
         self.assertEqual(emptied(*setup, False, grid, before), before)
 
 
+# --- FUSC -------------------------------------------------------------------------------------
+
+SPREAD = range(26, 1677, 10)  # a list that is not the reference's: every tenth used number
+LISTED = (bp.place, bp.locate, bp.places, slot_places_with, ground_with, lay_with, fill_with, empty_with, look_with)
+LISTED += (empty_first_with,)
+
+
+def calls_with_pilots(mode, size):
+    """Those of calls_of that take a list of pilots."""
+    return [call for call in calls_of(mode, size) if call[0] in LISTED]
+
+
+def some_lists(rng):
+    return [*pilot_lists.GOOD.values(), pilot_lists.random_list(rng)]
+
+
+class Fusc(unittest.TestCase):
+    """Mode 7, whose pilots are a list of the caller's."""
+
+    def test_by_hand(self):
+        """Index 46 of subchannel 31 in cell 0 has data number 573: behind as many pilots as stand before it."""
+        for pilots, used in ((pilot_lists.START, 573 + 166), (pilot_lists.END, 573), (SPREAD, 573 + 61)):
+            place = bp.place(7, 2048, 0, 9, 31, 46, pilots=pilots)
+            self.assertEqual(place, (9, used - 851))
+            self.assertEqual(bp.locate(7, 2048, 0, *place, pilots=pilots), (Kind.DATA, 9, 31, 46))
+            self.assertEqual(bp.places(7, 2048, 0, 9, 31, pilots=pilots)[46], 1024 + used - 851)
+        last = range(1701 - 165, 1702)
+        kinds = {-852: Kind.GUARD, -851: Kind.DATA, 0: Kind.DC, 1: Kind.DATA, 851: Kind.PILOT, 852: Kind.GUARD}
+        for carrier, kind in {**kinds, -1024: Kind.GUARD, 1023: Kind.GUARD, 851 - 165: Kind.PILOT}.items():
+            self.assertEqual(bp.locate(bp.Mode.FUSC, 2048, 31, 511, carrier, pilots=last).kind, kind, carrier)
+        pilots = [carrier for carrier in ref.carriers(2048) if self.is_pilot(carrier, SPREAD)]
+        self.assertEqual(pilots, [used - 851 if used < 851 else used - 850 for used in SPREAD])
+
+    def is_pilot(self, carrier, pilots):
+        return bp.locate(7, 2048, 0, 0, carrier, pilots=pilots).kind is Kind.PILOT
+
+    def test_every_point_and_carrier_as_the_reference(self):
+        rng = random.Random(40)
+        for pilots, cell, slot in zip(some_lists(rng), (0, 31, 5, 17, 1, 30), (0, 511, 1, 2, 77, 300)):
+            setup, places = (7, 2048, cell, slot), array("I")
+            for subchannel in range(32):
+                wanted = [ref.place(*setup, subchannel, index, pilots) for index in range(48)]
+                found = [bp.place(*setup, subchannel, index, pilots=pilots) for index in range(48)]
+                self.assertEqual([(0, *place) for place in found], wanted, (setup, subchannel))
+                row = array("I", [ref.grid_at(7, 2048, *place[1:]) // 2 for place in wanted])
+                self.assertEqual(bp.places(*setup, subchannel, pilots=pilots), row)
+                places += row
+            self.assertEqual(bp.slot_places(*setup, pilots=pilots), places)
+            for carrier in ref.carriers(2048):
+                wanted = as_located(ref.locate(*setup, carrier, pilots)[1])
+                self.assertEqual(bp.locate(*setup, carrier, pilots=pilots), wanted, (setup, carrier))
+
+    def test_grids_to_the_bit(self):
+        """Both moves, both emptyings and looks, whatever the buffers hold."""
+        rng = random.Random(41)
+        for pilots, cell, slot in zip(some_lists(rng), (31, 0, 9, 16, 2, 29), (511, 0, 2, 1, 400, 5)):
+            setup, lent = (7, 2048, cell, slot), {"pilots": pilots}
+            points, pilot, grid = random_bits(rng, 3072), random_bits(rng, 2), random_bits(rng, 4096)
+            before = grid.tolist()
+            _, ground = ref.ground(7, 2048, cell, 0, slot, pilot.tolist(), before, pilots)
+            bp.ground(*setup, as_floats(pilot), as_floats(grid), **lent)
+            self.assertEqual(grid.tolist(), ground)
+            _, wanted = ref.fill(7, 2048, cell, 0, slot, pilot.tolist(), points.tolist(), before, pilots)
+            for subchannel in rng.sample(range(32), 32):
+                bp.lay(*setup, subchannel, as_floats(own(points, subchannel)), as_floats(grid), **lent)
+            self.assertEqual(grid.tolist(), wanted)
+            grid = random_bits(rng, 4096)
+            bp.fill(*setup, as_floats(pilot), as_floats(points), as_floats(grid), **lent)
+            self.assertEqual(grid.tolist(), wanted)
+            again = random_bits(rng, 3072)
+            bp.empty(*setup, as_floats(grid), as_floats(again), **lent)
+            self.assertEqual(again, points)
+            for carriers in (0, 1, 173, 1024, 1025, rng.randrange(2048), 1875, 1876, 2048, MOST, HUGE):
+                again = random_bits(rng, 3072)
+                count, old = min(carriers, MOST), again.tolist()
+                _, first = ref.empty_first(7, 2048, cell, 0, slot, count, grid.tolist(), old, pilots)
+                bp.empty_first(*setup, carriers, as_floats(grid), as_floats(again), **lent)
+                self.assertEqual(again.tolist(), first)
+            held = array("f", [rng.randrange(-1000, 1000) / 8 for _ in range(4096)])
+            for carrier in ref.carriers(2048):
+                what = ref.look(7, 2048, cell, 0, slot, held, carrier, pilots)[1]
+                self.assertEqual(bp.look(*setup, held, carrier, **lent), as_seen(what))
+
+    def test_the_slots_that_a_table_serves(self):
+        """All that have the same list; nothing but the symbol's number goes by the slot."""
+        for pilots in (SPREAD, pilot_lists.ENDS):
+            tables = {bp.slot_places(7, 2048, 5, slot, pilots=pilots).tobytes() for slot in (0, 1, 2, 3, 100, 511)}
+            self.assertEqual(len(tables), 1)
+        self.assertNotEqual(tables, {bp.slot_places(7, 2048, 5, 0, pilots=SPREAD).tobytes()})
+
+    def test_the_first_question_that_fails(self):
+        """With a good list, a damaged one and none, whichever other fields are wrong; so in other modes."""
+        rng = random.Random(42)
+        for setup in (FUSC, (2, 256), (0, 2048)):
+            for call, expected, good, past in calls_with_pilots(*setup):
+                for bad in itertools.product((False, True), repeat=len(good)):
+                    fields = [two[is_bad] for is_bad, *two in zip(bad, good, past)]
+                    for pilots in ((), SPREAD, pilot_lists.damaged(rng)[1], [-1], [HUGE] * 166):
+                        number = expected(*fields, list(map(as_engine, pilots)))
+                        self.assertEqual(refusal(call, *fields, pilots=pilots), number, (call, fields, pilots))
+        self.assertEqual(len(calls_with_pilots(*FUSC)), 10)
+
+    def test_damaged_lists(self):
+        """Each kind of damage meets 20 in every call, and nothing is written."""
+        rng = random.Random(43)
+        for damage in pilot_lists.DAMAGES.values():
+            pilots = damage(rng, pilot_lists.some_good(rng))
+            for call, _, good, _ in calls_with_pilots(*FUSC):
+                self.assertEqual(refusal(call, *good, pilots=pilots), 20, (call, pilots))
+        for at in range(166):
+            for entry in (1702, MOST, 2**32, 2**32 + SPREAD[at], 2**64 + SPREAD[at], -1, SPREAD[at] - 2**32, -HUGE):
+                pilots = [*SPREAD[:at], entry, *SPREAD[at + 1 :]]
+                self.assertEqual(refusal(bp.place, 7, 2048, 0, 0, 0, 0, pilots=pilots), 20, (at, entry))
+
+    def test_a_list_in_another_mode(self):
+        for mode, size in SETUPS:
+            for call, _, good, _ in calls_with_pilots(mode, size):
+                for pilots in (SPREAD, [0], [MOST], range(165), [-1]):
+                    self.assertEqual(refusal(call, *good, pilots=pilots), 20, (call, good))
+                for pilots in (None, [], (), array("I"), range(0), iter(())):
+                    self.assertEqual(refusal(call, *good, pilots=pilots), 0, (call, good))
+
+    def test_every_kind_of_sequence(self):
+        class Index:
+            def __init__(self, value):
+                self.value = value
+
+            def __index__(self):
+                return self.value
+
+        wanted = bp.place(7, 2048, 3, 4, 5, 6, pilots=SPREAD)
+        kinds = [list(SPREAD), tuple(SPREAD), iter(SPREAD), (used for used in SPREAD), list(map(Index, SPREAD))]
+        kinds += [array(code, SPREAD) for code in "hHiIlLqQ"] + [memoryview(array("I", SPREAD))]
+        kinds += [(ctypes.c_uint32 * 166)(*SPREAD), (ctypes.c_int16 * 166)(*SPREAD), dict.fromkeys(SPREAD)]
+        for pilots in kinds:
+            self.assertEqual(bp.place(7, 2048, 3, 4, 5, 6, pilots=pilots), wanted, pilots)
+        wanted = bp.place(7, 2048, 3, 4, 5, 6, pilots=range(166))
+        for pilots in (bytes(range(166)), [False, True, *range(2, 166)], pilot_lists.START):
+            self.assertEqual(bp.place(7, 2048, 3, 4, 5, 6, pilots=pilots), wanted)
+        for call, _, good, _ in calls_with_pilots(*FUSC):  # one that can be gone through but once
+            self.assertEqual(refusal(call, *good, pilots=iter(SPREAD)), 0, call)
+
+    def test_what_is_no_list(self):
+        """An error of Python's own, before every question."""
+        for pilots in (5, 1.0, "123", [1.0], ["1"], [None], [[1]], [*SPREAD[:165], 1676.0], object(), [b"1"]):
+            for setup in (FUSC, (2, 256)):
+                for call, _, good, past in calls_with_pilots(*setup):
+                    for fields in (good, (past[0], *good[1:])):
+                        with self.assertRaisesRegex(TypeError, "^pilots: integers are needed, used numbers: ."):
+                            call(*fields, pilots=pilots)
+
+    def test_given_by_name(self):
+        self.assertRaises(TypeError, bp.place, 7, 2048, 0, 0, 0, 0, SPREAD)
+        self.assertRaises(TypeError, bp.locate, 7, 2048, 0, 0, 0, SPREAD)
+        self.assertRaises(TypeError, bp.places, 7, 2048, 0, 0, 0, SPREAD)
+        for call in (bp.place, bp.locate, bp.places, bp.slot_places, bp.ground, bp.lay, bp.fill, bp.empty, bp.look):
+            self.assertIsNone(inspect.signature(call).parameters["pilots"].default)
+
+    def test_without_one_none_is_made(self):
+        self.assertIs(library.listed(None), library.listed(None))
+        self.assertEqual(library.listed(None)[:2], (None, 0))
+        self.assertIsNot(library.listed([]), library.listed(None))
+
+    def test_the_callers_list_is_neither_held_nor_changed(self):
+        pilots = array("I", SPREAD)
+        for call, _, good, _ in calls_with_pilots(*FUSC):
+            self.assertEqual(refusal(call, *good, pilots=pilots), 0)
+            self.assertEqual(pilots, array("I", SPREAD))
+            pilots.append(0)
+            self.assertEqual(refusal(call, *good, pilots=pilots), 20)
+            pilots.pop()
+
+    def test_words(self):
+        def told(pilots, mode=7, size=2048):
+            return words(bp.place, mode, size, 0, 0, 0, 0, pilots=pilots)
+
+        self.assertEqual(told(None), "0 pilots are given, not 166")
+        self.assertEqual(told(SPREAD[:165]), "165 pilots are given, not 166")
+        self.assertEqual(told([*SPREAD, 1700]), "167 pilots are given, not 166")
+        self.assertEqual(told([0], mode=2), "1 pilots are given, and mode 2 takes none")
+        self.assertEqual(told(SPREAD, mode=0), "166 pilots are given, and mode 0 takes none")
+        used = "pilot %d is %s, not one of mode 7's used numbers: 0 to 1701"
+        self.assertEqual(told([*SPREAD[:165], 1702]), used % (165, 1702))
+        self.assertEqual(told([-1, *SPREAD[1:]]), used % (0, -1))
+        self.assertEqual(told([*SPREAD[:9], 2**32 + 5, *SPREAD[10:]]), used % (9, 2**32 + 5))
+        self.assertEqual(told([*SPREAD[:9], HUGE, *SPREAD[10:]]), used % (9, "of more than 20 digits"))
+        rise = "pilot %d is %d, not larger than pilot %d, which is %d"
+        self.assertEqual(told([26, 26, *SPREAD[2:]]), rise % (1, 26, 0, 26))
+        self.assertEqual(told([*SPREAD[:165], 3]), rise % (165, 3, 164, 1666))
+        self.assertEqual(told(SPREAD[::-1]), rise % (1, 1666, 0, 1676))
+        self.assertEqual(words(bp.place, 7, 1024, 0, 0, 0, 0), "size 1024 is not one of mode 7's: 2048")
+        self.assertEqual(words(bp.place, 7, 2048, 32, 0, 0, 0), "cell 32 is not one of mode 7's: 0 to 31")
+        self.assertEqual(words(bp.place, 7, 2048, 31, 0, 32, 0), "subchannel 32 is not one of mode 7's: 0 to 31")
+        self.assertEqual(words(bp.locate, 7, 2048, 31, 512, 0), "symbol 512 is not one of mode 7's: 0 to 511")
+        self.assertEqual(words(ground_with, 7, 2048, 31, 63, 0, 0), "mask 63 is not one of mode 7's: 0")
+        for call, _, good, _ in calls_with_pilots(*FUSC):
+            self.assertEqual(words(call, *good, pilots=[1]), "1 pilots are given, not 166")
+
+    def test_the_parts_of_its_slot(self):
+        """As many points, pilots and carriers as it has, and an unlit one is none of its own."""
+        pilots = pilot_lists.AROUND_DC
+        kinds = [bp.locate(7, 2048, 0, 0, carrier, pilots=pilots).kind for carrier in ref.carriers(2048)]
+        counts = {kind: kinds.count(kind) for kind in set(kinds)}
+        self.assertEqual(counts, {Kind.GUARD: 173 + 172, Kind.DC: 1, Kind.PILOT: 166, Kind.DATA: 32 * 48})
+        self.assertEqual((bp.lit_points_len(7, 2048), bp.lit_points_len(7, 2048, 63)), (3072, 0))
+        self.assertEqual((bp.points_len(7, 1024), bp.grid_len(7, 1024)), (0, 0))
+
+
+# --- lengths and lending ----------------------------------------------------------------------
+
+
 class Lengths(unittest.TestCase):
     def test_as_the_reference(self):
         sizes = [*range(0, 4200), 2**16 + 256, 2**31, 2**32 - 1, 2**32 + 256, -256, HUGE]
@@ -1146,6 +1373,7 @@ class Lengths(unittest.TestCase):
         self.assertEqual((bp.lit_points_len(0, 2048), bp.lit_points_len(1, 2048)), (5760, 6720))
         self.assertEqual(bp.points_len(mode=1, size=2048), 6720)
         self.assertEqual((bp.points_len(bp.AMC_1X6, 2048), bp.grid_len(bp.AMC_1X6, 2048)), (18432, 24576))
+        self.assertEqual((bp.points_len(bp.FUSC, 2048), bp.grid_len(bp.FUSC, 2048)), (3072, 4096))
         for value in (1.0, "1", None):
             for call in (bp.points_len, bp.grid_len):
                 self.assertRaises(TypeError, call, value, 2048)
@@ -1488,9 +1716,9 @@ def random_plan(rng):
     size = rng.choice(ref.BIN_SIZES + [128])
     zones = []
     for _ in range(rng.choice([1, 2, 3, 8])):
-        modes = [0] if not zones and size == 2048 else [2, 3, 4, 5, 6]
-        mode = rng.choice(range(8) if rng.random() < 0.2 else modes)
-        cell = rng.choice([0, 5, 31, 31, 32] if mode == 0 else [0, 15, 16, 255, 1023, 2351, 2352, MOST])
+        modes = [0] if not zones and size == 2048 else [2, 3, 4, 5, 6, 7] if size == 2048 else [2, 3, 4, 5, 6]
+        mode = rng.choice(range(9) if rng.random() < 0.2 else modes)
+        cell = rng.choice([0, 5, 31, 31, 32] if mode in (0, 7) else [0, 15, 16, 255, 1023, 2351, 2352, MOST])
         masks = [63, 1, 32, 21] if mode == 0 else [0]
         mask = rng.choice([0, 1, 63, 64, MOST] if rng.random() < 0.2 else masks)
         zones.append((mode, cell, rng.choice([1, 3, 512, 1, 3, 512, 0, 513]), mask))
@@ -1556,19 +1784,22 @@ class Plans(unittest.TestCase):
     def test_every_order_of_two_zones(self):
         """Only AMC, modes 3 to 6, follows AMC; at 2048 mode 0 is first."""
         for size in ref.BIN_SIZES:
-            first, modes = ([(0, 5, 1, 63)], [0, 2, 3, 4, 5, 6]) if size == 2048 else ([], [2, 3, 4, 5, 6])
+            first, modes = ([(0, 5, 1, 63)], [0, 2, 3, 4, 5, 6, 7]) if size == 2048 else ([], [2, 3, 4, 5, 6])
             for one, other in itertools.product(modes, modes):
                 zones = first + [(one, 0, 1, ref.full_mask(one)), (other, 1, 512, ref.full_mask(other))]
                 number = refusal(bp.plan_bytes, size, zones)
-                self.assertEqual(number, 14 if one >= 3 > other else 0, (size, zones))
+                self.assertEqual(number, 14 if one in range(3, 7) and other not in range(3, 7) else 0, (size, zones))
                 if number == 0:
                     self.assertEqual(bp.plan_read(bp.plan_bytes(size, zones)), (size, tuple(zones)))
+            if size != 2048:
+                self.assertEqual(refusal(bp.plan_bytes, size, [(2, 0, 1, 0), (7, 0, 1, 0)]), 2)
         firsts = [refusal(bp.plan_bytes, 2048, [(mode, 0, 1, ref.full_mask(mode))]) for mode in range(8)]
-        self.assertEqual(firsts, [0, 1] + [14] * 5 + [1])
+        self.assertEqual(firsts, [0, 1] + [14] * 6)
+        self.assertEqual(refusal(bp.plan_bytes, 2048, [(8, 0, 1, 0)]), 1)
 
     def test_every_mask(self):
         """1 to 63 in mode 0, 0 in the others; in a plan it comes after the slots and before the order."""
-        for mode, mask in itertools.product(range(7), [*range(130), *NEVER]):
+        for mode, mask in itertools.product(range(8), [*range(130), *NEVER]):
             cell = 0 if mode == 0 else 3
             first = [(0, cell, 512, 63)] if mode else []
             zones = first + [(mode, cell, 2, mask)]
@@ -1652,7 +1883,7 @@ class Bursts(unittest.TestCase):
     def test_every_place_of_some_zones(self):
         """Tilings, some with bursts left out: a call for each slot, and one for each subchannel, as the reference."""
         rng = random.Random(26)
-        for mode, size in (setup for setup in SETUPS if setup[0] != ref.PUSC_UL):
+        for mode, size in PLAN_SETUPS:
             subs, slots = ref.subchannels(mode, size), rng.choice([1, 3, 8])
             zone = (mode, size, ref.cells(mode, size) - 1, slots)
             for count, mask in zip((1, 9, 64), rng.choices(ref.masks(mode), k=3)):
@@ -1812,7 +2043,28 @@ def last_line(done):
     return done.stderr.splitlines()[-1]
 
 
+def kind_of(parameter):
+    """Of a parameter of the header: whether a number, a signed one, a length or a pointer."""
+    if "*" in parameter or "[" in parameter:
+        return "pointer"
+    return {"uint32_t": "number", "int32_t": "signed", "size_t": "length"}[parameter.split()[0]]
+
+
+def kind_passed(argument):
+    """The same of an argument's type in the module."""
+    kinds = {ctypes.c_uint32: "number", ctypes.c_int32: "signed", ctypes.c_size_t: "length"}
+    return kinds.get(argument, "pointer")
+
+
 class Loading(unittest.TestCase):
+    def test_the_calls_as_the_header_has_them(self):
+        with open(os.path.join(ROOT, "include", "bellpulsar.h")) as file:
+            text = re.sub(r"/\*.*?\*/", "", file.read(), flags=re.DOTALL)
+        calls = re.findall(r"^(?:uint32_t|size_t) (bp_\w+)\(([^)]*)\);", text, re.MULTILINE)
+        told = {name: [] if fields == "void" else list(map(kind_of, fields.split(","))) for name, fields in calls}
+        self.assertEqual(len(told), 19)
+        self.assertEqual(told, {name: list(map(kind_passed, kinds)) for name, kinds in library._PROTOTYPES.items()})
+
     def test_the_library_is_found_from_anywhere(self):
         self.assertEqual(imported_with("").stdout, "Place(symbol=0, carrier=-425)\n")
 
@@ -1835,10 +2087,10 @@ class Loading(unittest.TestCase):
         with tempfile.TemporaryDirectory() as folder:
             for body, told in (
                 ("int bp_place(void) { return 0; }", "it has no bp_version, which version %s has" % bp.__version__),
-                ("unsigned bp_version(void) { return 50007; }", "its interface is version 5, and version 4 is needed"),
-                ("unsigned bp_version(void) { return 30912; }", "its interface is version 3, and version 4 is needed"),
+                ("unsigned bp_version(void) { return 60007; }", "its interface is version 6, and version 5 is needed"),
+                ("unsigned bp_version(void) { return 40312; }", "its interface is version 4, and version 5 is needed"),
                 ("unsigned bp_version(void) { return 4294967295u; }", "its interface is version 429496, and .*"),
-                ("unsigned bp_version(void) { return 40299; }", "it has no bp_place, which version .* has"),
+                ("unsigned bp_version(void) { return 59999; }", "it has no bp_place, which version .* has"),
             ):
                 other = os.path.join(folder, "other.so")
                 compiler = [*os.environ.get("CC", "cc").split(), "-shared", "-fPIC", "-x", "c", "-", "-o", other]
@@ -1857,8 +2109,8 @@ class Loading(unittest.TestCase):
         exec("from bellpulsar import *", found)
         calls = [name for name, thing in vars(bp).items() if getattr(thing, "__module__", "") == "bellpulsar"]
         public = {name for name in calls if not name.startswith("_")}
-        modes = {"PUSC_DL", "PUSC_UL", "OFUSC", "AMC", "AMC_2X3", "AMC_3X2", "AMC_1X6"}
-        self.assertEqual(sorted(getattr(bp, name) for name in modes), list(range(7)))
+        modes = {"PUSC_DL", "PUSC_UL", "OFUSC", "AMC", "AMC_2X3", "AMC_3X2", "AMC_1X6", "FUSC"}
+        self.assertEqual(sorted(getattr(bp, name) for name in modes), list(range(8)))
         self.assertEqual(set(found) - {"__builtins__"}, public | modes | {"ALL_GROUPS", "QUESTIONS"})
         self.assertEqual(len(bp.__all__), len(set(bp.__all__)))
 
@@ -1867,7 +2119,7 @@ class Loading(unittest.TestCase):
         command = [sys.executable, os.path.abspath(__file__), "Numpy"]
         env = dict(os.environ, PATH="/none", BELLPULSAR_LIBRARY=BUILT)
         done = subprocess.run(command, env=env, capture_output=True, text=True, timeout=60)
-        last = "with numpy" if numpy else "numpy not here: 3 skipped"
+        last = "with numpy" if numpy else "numpy not here: 4 skipped"
         self.assertEqual(done.returncode, 0, done.stderr)
         self.assertRegex(done.stdout, r"^python: \d tests, %s\n$" % last)
 
@@ -2035,6 +2287,16 @@ class Numpy(unittest.TestCase):
         self.assertRaises(TypeError, bp.bursts_check, 0, 2048, 5, 12, bursts.astype(float))
         self.assertEqual(refusal(bp.bursts_check, 0, 2048, 5, 12, bursts[:, :3]), 18)
 
+    def test_pilots(self):
+        pilots, wanted = numpy.array(SPREAD), bp.place(7, 2048, 3, 4, 5, 6, pilots=SPREAD)
+        for kind in (numpy.uint32, numpy.int64, numpy.uint16, ">u4"):
+            self.assertEqual(bp.place(7, 2048, 3, 4, 5, 6, pilots=pilots.astype(kind)), wanted)
+        self.assertEqual(bp.place(7, 2048, 3, 4, 5, 6, pilots=numpy.repeat(pilots, 3)[::3]), wanted)
+        self.assertEqual(refusal(bp.place, 7, 2048, 3, 4, 5, 6, pilots=pilots[::-1]), 20)
+        self.assertEqual(refusal(bp.place, 2, 256, 3, 4, 0, 6, pilots=pilots[:0]), 0)
+        for other in (pilots.astype(float), pilots.reshape(2, 83), pilots.reshape(166, 1), numpy.int64(5)):
+            self.assertRaisesRegex(TypeError, "^pilots: ", bp.place, 7, 2048, 3, 4, 5, 6, pilots=other)
+
     def test_what_is_not_taken(self):
         points = numpy.zeros(96 * 4, numpy.float32)
         for grid in (numpy.zeros(512), numpy.zeros(256, complex), numpy.zeros(512, ">f4")):
@@ -2196,7 +2458,7 @@ class Arrays(unittest.TestCase):
         for mode, size in ((0, 2048), (2, 256), (6, 1024)):
             points, grid = 48 * ref.subchannels(mode, size), ref.grid_floats(mode, size) // 2
             good = (mode, size, ref.cells(mode, size) - 1, ref.full_mask(mode), 511)
-            past = (7, size + 1, good[2] + 1, good[3] + 1, 512)
+            past = (8, size + 1, good[2] + 1, good[3] + 1, 512)
             ground = of_points(ref.ground_refusal)
             filled = of_points(lambda *fields: ref.buffers_refusal(*fields, ref.grid_len(*fields[:2])))
             for call, expected, own, wrong in (
@@ -2207,6 +2469,31 @@ class Arrays(unittest.TestCase):
                 for bad in itertools.product((False, True), repeat=5 + len(own)):
                     fields = [two[is_bad] for is_bad, *two in zip(bad, (*good, *own), (*past, *wrong))]
                     self.assertEqual(refusal(call, *fields), expected(*fields), (call, fields))
+
+    def test_fusc(self):
+        rng = random.Random(38)
+        for pilots in (SPREAD, numpy.array(pilot_lists.ENDS), list(pilot_lists.random_list(rng))):
+            setup, points, pilot = (7, 2048, rng.randrange(32), 3), noise(rng, 32, 48), noise(rng, 1)
+            wanted = numpy.empty((1, 2048), numpy.complex64)
+            bp.fill(*setup, pilot, points, wanted, pilots=pilots)
+            self.same(arrays.fill(*setup, pilot, points, pilots=pilots), wanted)
+            self.same(arrays.empty(*setup, wanted, pilots=pilots), points)
+            self.same(wanted.reshape(-1)[arrays.slot_places(*setup, pilots=pilots)], points)
+            self.same(arrays.empty_first(*setup, 2048, wanted, pilots=pilots), points)
+            half = arrays.empty_first(*setup, 1024, wanted, numpy.zeros((32, 48), numpy.complex64), pilots=pilots)
+            there = arrays.slot_places(*setup, pilots=pilots) < 1024
+            self.same(half[there], points[there])
+            self.assertFalse(half[~there].any())
+        grid = numpy.zeros((1, 2048), numpy.complex64)
+        for lent in ({}, {"pilots": range(165)}, {"pilots": SPREAD[::-1]}):
+            for call, fields in (
+                (arrays.slot_places, ()),
+                (arrays.fill, (1j, points)),
+                (arrays.empty, (grid,)),
+                (arrays.empty_first, (9, grid)),
+            ):
+                self.assertEqual(refusal(call, 7, 2048, 0, 0, *fields, **lent), 20)
+                self.assertEqual(refusal(call, 7, 2048, 0, 512, *fields, **lent), 4)
 
     def test_hints(self):
         self.assertEqual(unhinted(arrays), [])

@@ -6,8 +6,9 @@ Run: python3 tests/test_reference.py
 import random
 
 import burst_lists
+import pilot_lists
 import reference as ref
-from reference import AMC, AMC_1X6, AMC_2X3, AMC_3X2, OFUSC, PUSC_DL, PUSC_UL
+from reference import AMC, AMC_1X6, AMC_2X3, AMC_3X2, FUSC, OFUSC, PUSC_DL, PUSC_UL
 
 
 def hex_bytes(text):
@@ -18,6 +19,7 @@ def test_tables():
     assert sorted(ref.R) == list(range(120)) and ref.R.index(0) == 119
     assert sorted(ref.Q) == list(range(70)) and ref.Q[:5] == [6, 48, 58, 57, 50]
     assert sorted(ref.BASE_12) == list(range(12)) and sorted(ref.BASE_8) == list(range(8))
+    assert sorted(ref.FUSC_BASE) == list(range(32)) and ref.FUSC_BASE[:4] == [3, 18, 2, 8]
     assert len(set(ref.P)) == 48 and "00" not in ref.P
     assert ref.P == powers_of_22()
 
@@ -83,10 +85,10 @@ def test_known_ranges():
         assert ref.place(mode, 256, 2351, 0, 0, 0)[0] == 0
         assert ref.place(mode, 256, 2352, 0, 0, 0)[0] == 3
     for mode in ref.MODES:
-        assert ref.place(mode, 2048, 0, 511, 0, 0)[0] == 0
-        assert ref.place(mode, 2048, 0, 512, 0, 0)[0] == 4
+        assert ref.place(mode, 2048, 0, 511, 0, 0, pilot_lists.of_mode(mode))[0] == 0
+        assert ref.place(mode, 2048, 0, 512, 0, 0, pilot_lists.of_mode(mode))[0] == 4
     assert ref.place(OFUSC, 128, 0, 0, 0, 0)[0] == 2
-    assert ref.place(7, 2048, 0, 0, 0, 0)[0] == 1
+    assert ref.place(8, 2048, 0, 0, 0, 0)[0] == 1
     assert ref.place(2**32 - 1, 2048, 0, 0, 0, 0)[0] == 1
 
 
@@ -105,7 +107,8 @@ def test_refused_plans():
     cases = {
         "": 10, "80": 10, "80 80": 10, "81 00": 11, "80 00": 11, "80 80 00": 11, "80 80 80": 11,
         "80 80 80 01": 11, "00 80": 12, "09 80 08": 12, "01 00 80": 2, "01 80 01": 2,
-        "01 80 08 01 00 01": 10, "01 80 08 01 00 01 00": 1, "01 80 08 07 00 01 00": 1, "01 80 08 00 00 01 3F": 2,
+        "01 80 08 01 00 01": 10, "01 80 08 01 00 01 00": 1, "01 80 08 08 00 01 00": 1, "01 80 08 00 00 01 3F": 2,
+        "01 80 08 07 00 01 00": 2, "01 80 10 07 20 01 00": 3, "01 80 10 07 1F 01 00": 14,
         "01 80 02 02 10 01 00": 3, "01 80 08 03 B0 12 01 00": 3, "01 80 08 02 00 00 00": 13,
         "01 80 08 02 00 81 04 00": 13, "02 80 10 02 00 01 00": 14, "01 80 10 00 20 01 3F": 3,
         "02 80 08 03 00 01 00 02 00 01 00": 14, "01 80 08 02 00 01 00 00": 15,
@@ -140,7 +143,7 @@ def test_masks_of_a_zone():
     """1 to 63 in mode 0, zero in the others; past the count zero too."""
     for mask in (*range(66), 127, 128, 2**16 + 63, 2**21 - 1):
         for mode in ref.PLAN_MODES:
-            size, head = (2048, [(0, 0, 1, 63)]) if mode == 0 else (512, [])
+            size, head = (2048, [(0, 0, 1, 63)]) if mode in (0, 7) else (512, [])
             right = 1 <= mask <= 63 if mode == 0 else mask == 0
             zones = head + [(mode, 0, 1, mask)]
             assert ref.read_plan(plan_bytes(size, zones))[0] == (0 if right else 17)
@@ -151,15 +154,16 @@ def test_masks_of_a_zone():
 
 
 def test_order_of_modes():
-    """Every mode after every other, at every size: after any of 3 to 6 only these four; at 2048 mode 0 comes first."""
+    """Every mode after every other, at every size: after any of 3 to 6 only these four; at 2048 mode 0 comes first. Modes 0
+    and 7 are at 2048 alone."""
     for size in ref.BIN_SIZES:
-        listed = (0, 2, 3, 4, 5, 6) if size == 2048 else (2, 3, 4, 5, 6)
-        refused = {mode: 2 if mode == 0 else 1 for mode in range(9) if mode not in listed}
+        listed = (0, 2, 3, 4, 5, 6, 7) if size == 2048 else (2, 3, 4, 5, 6)
+        refused = {mode: 2 if mode in (0, 7) else 1 for mode in range(10) if mode not in listed}
         head = [zone_of(0)] if size == 2048 else []
-        for mode in range(9):
+        for mode in range(10):
             first = refused.get(mode, 14 if size == 2048 and mode != 0 else 0)
             assert ref.read_plan(plan_bytes(size, [zone_of(mode)]))[0] == first
-            for after in range(9):
+            for after in range(10):
                 order = 14 if mode in (3, 4, 5, 6) and after not in (3, 4, 5, 6) else 0
                 number = refused.get(mode, refused.get(after, order))
                 zones = head + [zone_of(mode), zone_of(after)]
@@ -189,9 +193,9 @@ def test_plan_round_trips():
     shapes = [(2, 17, 3, 0), (6, 2351, 512, 0), (4, 0, 1, 0), (5, 48, 2, 0), (3, 176, 1, 0)] + [ref.NO_ZONE] * 3
     number, written, dest = ref.write_plan(5, 1024, shapes, [0] * 51)
     assert number == 0 and ref.read_plan(dest[:written]) == (0, 5, 1024, shapes)
-    masks = [(0, 5, 2, 7), (2, 0, 1, 0), (0, 31, 512, 56), (6, 0, 1, 0)] + [ref.NO_ZONE] * 4
-    number, written, dest = ref.write_plan(4, 2048, masks, [0] * 51)
-    assert number == 0 and ref.read_plan(dest[:written]) == (0, 4, 2048, masks)
+    masks = [(0, 5, 2, 7), (2, 0, 1, 0), (0, 31, 512, 56), (7, 31, 9, 0), (6, 0, 1, 0)] + [ref.NO_ZONE] * 3
+    number, written, dest = ref.write_plan(5, 2048, masks, [0] * 51)
+    assert number == 0 and ref.read_plan(dest[:written]) == (0, 5, 2048, masks)
 
 
 def test_slots_are_whole():
@@ -200,7 +204,7 @@ def test_slots_are_whole():
     for mode in ref.MODES:
         for size in ref.sizes(mode):
             cell, slot = dice.randrange(ref.cells(mode, size)), dice.randrange(512)
-            found = ref.slot_map(mode, size, cell, slot)
+            found = ref.slot_map(mode, size, cell, slot, pilot_lists.of_mode(mode))
             used = ref.used_numbers(mode, size) + 1
             assert len(found) == used * ref.SLOT_LENGTH[mode]
             data = [what for what in found.values() if what[0] == ref.DATA]
@@ -219,26 +223,27 @@ def test_grids():
 def check_grid(dice, setup, mask, slot):
     """Filled, emptied, looked at, and refused for its lengths."""
     mode, size, cell = setup
+    pilots = pilot_lists.of_mode(mode)
     points = [dice.randrange(2**32) for _ in range(ref.lit_points_len(mode, size, mask))]
     grid = [9] * ref.grid_floats(mode, size)
-    number, filled = ref.fill(*setup, mask, slot, [1, 2], points, grid)
-    assert number == 0 and ref.empty(*setup, mask, slot, filled, [0] * len(points)) == (0, points)
+    number, filled = ref.fill(*setup, mask, slot, [1, 2], points, grid, pilots)
+    assert number == 0 and ref.empty(*setup, mask, slot, filled, [0] * len(points), pilots) == (0, points)
     check_looks(mode, size, cell, mask, slot, points, filled)
-    assert ref.fill(*setup, mask, slot, [1, 2], points[1:], grid) == (8, grid)
-    assert ref.fill(*setup, mask, slot, [1, 2], points, grid[1:]) == (9, grid[1:])
-    assert ref.empty(*setup, mask, slot, grid[1:], points) == (9, points)
-    assert ref.empty(*setup, mask, slot, grid[1:], points + [0] * 96) == (8, points + [0] * 96)
-    assert ref.look(*setup, mask, 0, grid[1:], 0) == (9, None)
-    assert ref.look(*setup, mask, 0, grid[1:], size // 2) == (7, None)
+    assert ref.fill(*setup, mask, slot, [1, 2], points[1:], grid, pilots) == (8, grid)
+    assert ref.fill(*setup, mask, slot, [1, 2], points, grid[1:], pilots) == (9, grid[1:])
+    assert ref.empty(*setup, mask, slot, grid[1:], points, pilots) == (9, points)
+    assert ref.empty(*setup, mask, slot, grid[1:], points + [0] * 96, pilots) == (8, points + [0] * 96)
+    assert ref.look(*setup, mask, 0, grid[1:], 0, pilots) == (9, None)
+    assert ref.look(*setup, mask, 0, grid[1:], size // 2, pilots) == (7, None)
 
 
 def check_looks(mode, size, cell, mask, slot, points, filled):
     """What stands on each carrier of the filled grid, and what look answers where every unlit float holds 8."""
-    lit = lit_by_hand(mode, size, mask)
+    lit, pilots = lit_by_hand(mode, size, mask), pilot_lists.of_mode(mode)
     for offset in range(ref.SLOT_LENGTH[mode]):
         symbol = slot * ref.SLOT_LENGTH[mode] + offset
         for carrier in range(-size // 2, size // 2):
-            _, what = ref.locate(mode, size, cell, symbol, carrier)
+            _, what = ref.locate(mode, size, cell, symbol, carrier, pilots)
             at = 2 * (offset * size + size // 2 + carrier)
             held = filled[at : at + 2]
             if what[0] in (ref.GUARD, ref.DC) or not carrier_is_lit(mode, size, cell, mask, carrier):
@@ -252,7 +257,7 @@ def check_looks(mode, size, cell, mask, slot, points, filled):
                 source = 2 * (48 * lit.index(what[2]) + what[3])
                 assert held == points[source : source + 2]
                 wanted = (ref.DATA, points[source : source + 2]) + what[1:]
-            assert ref.look(mode, size, cell, mask, symbol, filled, carrier) == (0, wanted)
+            assert ref.look(mode, size, cell, mask, symbol, filled, carrier, pilots) == (0, wanted)
 
 
 def test_planners_figures():
@@ -282,7 +287,10 @@ SETUPS = [(mode, size) for mode in ref.MODES for size in ref.sizes(mode)]
 
 
 def pilots_a_symbol(mode, size, offset):
-    """Two of each of 120 clusters; two of each of 420 tiles, none in the middle symbol; one of each of 6N bins."""
+    """Two of each of 120 clusters; two of each of 420 tiles, none in the middle symbol; one of each of 6N bins; all that
+    are lent."""
+    if mode == FUSC:
+        return 166
     if mode == PUSC_UL:
         return 0 if offset == 1 else 840
     return 240 if mode == PUSC_DL else 6 * size // 64
@@ -292,26 +300,28 @@ def test_ground():
     """Pilots and zeros, on data carriers too; where all is lit the cell has no part in it."""
     for mode, size in SETUPS:
         grid, last, mask = [9] * ref.grid_floats(mode, size), ref.cells(mode, size) - 1, ref.full_mask(mode)
+        pilots = pilot_lists.of_mode(mode)
         for slot in (0, 1, 2, 511):
-            number, after = ref.ground(mode, size, last, mask, slot, [1, 2], grid)
-            assert number == 0 and ref.ground(mode, size, 0, mask, slot, [1, 2], grid) == (0, after)
+            number, after = ref.ground(mode, size, last, mask, slot, [1, 2], grid, pilots)
+            assert number == 0 and ref.ground(mode, size, 0, mask, slot, [1, 2], grid, pilots) == (0, after)
             for offset in range(ref.SLOT_LENGTH[mode]):
                 row = after[2 * size * offset : 2 * size * (offset + 1)]
                 assert row.count(1) == row.count(2) == pilots_a_symbol(mode, size, offset)
                 assert row.count(0) == 2 * (size - pilots_a_symbol(mode, size, offset))
                 for carrier in range(-size // 2, size // 2):
-                    what = ref.locate(mode, size, last, slot * ref.SLOT_LENGTH[mode] + offset, carrier)[1]
+                    what = ref.locate(mode, size, last, slot * ref.SLOT_LENGTH[mode] + offset, carrier, pilots)[1]
                     at = size + 2 * carrier
                     assert row[at : at + 2] == ([1, 2] if what == (ref.PILOT,) else [0, 0])
 
 
 def test_grounds_that_serve():
-    """In modes 0, 1, 4 and 6 all slots have one ground, in modes 2, 3 and 5 those that agree mod 3, and no others."""
+    """In modes 0, 1, 4 and 6, and in mode 7 with one list, all slots have one ground, in modes 2, 3 and 5 those that agree
+    mod 3, and no others."""
     for mode, size in SETUPS:
-        mask, grid = ref.full_mask(mode), [9] * ref.grid_floats(mode, size)
-        grounds = [ref.ground(mode, size, 0, mask, slot, [1, 2], grid) for slot in range(6)]
+        mask, grid, pilots = ref.full_mask(mode), [9] * ref.grid_floats(mode, size), pilot_lists.of_mode(mode)
+        grounds = [ref.ground(mode, size, 0, mask, slot, [1, 2], grid, pilots) for slot in range(6)]
         one = [grounds[0]] * 6
-        assert grounds[3:] == grounds[:3] and (grounds == one) == (mode in (0, 1, 4, 6))
+        assert grounds[3:] == grounds[:3] and (grounds == one) == (mode in (0, 1, 4, 6, 7))
         assert grounds == one or grounds[0] != grounds[1] != grounds[2] != grounds[0]
 
 
@@ -347,11 +357,12 @@ def test_a_lay_changes_96_floats():
         mask = dice.choice(some_masks(mode))
         lit = lit_by_hand(mode, size, mask)
         for subchannel in {lit[0], lit[-1], dice.choice(lit)}:
-            number, after = ref.lay(mode, size, cell, mask, slot, subchannel, points, grid)
+            pilots = pilot_lists.of_mode(mode)
+            number, after = ref.lay(mode, size, cell, mask, slot, subchannel, points, grid, pilots)
             assert number == 0 and len(after) == len(grid)
             assert sorted(x for x, old in zip(after, grid) if x != old) == points
             for index in range(48):
-                _, symbol, carrier = ref.place(mode, size, cell, slot, subchannel, index)
+                _, symbol, carrier = ref.place(mode, size, cell, slot, subchannel, index, pilots)
                 at = 2 * (symbol % ref.SLOT_LENGTH[mode] * size + size // 2 + carrier)
                 assert after[at : at + 2] == [2 * index, 2 * index + 1]
 
@@ -370,15 +381,15 @@ def test_both_moves_fill():
         for mask in some_masks(mode):
             fields = mode, size, dice.randrange(ref.cells(mode, size)), mask, dice.randrange(512)
             subchannels = lit_by_hand(mode, size, mask)
-            old, last = [9] * ref.grid_floats(mode, size), {}
-            number, grid = ref.ground(*fields, [1, 2], old)
+            old, last, pilots = [9] * ref.grid_floats(mode, size), {}, pilot_lists.of_mode(mode)
+            number, grid = ref.ground(*fields, [1, 2], old, pilots)
             assert number == 0
             for subchannel in some_order(dice, subchannels):
                 last[subchannel] = [dice.randrange(2**32) for _ in range(96)]
-                number, grid = ref.lay(*fields, subchannel, last[subchannel], grid)
+                number, grid = ref.lay(*fields, subchannel, last[subchannel], grid, pilots)
                 assert number == 0
             points = [x for subchannel in subchannels for x in last[subchannel]]
-            assert ref.fill(*fields, [1, 2], points, old) == (0, grid)
+            assert ref.fill(*fields, [1, 2], points, old, pilots) == (0, grid)
 
 
 def check_order(call, questions, good, wrong):
@@ -485,7 +496,8 @@ def test_question_17():
             assert ref.empty_first(*fields, size, grid, points) == (17, points)
             assert ref.look(mode, size, 0, mask, 2**32 - 1, [], size)[0] == 17
             assert ref.look(mode, size, 2352, mask, 0, grid, 0)[0] == 3
-    assert ref.lit_points_len(7, 2048, 0) == ref.lit_points_len(0, 1024, 63) == ref.lit_points_len(2, 128, 0) == 0
+    assert ref.lit_points_len(8, 2048, 0) == ref.lit_points_len(7, 1024, 0) == 0
+    assert ref.lit_points_len(2, 128, 0) == 0
 
 
 def test_unlit_subchannels():
@@ -506,45 +518,77 @@ def test_unlit_subchannels():
 
 
 def test_questions_of_calls_with_a_mask():
-    def ground(mode, size, cell, mask, slot, grid):
-        return ref.ground(mode, size, cell, mask, slot, [1, 2], grid)
+    def ground(mode, size, cell, mask, slot, pilots, grid):
+        return ref.ground(mode, size, cell, mask, slot, [1, 2], grid, pilots)
+
+    def lay(mode, size, cell, mask, slot, subchannel, pilots, points, grid):
+        return ref.lay(mode, size, cell, mask, slot, subchannel, points, grid, pilots)
 
     # Empty and look write no grid; for them it is left where the points are, and where nothing is seen.
-    def empty(mode, size, cell, mask, slot, points, grid):
-        number, after = ref.empty(mode, size, cell, mask, slot, grid, points)
+    def empty(mode, size, cell, mask, slot, pilots, points, grid):
+        number, after = ref.empty(mode, size, cell, mask, slot, grid, points, pilots)
         return number, grid if after == points else after
 
     # There is no question about a count: 0 and 1 are refused as all carriers are, and write less.
-    def empty_first(mode, size, cell, mask, slot, points, grid):
+    def empty_first(mode, size, cell, mask, slot, pilots, points, grid):
         fields = mode, size, cell, mask, slot
-        number, after = ref.empty_first(*fields, 2**32 - 1, grid, points)
+        number, after = ref.empty_first(*fields, 2**32 - 1, grid, points, pilots)
         for count in (0, 1, len(grid) // 2):
-            assert ref.empty_first(*fields, count, grid, points) == (number, after if count > 1 else points)
+            assert ref.empty_first(*fields, count, grid, points, pilots) == (number, after if count > 1 else points)
         return number, grid if after == points else after
 
-    def look(mode, size, cell, mask, symbol, carrier, grid):
-        number, what = ref.look(mode, size, cell, mask, symbol, grid, carrier)
+    def look(mode, size, cell, mask, symbol, carrier, pilots, grid):
+        number, what = ref.look(mode, size, cell, mask, symbol, grid, carrier, pilots)
         return number, grid if what is None else what
 
+    dice = random.Random(11)
     for mode, size in SETUPS:
         cells, subchannels, floats = ref.cells(mode, size), ref.subchannels(mode, size), ref.grid_floats(mode, size)
-        symbols = 512 * ref.SLOT_LENGTH[mode]
+        symbols, pilots, bad = 512 * ref.SLOT_LENGTH[mode], pilot_lists.of_mode(mode), pilot_lists.unfit(dice, mode)
         for mask, wrong_mask in [(63, 0), (32, 64), (32, 2**32 - 1)] if mode == PUSC_DL else [(0, 63)]:
-            good, wrong = [mode, size, cells - 1, mask, 511], [7, 128, cells, wrong_mask, 512]
+            good, wrong = [mode, size, cells - 1, mask, 511], [8, 128, cells, wrong_mask, 512]
             lit, unlit = 96 * len(lit_by_hand(mode, size, mask)), 0 if mask == 32 else subchannels
-            for off in (-2, -1, 1, 2):
-                check_order(ground, [1, 2, 3, 17, 4, 9], good + [[9] * floats], wrong + [[9] * (floats + off)])
-            for length in (0, 95, 97, 96 * subchannels):
-                good_lay = good + [subchannels - 1, [1] * 96, [9] * floats]
-                wrong_lay = wrong + [unlit, [1] * length, [9] * (floats - 1)]
-                check_order(ref.lay, [1, 2, 3, 17, 4, 5, 8, 9], good_lay, wrong_lay)
-            for off in (-96, 1, 96):
-                good_empty = good + [[1] * lit, [9] * floats]
-                wrong_empty = wrong + [[1] * (lit + off), [9] * (floats + 1)]
+            for off in (-2, 1):
+                good_ground, wrong_ground = good + [pilots, [9] * floats], wrong + [bad, [9] * (floats + off)]
+                check_order(ground, [1, 2, 3, 17, 4, 20, 9], good_ground, wrong_ground)
+            for length in (95, 96 * subchannels):
+                good_lay = good + [subchannels - 1, pilots, [1] * 96, [9] * floats]
+                wrong_lay = wrong + [unlit, bad, [1] * length, [9] * (floats - 1)]
+                check_order(lay, [1, 2, 3, 17, 4, 5, 20, 8, 9], good_lay, wrong_lay)
+            for off in (-96, 96):
+                good_empty = good + [pilots, [1] * lit, [9] * floats]
+                wrong_empty = wrong + [bad, [1] * (lit + off), [9] * (floats + 1)]
                 for call in (empty, empty_first):
-                    check_order(call, [1, 2, 3, 17, 4, 8, 9], good_empty, wrong_empty)
-            good_look, wrong_look = good[:4] + [symbols - 1, 0, [9] * floats], wrong[:4] + [symbols, size // 2, [9]]
-            check_order(look, [1, 2, 3, 17, 4, 7, 9], good_look, wrong_look)
+                    check_order(call, [1, 2, 3, 17, 4, 20, 8, 9], good_empty, wrong_empty)
+            good_look = good[:4] + [symbols - 1, 0, pilots, [9] * floats]
+            wrong_look = wrong[:4] + [symbols, size // 2, bad, [9]]
+            check_order(look, [1, 2, 3, 17, 4, 7, 20, 9], good_look, wrong_look)
+
+
+def test_questions_of_calls_without_a_mask():
+    """Place, places and locate, of which nothing is left but the number."""
+
+    def answered(answer, accepted):
+        return answer[0], None if answer[0] == 0 else accepted
+
+    def place(mode, size, cell, slot, subchannel, index, pilots):
+        return answered(ref.place(mode, size, cell, slot, subchannel, index, pilots), pilots)
+
+    def places(mode, size, cell, slot, subchannel, pilots):
+        return answered(ref.places(mode, size, cell, slot, subchannel, pilots), pilots)
+
+    def locate(mode, size, cell, symbol, carrier, pilots):
+        return answered(ref.locate(mode, size, cell, symbol, carrier, pilots), pilots)
+
+    dice = random.Random(12)
+    for mode, size in SETUPS:
+        cells, subchannels, symbols = ref.cells(mode, size), ref.subchannels(mode, size), 512 * ref.SLOT_LENGTH[mode]
+        pilots, bad = pilot_lists.of_mode(mode), pilot_lists.unfit(dice, mode)
+        good, wrong = [mode, size, cells - 1, 511, subchannels - 1], [8, 128, cells, 512, subchannels]
+        check_order(place, [1, 2, 3, 4, 5, 6, 20], good + [47, pilots], wrong + [48, bad])
+        check_order(places, [1, 2, 3, 4, 5, 20], good + [pilots], wrong + [bad])
+        good, wrong = good[:3] + [symbols - 1, -size // 2], wrong[:3] + [symbols, size // 2]
+        check_order(locate, [1, 2, 3, 4, 7, 20], good + [pilots], wrong + [bad])
 
 
 # --- emptied by carrier: document 02, wish 6 --------------------------------------------------
@@ -600,11 +644,11 @@ def test_first_carriers():
         size = ref.sizes(mode)[0]
         for mask in some_masks(mode)[::3]:
             fields = mode, size, dice.randrange(ref.cells(mode, size)), mask, dice.randrange(512)
-            grid = list(range(ref.grid_floats(mode, size)))
+            grid, pilots = list(range(ref.grid_floats(mode, size))), pilot_lists.of_mode(mode)
             old = [-1 - n for n in range(ref.lit_points_len(mode, size, mask))]
-            every = ref.empty(*fields, grid, old)[1]
-            assert ref.empty_first(*fields, 0, grid, old) == (0, old)
-            assert ref.empty_first(*fields, len(grid) // 2, grid, old) == (0, every)
+            every = ref.empty(*fields, grid, old, pilots)[1]
+            assert ref.empty_first(*fields, 0, grid, old, pilots) == (0, old)
+            assert ref.empty_first(*fields, len(grid) // 2, grid, old, pilots) == (0, every)
             lit, seen = lit_by_hand(mode, size, mask), [seen_at(fields, grid, place) for place in range(len(grid) // 2)]
             for count in some_counts(dice, mode, size):
                 after = list(old)
@@ -612,14 +656,14 @@ def test_first_carriers():
                     if what[0] == ref.DATA:
                         at = 2 * (48 * lit.index(what[3]) + what[4])
                         after[at : at + 2] = what[1]
-                assert ref.empty_first(*fields, count, grid, old) == (0, after)
+                assert ref.empty_first(*fields, count, grid, old, pilots) == (0, after)
 
 
 def seen_at(fields, grid, place):
     """What look answers of a place of the grid."""
     mode, size, cell, mask, slot = fields
     symbol = slot * ref.SLOT_LENGTH[mode] + place // size
-    return ref.look(mode, size, cell, mask, symbol, grid, place % size - size // 2)[1]
+    return ref.look(mode, size, cell, mask, symbol, grid, place % size - size // 2, pilot_lists.of_mode(mode))[1]
 
 
 def test_a_first_count_and_then_a_larger():
@@ -631,15 +675,17 @@ def test_a_first_count_and_then_a_larger():
         grid, old = list(range(ref.grid_floats(mode, size))), [-1] * ref.lit_points_len(mode, size, mask)
         for _ in range(3):
             first, larger = sorted(dice.choices(range(len(grid) // 2 + 2), k=2))
-            arrived = grid[: 2 * first] + [-2] * (len(grid) - 2 * first)
-            between = ref.empty_first(*fields, first, arrived, old)[1]
-            assert ref.empty_first(*fields, larger, grid, between) == ref.empty_first(*fields, larger, grid, old)
+            arrived, pilots = grid[: 2 * first] + [-2] * (len(grid) - 2 * first), pilot_lists.of_mode(mode)
+            between = ref.empty_first(*fields, first, arrived, old, pilots)[1]
+            at_once = ref.empty_first(*fields, larger, grid, old, pilots)
+            assert ref.empty_first(*fields, larger, grid, between, pilots) == at_once
 
 
 # --- bursts: document 02, wish 7 --------------------------------------------------------------
 
 ZONE = (OFUSC, 256, 3, 5, 0)  # four subchannels and five slots
-ZONES = [(mode, size) for mode in (PUSC_DL, OFUSC, AMC, AMC_2X3, AMC_3X2, AMC_1X6) for size in ref.sizes(mode)]
+ZONE_MODES = PUSC_DL, OFUSC, AMC, AMC_2X3, AMC_3X2, AMC_1X6, FUSC
+ZONES = [(mode, size) for mode in ZONE_MODES for size in ref.sizes(mode)]
 
 
 def test_bursts_by_hand():
@@ -688,7 +734,7 @@ def test_lists_by_hand():
 def test_zones_of_bursts():
     """Every mode but 1, its last subchannel and slot just in it; the mask decides nothing; 14 is not put."""
     for mode, size in ZONES:
-        last = {PUSC_DL: 59, OFUSC: size // 64 - 1}.get(mode) or WISH_2[mode][2] * size // 64 - 1
+        last = {PUSC_DL: 59, OFUSC: size // 64 - 1, FUSC: 31}.get(mode) or WISH_2[mode][2] * size // 64 - 1
         for mask in some_masks(mode):
             for slots in (1, 7, 512):
                 zone, numbers = (mode, size, ref.cells(mode, size) - 1, slots, mask), [0, last + 1, slots - 1, 1]
@@ -737,7 +783,7 @@ def test_questions_of_bursts():
             questions = [1, 2, 3, 13, 17, 4, 5, question]
             check_order(owner, questions, good + [511, subchannels - 1, fit], wrong + [512, subchannels, unfit])
             check_order(owners, questions[:6] + [question], good + [511, fit], wrong + [512, unfit])
-            wrong[0], wrong[3], wrong[4] = 7, 0, 0 if mode == PUSC_DL else 1
+            wrong[0], wrong[3], wrong[4] = 8, 0, 0 if mode == PUSC_DL else 1
 
 
 def test_tilings():
@@ -779,6 +825,8 @@ def test_kinds_of_lists():
 def document_01(mode, size):
     """Left guards, right guards, and the used number from which on DC is skipped."""
     n = size // 64
+    if mode == FUSC:  # document 02, wish 8
+        return 173, 172, 851
     return (184, 183, 840) if mode in (PUSC_DL, PUSC_UL) else (5 * n, 5 * n - 1, 27 * n)
 
 
@@ -794,7 +842,7 @@ def test_carriers_are_less_half_the_size():
             guards = [*range(low, low + left), *range(end - right, end)]
             assert sorted(guards + [0] + used) == list(range(low, end)) == list(ref.carriers(size))
             for carrier in range(low, end):
-                kind = ref.locate(mode, size, 0, 0, carrier)[1][0]
+                kind = ref.locate(mode, size, 0, 0, carrier, pilot_lists.of_mode(mode))[1][0]
                 assert (kind == ref.GUARD) == (carrier in guards) and (kind == ref.DC) == (carrier == 0)
 
 
@@ -803,15 +851,111 @@ def test_question_7():
     for mode in ref.MODES:
         for size in ref.sizes(mode):
             half, symbols, mask = size // 2, 512 * ref.SLOT_LENGTH[mode], ref.full_mask(mode)
-            grid = [0] * ref.grid_floats(mode, size)
+            grid, pilots = [0] * ref.grid_floats(mode, size), pilot_lists.of_mode(mode)
             for carrier in (-half, -1, 0, 1, half - 1):
-                assert ref.locate(mode, size, 0, symbols - 1, carrier)[0] == 0
-                assert ref.look(mode, size, 0, mask, symbols - 1, grid, carrier)[0] == 0
-                assert ref.look(mode, size, 0, mask, symbols - 1, [], carrier)[0] == 9
+                assert ref.locate(mode, size, 0, symbols - 1, carrier, pilots)[0] == 0
+                assert ref.look(mode, size, 0, mask, symbols - 1, grid, carrier, pilots)[0] == 0
+                assert ref.look(mode, size, 0, mask, symbols - 1, [], carrier, pilots)[0] == 9
             for carrier in (-(2**31), -size, -half - 1, half, size - 1, size, 2**31 - 1):
                 assert ref.locate(mode, size, 0, symbols - 1, carrier) == (7, None)
                 assert ref.look(mode, size, 0, mask, symbols - 1, [], carrier) == (7, None)
                 assert ref.locate(mode, size, 0, symbols, carrier) == (4, None)
+
+
+# --- FUSC: document 02, wish 8 ----------------------------------------------------------------
+
+
+def data_number(cell, subchannel, index):
+    """The formula of wish 8, its sequence not turned but read further on."""
+    n = (index + 13 * subchannel) % 48
+    return 32 * n + (ref.FUSC_BASE[(n + subchannel) % 32] + cell) % 32
+
+
+def some_pilots():
+    dice = random.Random(13)
+    return [*pilot_lists.GOOD.values(), *(pilot_lists.random_list(dice) for _ in range(5))]
+
+
+def test_known_fusc_point():
+    """Cell 0, subchannel 31, index 46 gives data number 573. Behind 166 pilots at the start that is used number 739, so
+    carrier 739 - 851; before pilots at the end it is 573; with 83 on either side of DC it is below them."""
+    assert data_number(0, 31, 46) == 573
+    assert ref.place(FUSC, 2048, 0, 9, 31, 46, pilot_lists.START) == (0, 9, -112)
+    assert ref.place(FUSC, 2048, 0, 9, 31, 46, pilot_lists.END) == (0, 9, -278)
+    assert ref.place(FUSC, 2048, 0, 9, 31, 46, pilot_lists.AROUND_DC) == (0, 9, -278)
+    # Subchannel 0, index 26: n = 26, where the sequence has 0, so data number 832, which stands past pilots 768 to 933.
+    assert ref.FUSC_BASE[26] == 0 and data_number(0, 0, 26) == 832
+    assert ref.place(FUSC, 2048, 0, 0, 0, 26, pilot_lists.AROUND_DC) == (0, 0, 832 + 166 - 851 + 1)
+
+
+def test_fusc_ranges():
+    fields, pilots = (FUSC, 2048), pilot_lists.EVEN
+    assert FUSC == 7 and ref.sizes(7) == [2048] and ref.cells(*fields) == 32 and ref.subchannels(*fields) == 32
+    assert ref.SLOT_LENGTH[7] == 1 and list(ref.masks(7)) == [0]
+    assert (ref.points_len(*fields), ref.lit_points_len(*fields, 0), ref.grid_len(*fields)) == (3072, 3072, 4096)
+    for size in (256, 512, 1024):
+        assert ref.points_len(7, size) == ref.grid_len(7, size) == 0
+        assert ref.place(7, size, 0, 0, 0, 0, pilots)[0] == 2
+    assert ref.place(*fields, 31, 511, 31, 47, pilots)[0] == 0
+    assert ref.place(*fields, 32, 511, 31, 47, pilots)[0] == 3
+    assert ref.place(*fields, 31, 512, 31, 47, pilots)[0] == 4
+    assert ref.place(*fields, 31, 511, 32, 47, pilots)[0] == 5
+    assert ref.place(*fields, 31, 511, 31, 48, pilots)[0] == 6
+    assert ref.locate(*fields, 31, 511, 1023, pilots)[0] == 0 and ref.locate(*fields, 31, 512, 0, pilots)[0] == 4
+
+
+def test_fusc_symbols():
+    """Every carrier of a symbol, for every list: guards, DC, the list's pilots, and the data numbers on what is left,
+    counted up from the lowest carrier."""
+    for number, pilots in enumerate(some_pilots()):
+        cell, slot, data = number * 7 % 32, number * 51 % 512, {}
+        for subchannel in range(32):
+            for index in range(48):
+                data[data_number(cell, subchannel, index)] = ref.DATA, slot, subchannel, index
+        assert sorted(data) == list(range(1536))
+        used = seen = 0
+        for carrier in range(-1024, 1024):
+            what = ref.locate(FUSC, 2048, cell, slot, carrier, pilots)[1]
+            if carrier == 0 or not -851 <= carrier <= 851:
+                assert what == ((ref.DC,) if carrier == 0 else (ref.GUARD,))
+                continue
+            assert what == ((ref.PILOT,) if used in pilots else data[seen])
+            if what[0] == ref.DATA:
+                assert ref.place(FUSC, 2048, cell, slot, *what[2:], pilots) == (0, slot, carrier)
+            seen += what[0] == ref.DATA
+            used += 1
+        assert (used, seen) == (1702, 1536)
+
+
+def test_every_cell_of_fusc():
+    """Each data number is one point's, whatever the cell."""
+    for cell in range(32):
+        numbers = [data_number(cell, subchannel, index) for subchannel in range(32) for index in range(48)]
+        assert sorted(numbers) == list(range(1536))
+        at = [ref.places(FUSC, 2048, cell, 0, subchannel, pilot_lists.END)[1] for subchannel in range(32)]
+        assert sum(at, []) == [173 + d + (d >= 851) for d in numbers]
+
+
+def test_question_20():
+    """Each damage, in each call that takes the list; nothing is written. In the other modes any list but the empty one."""
+    dice = random.Random(14)
+    grid, points, laid = [9] * 4096, [8] * 3072, [7] * 96
+    for damage in pilot_lists.DAMAGES.values():
+        for good in some_pilots():
+            pilots = damage(dice, good)
+            fields = FUSC, 2048, 31, 0, 5
+            assert ref.place(FUSC, 2048, 31, 5, 0, 0, pilots) == (20, 0, 0)
+            assert ref.locate(FUSC, 2048, 31, 5, 0, pilots) == (20, None)
+            assert ref.places(FUSC, 2048, 31, 5, 0, pilots) == (20, [])
+            assert ref.ground(*fields, [1, 2], grid, pilots) == (20, grid)
+            assert ref.lay(*fields, 0, laid, grid, pilots) == (20, grid)
+            assert ref.empty(*fields, grid, points, pilots) == (20, points)
+            assert ref.empty_first(*fields, 2048, grid, points, pilots) == (20, points)
+            assert ref.look(*fields, grid, 0, pilots) == (20, None)
+    for mode, size in SETUPS:
+        for pilots in (*pilot_lists.GOOD.values(), (0,), (2**32 - 1,)) if mode != FUSC else ():
+            assert ref.place(mode, size, 0, 0, 0, 0, pilots)[0] == 20
+            assert ref.locate(mode, size, 0, 0, 0, pilots)[0] == 20
 
 
 # --- AMC's slot shapes ------------------------------------------------------------------------

@@ -3,8 +3,8 @@
 
     rt check zones && python3 tests/test_zones.py
 
-The inputs: no bytes, the two zones of document 01's example, AMC's slot shapes, every mask, every refusal that reading can
-meet, lengths about the 128 bytes that count, and input that arrives in pieces. Standard library only.
+The inputs: no bytes, the two zones of document 01's example, AMC's slot shapes, every mask, FUSC between other zones, every
+refusal that reading can meet, lengths about the 128 bytes that count, and input that arrives in pieces. Standard library only.
 """
 
 import os
@@ -28,6 +28,10 @@ SHAPES_TEXT = "2 0 1 0\n6 2351 512 0\n4 0 1 0\n5 0 2 0\n3 0 3 0\n"
 MASKS = bytes.fromhex("0480100000013F00051F1502000100001F800420")
 MASKS_TEXT = "0 0 1 63\n0 5 31 21\n2 0 1 0\n0 31 512 32\n"
 
+# FUSC behind PUSC downlink, behind itself and behind optional FUSC; PUSC downlink, optional FUSC and AMC behind it.
+FUSC = bytes.fromhex("0880100000013F071F80040007000100020001000701020000050C3F0700030003000100")
+FUSC_TEXT = "0 0 1 63\n7 31 512 0\n7 0 1 0\n2 0 1 0\n7 1 2 0\n0 5 12 63\n7 0 3 0\n3 0 1 0\n"
+
 # (hex, the refusal); each number that reading can meet, by the words of document 01.
 REFUSALS = [
     ("", 10),
@@ -44,7 +48,18 @@ REFUSALS = [
     ("01810800000C3F", 2),
     ("0180080000013F", 2),
     ("01800801000100", 1),
-    ("01800807000100", 1),
+    ("01800808000100", 1),
+    ("01801008000100", 1),
+    ("01800807000100", 2),
+    ("02800802000100", 10),
+    ("0280080200010007000100", 2),
+    ("01801007200100", 3),
+    ("0180100700810400", 13),
+    ("01801007000101", 17),
+    ("0180100700013F", 17),
+    ("01801007000100", 14),
+    ("0380100000013F0300010007000100", 14),
+    ("0380100000013F0600010007000101", 17),
     ("0180080280020100", 3),
     ("018008028001", 10),
     ("01800802000000", 13),
@@ -109,6 +124,7 @@ def inputs():
     yield bytes.fromhex("01801000050C3F")
     yield SHAPES
     yield MASKS
+    yield FUSC
     yield bytes.fromhex("03801000050C3F06AF1280040005000100")
     yield bytes([8, 0x80, 0x10, 0, 0, 1, 63]) + bytes([2, 0xFF, 7, 0x80, 4, 0]) * 7
     yield bytes([8, 0x80, 0x08]) + bytes([3, 0xAF, 0x12, 0x80, 4, 0]) * 8
@@ -127,6 +143,7 @@ def main():
     assert printed(EXAMPLE) == EXAMPLE_TEXT
     assert printed(SHAPES) == SHAPES_TEXT
     assert printed(MASKS) == MASKS_TEXT
+    assert printed(FUSC) == FUSC_TEXT
     for text, number in REFUSALS:
         assert printed(bytes.fromhex(text)) == "refused %d\n" % number, text
     for data in inputs():

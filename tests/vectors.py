@@ -18,42 +18,53 @@ One request a line, natural numbers in base ten; the answer repeats the request,
     a cell cell                                 collisions in AMC, as o
 
 A refused point or carrier stands as `refused` and document 01's number.
+
+Behind the numbers of p, l and m stands the pilot list, its length first; a line that ends before it has the empty list. Its
+numbers are below 2**32, and there are at most 167 of them.
 """
 
 import os
 import random
 import sys
 
+import pilot_lists
 import reference as ref
-from reference import OFUSC, PUSC_DL, PUSC_UL
+from reference import FUSC, OFUSC, PUSC_DL, PUSC_UL
 
 ROOT = os.path.dirname(os.path.dirname(os.path.abspath(__file__)))
 LARGEST = 2**64 - 1
 LEAST_CARRIER, GREATEST_CARRIER = -(2**31), 2**31 - 1
 INPUT_ROOM = 262144  # what a vector program reads
 SETUPS = [(mode, size) for mode in ref.MODES for size in ref.sizes(mode)]
+LISTLESS = [(mode, size) for mode, size in SETUPS if mode != FUSC]  # that have no pilot list
 
 
 # --- the map ----------------------------------------------------------------------------------
 
 
-def placed_text(mode, size, cell, slot, subchannel, index):
-    number, symbol, carrier = ref.place(mode, size, cell, slot, subchannel, index)
+def placed_text(pilots, *fields):
+    number, symbol, carrier = ref.place(*fields, pilots)
     return "refused %d" % number if number else "%d.%d" % (symbol, carrier)
 
 
-def located_text(mode, size, cell, symbol, carrier):
-    number, what = ref.locate(mode, size, cell, symbol, carrier)
+def located_text(pilots, *fields):
+    number, what = ref.locate(*fields, pilots)
     if number:
         return "refused %d" % number
     return "%d.%d.%d" % what[1:] if what[0] == ref.DATA else what[0]
 
 
 def map_answer(request):
-    operation, fields, first, count = request[0], request[1:-2], request[-2], request[-1]
+    operation, numbers = request[0], 7 if request[0] == "p" else 6
+    fields, (first, count), pilots = request[1 : numbers - 1], request[numbers - 1 : numbers + 1], request[numbers + 2 :]
+    assert request[numbers + 1 :] in ((), (len(pilots), *pilots))
     text = placed_text if operation == "p" else located_text
     first = -first if operation == "m" else first
-    return " ".join(text(*fields, first + i) for i in range(count))
+    return " ".join(text(pilots, *fields, first + i) for i in range(count))
+
+
+def with_list(request, pilots):
+    return (*request, len(pilots), *pilots)
 
 
 def locating(mode, size, cell, symbol, carrier, n):
@@ -146,6 +157,14 @@ def place_refusals(mode, size):
         yield ("p", *fields, 1)
 
 
+def refused_lists(mode, size):
+    """A list in a mode that has none, good or not: alone, and where the question before it is answered no."""
+    for pilots in ((0,), (1, 2, 1701), (1701, 1701), (2**32 - 1,)):
+        for index, carrier in ((47, 0), (48, size // 2)):
+            yield with_list(("p", mode, size, 3, 7, 2, index, 1), pilots)
+            yield with_list(locating(mode, size, 3, 7, carrier, 1), pilots)
+
+
 def locate_refusals(mode, size):
     """A carrier is wrong on both sides: the first past the highest, and three that a narrower type would cut to 5."""
     good = [mode, size, 3, 7]
@@ -187,11 +206,31 @@ def size_edges():
             yield locating(mode, size, 0, 0, 0, 1)
 
 
+def fusc_requests():
+    """FUSC with lists of every kind: every carrier of a symbol, and whole subchannels. Then each damage of a list, alone and
+    where the question before it is answered no; and the ends of the ranges, each with a list that is right."""
+    dice = random.Random(8)
+    lists = [*pilot_lists.GOOD.values(), pilot_lists.random_list(dice), pilot_lists.random_list(dice)]
+    for i, pilots in enumerate(lists):
+        cell, slot = (31, 0, 5, 17, 30, 1, 13)[i], (511, 0, 1, 2, 256, 77, 510)[i]
+        yield with_list(locating(FUSC, 2048, cell, slot, -1024, 2048), pilots)
+        for subchannel in (0, 31, dice.randrange(1, 31))[: 3 if i < 5 else 1]:
+            yield with_list(("p", FUSC, 2048, cell, slot, subchannel, 0, 48), pilots)
+    for damage in pilot_lists.DAMAGES.values():
+        pilots = damage(dice, dice.choice(lists))
+        yield with_list(("p", FUSC, 2048, 3, 7, 2, 47, 2), pilots)
+        yield with_list(locating(FUSC, 2048, 3, 7, 1023, 2), pilots)
+    for fields in ((31, 511, 31, 46), (32, 511, 31, 47), (31, 512, 31, 47), (31, 511, 32, 47)):
+        yield with_list(("p", FUSC, 2048, *fields, 3), pilot_lists.EVEN)
+    for cell, symbol, carrier in ((31, 511, -1025), (32, 511, 0), (31, 512, 0), (31, 511, 1021)):
+        yield with_list(locating(FUSC, 2048, cell, symbol, carrier, 4), pilot_lists.EVEN)
+
+
 def scattered(count):
     """Accepted requests anywhere, from a fixed seed."""
     dice = random.Random(802016)
     for _ in range(count):
-        mode, size = dice.choice(SETUPS)
+        mode, size = dice.choice(LISTLESS)
         cell, slot = dice.randrange(ref.cells(mode, size)), dice.randrange(512)
         subchannel, index = dice.randrange(ref.subchannels(mode, size)), dice.randrange(48)
         yield ("p", mode, size, cell, slot, subchannel, index, 1)
@@ -201,17 +240,20 @@ def scattered(count):
 
 def map_requests():
     yield from known_points()
-    for mode, size in SETUPS:
+    for mode, size in LISTLESS:
         for cell, slot in slot_cells(mode, size):
             yield from whole_slot(mode, size, cell, slot)
         for cell, symbol in symbol_cells(mode, size):
             yield from whole_symbol(mode, size, cell, symbol)
-    for mode, size in SETUPS:
+    for mode, size in SETUPS:  # FUSC too, without its list
         yield from edges(mode, size)
         yield from place_refusals(mode, size)
         yield from locate_refusals(mode, size)
     yield from size_edges()
     yield from scattered(300)
+    yield from fusc_requests()
+    for mode, size in LISTLESS:
+        yield from refused_lists(mode, size)
 
 
 # --- collisions -------------------------------------------------------------------------------
@@ -343,6 +385,7 @@ PLANS = [
     (1024, [(3, 2351, 512, 0)] * 8),
     (512, [(2, 17, 3, 0), (4, 176, 1, 0), (6, 0, 512, 0), (5, 2351, 2, 0), (3, 48, 1, 0)]),
     (2048, [(0, 5, 12, 42), (6, 2351, 512, 0), (4, 0, 1, 0)]),
+    (2048, [(0, 5, 12, 63), (7, 31, 512, 0), (7, 0, 1, 0), (2, 0, 1, 0), (7, 1, 2, 0), (3, 2351, 1, 0)]),
 ]
 
 
@@ -380,6 +423,12 @@ def one_zone(size, zone):
     return [lit_zone(0, 0, 1), zone] if size == 2048 else [zone]
 
 
+def limit_cells(mode, size):
+    """No cell, the last of the mode's and the first past it, and one that is past all."""
+    limits = [ref.cells(mode, size) - 1, ref.cells(mode, size)] if mode in ref.PLAN_MODES else []
+    return sorted({0, *limits, 2352})
+
+
 def limit_plans():
     """(count, size, zones) about the limits: accepted, with one fault, and with two, where the first question decides."""
     good = [(2, 3, 4, 0)]
@@ -392,9 +441,9 @@ def limit_plans():
         yield 1, size, [(1, 9999, 0, 1)]
     for size in ref.BIN_SIZES:
         for mode in (*ref.MODES, ref.UNLISTED, 127, 128):
-            for cell in (0, 31, 32, 255, 256, 1023, 1024, 2351, 2352):
+            for cell in limit_cells(mode, size):
                 for slots in (0, 1, 512, 513):
-                    if (mode not in ref.PLAN_MODES or slots in (0, 513)) and cell not in (0, 2352):
+                    if slots in (0, 513) and cell not in (0, 2352):
                         continue
                     zones = one_zone(size, lit_zone(mode, cell, slots))
                     yield len(zones), size, zones
@@ -526,9 +575,9 @@ SETS = {
 
 
 def files(name):
-    """The path and the text of each stored file of a set."""
+    """The path and the text of each stored file of a set, which has each request once."""
     crate, requests, answer = SETS[name]
-    lines = [(" ".join(map(str, request)), answer(request)) for request in requests()]
+    lines = [(" ".join(map(str, request)), answer(request)) for request in dict.fromkeys(requests())]
     folder = os.path.join(ROOT, "crates", crate)
     asked = "".join("%s\n" % request for request, _ in lines)
     assert len(asked) <= INPUT_ROOM

@@ -26,13 +26,13 @@ int main(int argc, char **argv)
     }
     for (size_t n = 0; n < grid_len; n++)
         sent[n] = (float)(n + 1), grid[n] = -1;
-    uint32_t refused = bp_empty(mode, size, cell, mask, slot, sent, grid_len, whole, points_len);
+    uint32_t refused = bp_empty(mode, size, cell, mask, slot, NULL, 0, sent, grid_len, whole, points_len);
 
     /* The grid may hold anything where nothing has arrived, here -1: the points that are still to come stay 0. */
     uint32_t half = size / 2;
     for (uint32_t carriers = half; refused == BP_ACCEPTED && carriers <= grid_len / 2; carriers += half) {
         memcpy(grid, sent, 2 * carriers * sizeof(float));
-        refused = bp_empty_first(mode, size, cell, mask, slot, carriers, grid, grid_len, points, points_len);
+        refused = bp_empty_first(mode, size, cell, mask, slot, carriers, NULL, 0, grid, grid_len, points, points_len);
         if (refused != BP_ACCEPTED)
             break;
         size_t there = 0;

@@ -15,7 +15,7 @@ int main(int argc, char **argv)
     int32_t carrier = signed_field(argv[5]);
 
     uint32_t kind, slot, subchannel, index;
-    uint32_t refused = bp_locate(mode, size, cell, symbol, carrier, &kind, &slot, &subchannel, &index);
+    uint32_t refused = bp_locate(mode, size, cell, symbol, carrier, NULL, 0, &kind, &slot, &subchannel, &index);
     if (refused != BP_ACCEPTED)
         return print_refusal(refused);
     if (kind == BP_DATA)

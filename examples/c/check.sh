@@ -3,7 +3,7 @@
 set -eu
 cd "$(dirname "$0")/../.."
 ./build.sh
-for example in point carrier places collisions slot capture plan bursts; do
+for example in point carrier places collisions slot fusc capture plan bursts; do
     ${CC:-cc} -std=c11 -O2 -Wall -Wextra -Werror ${CFLAGS-} ${LDFLAGS-} -I include "examples/c/$example.c" \
         build/libbellpulsar.a -o "build/$example"
 done

@@ -16,7 +16,7 @@ int main(int argc, char **argv)
         f[i] = field(argv[i + 1]);
 
     uint32_t places[48];
-    uint32_t refused = bp_places(f[0], f[1], f[2], f[3], f[4], places);
+    uint32_t refused = bp_places(f[0], f[1], f[2], f[3], f[4], NULL, 0, places);
     if (refused != BP_ACCEPTED)
         return print_refusal(refused);
     /* A place counts the size for each symbol of the slot, and its row starts with the lowest carrier. */

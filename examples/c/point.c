@@ -17,9 +17,9 @@ int main(int argc, char **argv)
 
     uint32_t symbol, kind, slot, subchannel, index;
     int32_t carrier;
-    uint32_t refused = bp_place(f[0], f[1], f[2], f[3], f[4], f[5], &symbol, &carrier);
+    uint32_t refused = bp_place(f[0], f[1], f[2], f[3], f[4], f[5], NULL, 0, &symbol, &carrier);
     if (refused == BP_ACCEPTED)
-        refused = bp_locate(f[0], f[1], f[2], symbol, carrier, &kind, &slot, &subchannel, &index);
+        refused = bp_locate(f[0], f[1], f[2], symbol, carrier, NULL, 0, &kind, &slot, &subchannel, &index);
     if (refused != BP_ACCEPTED)
         return print_refusal(refused);
     printf("symbol %u carrier %d\n", symbol, carrier);

@@ -5,9 +5,9 @@
 #include <stdint.h>
 #include <stdio.h>
 
-static const char *const questions[20] = {
+static const char *const questions[21] = {
     "",
-    "Is the mode listed (in a plan and of bursts: 0 or 2 to 6)?",
+    "Is the mode listed (in a plan and of bursts: 0 or 2 to 7)?",
     "Is the size that mode's (of a plan: 256, 512, 1024 or 2048)?",
     "Is the cell in range?",
     "Is the slot below 512, the zone's symbol below 512 times the slot length?",
@@ -26,6 +26,7 @@ static const char *const questions[20] = {
     "Is the mask 1 to 63 in mode 0, 0 in the others?",
     "Are the bursts at most 64, of four numbers each, none empty and each wholly in its zone?",
     "Is the burst apart from every earlier one?",
+    "Are the pilots 166 rising used numbers below 1702 in mode 7, none in the others?",
 };
 
 /* 0 where all could be written, else 2. */

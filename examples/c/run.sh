@@ -1,12 +1,12 @@
 #!/bin/sh
-# Builds and runs an example: run.sh point|carrier|places|collisions|slot|capture|plan|bursts ARGUMENTS
+# Builds and runs an example: run.sh point|carrier|places|collisions|slot|fusc|capture|plan|bursts ARGUMENTS
 # The status is the example's, or 2 where it cannot be built.
 set -eu
 cd "$(dirname "$0")/../.."
 case ${1-} in
-point | carrier | places | collisions | slot | capture | plan | bursts) ;;
+point | carrier | places | collisions | slot | fusc | capture | plan | bursts) ;;
 *)
-    echo "usage: run.sh point|carrier|places|collisions|slot|capture|plan|bursts ARGUMENTS" >&2
+    echo "usage: run.sh point|carrier|places|collisions|slot|fusc|capture|plan|bursts ARGUMENTS" >&2
     exit 2
     ;;
 esac

@@ -20,10 +20,10 @@ static uint32_t print_point(uint32_t subchannel, const float *grid, size_t grid_
     uint32_t symbol, kind, of_slot, of_subchannel, index;
     int32_t carrier;
     float point[2];
-    uint32_t refused = bp_place(mode, size, cell, slot, subchannel, 0, &symbol, &carrier);
+    uint32_t refused = bp_place(mode, size, cell, slot, subchannel, 0, NULL, 0, &symbol, &carrier);
     if (refused == BP_ACCEPTED)
-        refused = bp_look(mode, size, cell, mask, symbol, grid, grid_len, carrier, &kind, point, &of_slot, &of_subchannel,
-                          &index);
+        refused = bp_look(mode, size, cell, mask, symbol, NULL, 0, grid, grid_len, carrier, &kind, point, &of_slot,
+                          &of_subchannel, &index);
     if (refused == BP_ACCEPTED && kind == BP_DATA)
         printf("symbol %u carrier %d: point (%g, %g) of slot %u subchannel %u index %u\n", symbol, carrier, point[0],
                point[1], of_slot, of_subchannel, index);
@@ -52,10 +52,10 @@ int main(int argc, char **argv)
         points[2 * n] = (float)(n + 1), points[2 * n + 1] = -(float)(n + 1);
 
     /* The ground once; then the subchannels. One that is unlit is refused, and the next takes these points. */
-    uint32_t refused = bp_ground(mode, size, cell, mask, slot, pilot, grid, grid_len), last = 0;
+    uint32_t refused = bp_ground(mode, size, cell, mask, slot, NULL, 0, pilot, grid, grid_len), last = 0;
     size_t laid = 0;
     for (uint32_t s = 0; refused == BP_ACCEPTED && laid < points_len; s++) {
-        refused = bp_lay(mode, size, cell, mask, slot, s, points + laid, OWN, grid, grid_len);
+        refused = bp_lay(mode, size, cell, mask, slot, s, NULL, 0, points + laid, OWN, grid, grid_len);
         if (refused == BP_ACCEPTED)
             last = s, laid += OWN;
         else if (refused == BP_REFUSED_SUBCHANNEL)
@@ -74,7 +74,7 @@ int main(int argc, char **argv)
     for (size_t n = points_len - OWN; n < points_len; n++)
         points[n] = -points[n];
     if (refused == BP_ACCEPTED)
-        refused = bp_lay(mode, size, cell, mask, slot, last, points + points_len - OWN, OWN, grid, grid_len);
+        refused = bp_lay(mode, size, cell, mask, slot, last, NULL, 0, points + points_len - OWN, OWN, grid, grid_len);
     if (refused != BP_ACCEPTED)
         return print_refusal(refused);
     size_t changed = 0;
@@ -84,7 +84,7 @@ int main(int argc, char **argv)
 
     refused = print_point(last, grid, grid_len);
     if (refused == BP_ACCEPTED)
-        refused = bp_empty(mode, size, cell, mask, slot, grid, grid_len, back, points_len);
+        refused = bp_empty(mode, size, cell, mask, slot, NULL, 0, grid, grid_len, back, points_len);
     if (refused != BP_ACCEPTED)
         return print_refusal(refused);
     printf("%zu points: %s\n", points_len / 2,

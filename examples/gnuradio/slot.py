@@ -13,7 +13,7 @@ It prints a line a slot and ends with status 1 where a grid or points differ.
 """
 
 import sys
-from typing import NamedTuple, Optional
+from typing import Dict, NamedTuple, Optional, Sequence
 
 import bellpulsar
 import numpy
@@ -30,6 +30,11 @@ class Slot(NamedTuple):
     cell: int
     slot: int
     mask: Optional[int] = None  # None: all is lit
+    pilots: Optional[Sequence[int]] = None  # of FUSC: the used numbers of its 166 pilots
+
+    def lent(self) -> Dict[str, object]:
+        """What the calls about a slot take by name."""
+        return {"mask": self.mask, "pilots": self.pilots}
 
     def __str__(self):
         mask = "" if self.mask is None else " mask %d" % self.mask
@@ -45,6 +50,7 @@ SLOTS = (
     Slot(bellpulsar.AMC_2X3, 256, 176, 1),
     Slot(bellpulsar.AMC_3X2, 1024, 2351, 2),
     Slot(bellpulsar.AMC_1X6, 2048, 48, 0),
+    Slot(bellpulsar.FUSC, 2048, 5, 3, pilots=range(26, 1677, 10)),  # made up: every tenth used number
 )
 
 
@@ -58,7 +64,7 @@ def by_symbol(places, grid):
 
 def pilots_by_symbol(at, grid):
     """The carriers of the lit pilots, which are all that a ground holds beside zeros."""
-    bellpulsar.ground(*at[:4], PILOT, grid, mask=at.mask)
+    bellpulsar.ground(*at[:4], PILOT, grid, **at.lent())
     return [(numpy.flatnonzero(row) - at.size // 2).tolist() for row in grid]
 
 
@@ -78,15 +84,15 @@ def passed(items, block, shape):
 
 def differences(at, points, grid):
     """What GNU Radio and the engine make of a slot otherwise, by name."""
-    order, carriers = by_symbol(arrays.slot_places(*at[:4], mask=at.mask).ravel(), grid)
+    order, carriers = by_symbol(arrays.slot_places(*at[:4], **at.lent()).ravel(), grid)
     pilots = pilots_by_symbol(at, grid)
     pilot_points = [[PILOT] * len(row) for row in pilots]
     allocator = digital.ofdm_carrier_allocator_cvc(at.size, carriers, pilots, pilot_points, [], LENGTH_TAG)
     serializer = digital.ofdm_serializer_vcc(at.size, carriers, LENGTH_TAG)
 
     streamed, emptied = points[order].reshape(-1, 1), numpy.zeros_like(points)  # a stream's items are single points
-    bellpulsar.fill(*at[:4], PILOT, points, grid, mask=at.mask)
-    bellpulsar.empty(*at[:4], grid, emptied, mask=at.mask)
+    bellpulsar.fill(*at[:4], PILOT, points, grid, **at.lent())
+    bellpulsar.empty(*at[:4], grid, emptied, **at.lent())
     pairs = {
         "grid": (passed(streamed, allocator, grid.shape), grid),
         "points": (passed(grid, serializer, streamed.shape), emptied[order]),

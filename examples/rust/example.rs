@@ -10,6 +10,9 @@
 //!                                                      every subchannel of AMC
 //!     slot MODE SIZE CELL MASK SLOT                    fills a slot's grid in two moves, lays the last lit
 //!                                                      subchannel again, and takes all points off the grid
+//!     fusc CELL SLOT SUBCHANNEL INDEX FIRST STEP       FUSC with the pilot list FIRST, FIRST + STEP, ..: places a point,
+//!                                                      fills the slot's grid, counts what stands on its
+//!                                                      carriers, and takes all points off it
 //!     capture MODE SIZE CELL MASK SLOT                 takes a slot's points off its grid while a capture delivers
 //!                                                      it, half a symbol at a time
 //!     plan BYTE..                                      reads a zone plan (each byte two hex digits),
@@ -19,7 +22,8 @@
 //!                                                      slot, how many of each), and tells whose a subchannel in a
 //!                                                      slot is and whose all subchannels of that slot are
 
-use bellpulsar::{Address, Burst, Collisions, Content, Mode, Place, Refusal, Seen, Setup, Zone};
+use bellpulsar::{Address, Burst, Collisions, Content, Mode, Piloted, Place};
+use bellpulsar::{Refusal, Seen, Setup, Zone};
 use std::io::Write;
 use std::num::{IntErrorKind, ParseIntError};
 use std::process::exit;
@@ -29,6 +33,7 @@ const USAGE: &str = "usage: point MODE SIZE CELL SLOT SUBCHANNEL INDEX
        places MODE SIZE CELL SLOT SUBCHANNEL
        collisions SIZE CELL SUBCHANNEL CELL SUBCHANNEL, or collisions CELL CELL
        slot MODE SIZE CELL MASK SLOT
+       fusc CELL SLOT SUBCHANNEL INDEX FIRST STEP
        capture MODE SIZE CELL MASK SLOT
        plan BYTE..
        bursts MODE SIZE CELL SLOTS MASK SLOT SUBCHANNEL [SUBCHANNEL SUBCHANNELS SLOT SLOTS]..";
@@ -95,7 +100,8 @@ fn burst(four: &[u32]) -> Burst {
     }
 }
 
-fn point(setup: Setup, address: Address) -> Result<String, Refusal> {
+fn point<'a>(setup: impl Into<Piloted<'a>>, address: Address) -> Result<String, Refusal> {
+    let setup = setup.into();
     let at = bellpulsar::place(setup, address)?;
     let content = bellpulsar::locate(setup, at)?;
     let mut text = format!("symbol {} carrier {}\n", at.symbol, at.carrier);
@@ -207,6 +213,37 @@ fn slot(setup: Setup, mask: u32, slot: u32) -> Result<String, Refusal> {
     bellpulsar::empty(setup, mask, slot, &grid, &mut back)?;
     let all = if back == points { "all" } else { "not all" };
     Ok(text + &format!("{} points: {all} back\n", points_len / 2))
+}
+
+/// The same list for each call: a grid is emptied and looked at with the one that it was filled with.
+fn fusc(setup: Piloted, address: Address) -> Result<String, Refusal> {
+    let Setup { mode, size, .. } = setup.setup;
+    let (mask, slot) = (0, address.slot);
+    let mut text = point(setup, address)?;
+    let points: Vec<f32> = (1..=bellpulsar::points_len(mode, size) / 2)
+        .flat_map(|n| [n as f32, -(n as f32)])
+        .collect();
+    let mut grid = vec![0.0; bellpulsar::grid_len(mode, size)];
+    bellpulsar::ground(setup, mask, slot, [1.0, 0.0], &mut grid)?;
+    for (subchannel, own) in (0..).zip(points.chunks(96)) {
+        bellpulsar::lay(setup, mask, slot, subchannel, own, &mut grid)?;
+    }
+
+    let (mut pilots, mut data, mut nothing) = (0, 0, 0);
+    let half = size as i32 / 2;
+    for carrier in -half..half {
+        match bellpulsar::look(setup, mask, slot, &grid, carrier)? {
+            Seen::Pilot(_) => pilots += 1,
+            Seen::Data(..) => data += 1,
+            Seen::Nothing => nothing += 1,
+        }
+    }
+    text += &format!("{pilots} pilots, {data} points, {nothing} carriers with nothing\n");
+
+    let mut back = vec![0.0; points.len()];
+    bellpulsar::empty(setup, mask, slot, &grid, &mut back)?;
+    let all = if back == points { "all" } else { "not all" };
+    Ok(text + &format!("{} points: {all} back\n", points.len() / 2))
 }
 
 /// What is taken off the arriving grid is held to what `empty` takes off the whole one.
@@ -323,6 +360,22 @@ fn run_with(name: &str, fields: &[u32]) -> Result<String, Refusal> {
             collisions("indices", bellpulsar::amc_collisions(cell_a, cell_b))
         }
         ("slot", &[mode, size, cell, mask, number]) => slot(setup(mode, size, cell)?, mask, number),
+        ("fusc", &[cell, slot, subchannel, index, first, step]) => {
+            let pilots: Vec<u32> = (0..166u32)
+                .map(|n| first.wrapping_add(n.wrapping_mul(step)))
+                .collect();
+            let address = Address {
+                slot,
+                subchannel,
+                index,
+            };
+            let setup = Setup {
+                mode: Mode::Fusc,
+                size: 2048,
+                cell,
+            };
+            fusc(setup.with_pilots(&pilots), address)
+        }
         ("capture", &[mode, size, cell, mask, slot]) => {
             capture(setup(mode, size, cell)?, mask, slot)
         }

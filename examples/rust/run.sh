@@ -1,5 +1,5 @@
 #!/bin/sh
-# Builds and runs the example: run.sh point|carrier|places|collisions|slot|capture|plan|bursts ARGUMENTS
+# Builds and runs the example: run.sh point|carrier|places|collisions|slot|fusc|capture|plan|bursts ARGUMENTS
 # The status is the example's, or 2 where it cannot be built.
 set -eu
 cd "$(dirname "$0")/../.."

@@ -80,6 +80,27 @@ burst at most, its owner:
         ...
     bellpulsar.Refusal: refused 19: burst 2 is 49,1,5,7: it overlaps burst 1, which is 20,30,0,6
 
+In FUSC, mode 7, the caller says where the pilots are: `pilots` has the used numbers of the 166 pilots of the slot's one
+symbol, rising, and data takes what is left. Used number u is carrier u - 851 below 851, and u - 850 from there on. Here
+they are every tenth:
+
+    >>> pilots = range(26, 1677, 10)
+    >>> len(pilots)
+    166
+    >>> bellpulsar.place(7, 2048, cell=0, slot=0, subchannel=31, index=46, pilots=pilots)
+    Place(symbol=0, carrier=-217)
+    >>> bellpulsar.locate(7, 2048, 0, 0, 26 - 851, pilots=pilots).kind
+    <Kind.PILOT: 'pilot'>
+    >>> points = array("f", range(bellpulsar.points_len(7, 2048)))
+    >>> grid = array("f", [0.0]) * bellpulsar.grid_len(7, 2048)
+    >>> bellpulsar.fill(7, 2048, 0, 0, (1.0, 0.0), points, grid, pilots=pilots)
+    >>> bellpulsar.look(7, 2048, 0, 0, grid, -217, pilots=pilots)
+    Seen(kind=<Kind.DATA: 'data'>, point=Point(i=3068.0, q=3069.0), slot=0, subchannel=31, index=46)
+    >>> bellpulsar.place(7, 2048, 0, 0, 31, 46, pilots=range(166, 0, -1))
+    Traceback (most recent call last):
+        ...
+    bellpulsar.Refusal: refused 20: pilot 1 is 165, not larger than pilot 0, which is 166
+
 Modes and their ranges; N is size / 64. A mode is its number, or the Mode of that name, which counts as it:
 
     mode                    size                    cell        mask   subchannels  symbols a slot
@@ -90,6 +111,7 @@ Modes and their ranges; N is size / 64. A mode is its number, or the Mode of tha
     4 AMC_2X3 AMC 2x3       256, 512, 1024, 2048    0..2351     0      3 * N        3
     5 AMC_3X2 AMC 3x2       256, 512, 1024, 2048    0..2351     0      2 * N        2
     6 AMC_1X6 AMC 1x6       256, 512, 1024, 2048    0..2351     0      6 * N        6
+    7 FUSC    FUSC          2048                    0..31       0      32           1
 
 The cell is the permutation base. Slots are 0..511. A slot has 48 points a subchannel, with the indices 0..47. Carriers
 are -size/2..size/2-1, by rising frequency, with DC at 0. AMC has four slot shapes, bins x symbols; a bin is nine
@@ -99,19 +121,24 @@ The mask says which major groups of PUSC downlink are lit. Groups 0 to 5 have th
 32..39, 40..51 and 52..59. Without a mask, or with None, all is lit: in mode 0 that is ALL_GROUPS, in every other mode
 0, which is all that these take. A slot's points are those of its lit subchannels, by rising subchannel.
 
+The pilots of FUSC are any sequence or array of integers: a list, a range, array('I'), a numpy array. It belongs to the
+slot's one symbol: a grid is emptied and looked at with the list that it was filled with. In the other modes there is no
+list, and nothing is written in its place; an empty one is the same as none.
+
 Numbers. Any integer may stand in any field. One that 32 bits do not hold, negative ones too, reaches the engine as
-2**32 - 1, which no question lets pass, so it is refused in its turn. A carrier is signed: one beyond 32 bits reaches
-the engine as -2**31 or 2**31 - 1. About a count of carriers no question is put: one beyond 32 bits means all of them,
-and a negative one is a ValueError.
+2**32 - 1, which no question lets pass, so it is refused in its turn; so are those of a list of pilots. A carrier is
+signed: one beyond 32 bits reaches the engine as -2**31 or 2**31 - 1. About a count of carriers no question is put: one
+beyond 32 bits means all of them, and a negative one is a ValueError.
 
 Collisions. `ofusc_collisions` tells where one subchannel of a cell and one of a second cell share a carrier in optional
 FUSC; `amc_collisions` where two cells put the same index of a subchannel on the same carrier of the same symbol in AMC.
-The two cells may be different or the same. There is no such call for PUSC.
+The two cells may be different or the same. There is no such call for PUSC and for FUSC.
 
 Refusals. A request that cannot be met raises Refusal, with the number of the first question that is answered no, as
 QUESTIONS has them; its text says what was asked, the value given and what would be accepted. Nothing is written then.
 
-Buffers. Points, grids, plans and destinations are lent: the engine works on the caller's memory and nothing is copied.
+Buffers. Points, grids, plans and destinations are lent: the engine works on the caller's memory and nothing is copied
+(lists of pilots and of bursts are).
 Points and grids are any contiguous buffer of 32-bit floats (array('f'), a memoryview of one, a ctypes array, a numpy
 array of float32, or of complex64, which counts as two floats an element), in any number of dimensions. Their lengths
 go to the engine as they are. What the engine cannot see is checked here, before any question is put, and is an error
@@ -128,7 +155,8 @@ from typing import TYPE_CHECKING, Any, Dict, Iterable, List, NamedTuple, Optiona
 
 from . import refusals
 from .buffers import BYTE, FLOAT, Buffer, Lent, Pilot, apart, lent, pilot_point
-from .library import Hits, Int, Mask, Owners, Pair, Places, Zones, counted, engine, int32, numbers, signed, uint
+from .library import Hits, Int, Listed, Mask, Owners, Pair, Pilots, Places, Zones
+from .library import counted, engine, int32, listed, numbers, signed, uint
 from .refusals import QUESTIONS
 from .version import __version__ as __version__
 
@@ -141,6 +169,7 @@ __all__ = [
     "AMC_2X3",
     "AMC_3X2",
     "AMC_1X6",
+    "FUSC",
     "ALL_GROUPS",
     "QUESTIONS",
     "Refusal",
@@ -194,6 +223,7 @@ class Mode(enum.IntEnum):
     AMC_2X3 = 4
     AMC_3X2 = 5
     AMC_1X6 = 6
+    FUSC = 7
     AMC = AMC_6X1  # the header's name for it
 
     __str__ = int.__repr__  # before Python 3.11 it would be the name
@@ -204,7 +234,7 @@ class Mode(enum.IntEnum):
         return self.name.lower().replace("_", "-")
 
 
-PUSC_DL, PUSC_UL, OFUSC, AMC, AMC_2X3, AMC_3X2, AMC_1X6 = map(int, Mode)
+PUSC_DL, PUSC_UL, OFUSC, AMC, AMC_2X3, AMC_3X2, AMC_1X6, FUSC = map(int, Mode)
 ALL_GROUPS = 0b111111  # the mask of mode 0 that lights every major group
 
 
@@ -223,8 +253,8 @@ class Refusal(Exception):
 
 
 def _refusal(number: int, **asked: Any) -> Refusal:
-    """Of a request's fields as they were given; a length is a pair, that given and the right one, and what is lit is a
-    row of subchannels."""
+    """Of a request's fields as they were given; a length is a pair, that given and the right one, pilots and what is lit
+    are rows of numbers."""
     asked = {name: value if isinstance(value, tuple) else operator.index(value) for name, value in asked.items()}
     return Refusal(number, refusals.field_words(number, asked))
 
@@ -300,6 +330,7 @@ class Plan(NamedTuple):
     """A zone plan: the FFT size and its one to eight zones. Unused places, which are all zero, are left out.
 
     At size 2048 the first zone is mode 0, with any of its cells; after AMC (modes 3 to 6) comes only AMC, of any shape.
+    So FUSC, mode 7, which has size 2048 alone, is never first and never after AMC.
     """
 
     size: int
@@ -325,27 +356,35 @@ class Owner(NamedTuple):
 # --- the map ----------------------------------------------------------------------------------
 
 
-def place(mode: Int, size: Int, cell: Int, slot: Int, subchannel: Int, index: Int) -> Place:
-    """Where point `index` of a subchannel lies, as Place(symbol, carrier). Refusals 1, 2, 3, 4, 5, 6."""
-    symbol, carrier = uint(), int32()
-    refused = engine.bp_place(*numbers(mode, size, cell, slot, subchannel, index), symbol, carrier)
+def place(mode: Int, size: Int, cell: Int, slot: Int, subchannel: Int, index: Int, *, pilots: Pilots = None) -> Place:
+    """Where point `index` of a subchannel lies, as Place(symbol, carrier). Refusals 1, 2, 3, 4, 5, 6, 20.
+
+    pilots: in FUSC the used numbers of its 166 pilots, rising; in the other modes it is left out.
+    """
+    symbol, carrier, row = uint(), int32(), listed(pilots)
+    fields = numbers(mode, size, cell, slot, subchannel, index)
+    refused = engine.bp_place(*fields, row.memory, row.length, symbol, carrier)
     if refused:
-        raise _refusal(refused, mode=mode, size=size, cell=cell, slot=slot, subchannel=subchannel, index=index)
+        of = {"mode": mode, "size": size, "cell": cell, "slot": slot, "subchannel": subchannel, "index": index}
+        raise _refusal(refused, **of, pilots=row.given)
     return Place(symbol.value, carrier.value)
 
 
 _KINDS = (Kind.GUARD, Kind.DC, Kind.PILOT, Kind.DATA)
 
 
-def locate(mode: Int, size: Int, cell: Int, symbol: Int, carrier: Int) -> Located:
-    """What a carrier is in a symbol of the zone, as Located(kind, slot, subchannel, index). Refusals 1, 2, 3, 4, 7.
+def locate(mode: Int, size: Int, cell: Int, symbol: Int, carrier: Int, *, pilots: Pilots = None) -> Located:
+    """What a carrier is in a symbol of the zone, as Located(kind, slot, subchannel, index). Refusals 1, 2, 3, 4, 7, 20.
 
     kind is Kind.GUARD, Kind.DC, Kind.PILOT or Kind.DATA; the other three are None unless it is Kind.DATA.
+    pilots: as in `place`, of this symbol.
     """
-    kind, slot, subchannel, index = uint(), uint(), uint(), uint()
-    refused = engine.bp_locate(*numbers(mode, size, cell, symbol), signed(carrier), kind, slot, subchannel, index)
+    kind, slot, subchannel, index, row = uint(), uint(), uint(), uint(), listed(pilots)
+    fields, last = numbers(mode, size, cell, symbol), signed(carrier)
+    refused = engine.bp_locate(*fields, last, row.memory, row.length, kind, slot, subchannel, index)
     if refused:
-        raise _refusal(refused, mode=mode, size=size, cell=cell, symbol=symbol, carrier=carrier)
+        of = {"mode": mode, "size": size, "cell": cell, "symbol": symbol, "carrier": carrier}
+        raise _refusal(refused, **of, pilots=row.given)
     what = _KINDS[kind.value]
     if what is Kind.DATA:
         return Located(what, slot.value, subchannel.value, index.value)
@@ -387,105 +426,129 @@ _NO_GRID = 9  # what a ground of no floats comes to where all its other fields a
 
 def _lit(mode: Int, size: Int, mask: Int) -> Tuple[int, ...]:
     """The subchannels that are lit: of these, and no others, a lay of no floats comes to the question about them."""
-    fields, none = numbers(mode, size, 0, mask, 0), (None, 0, None, 0)
+    fields, none = numbers(mode, size, 0, mask, 0), (None, 0) * 3
     every = range(points_len(mode, size) // _SUBCHANNEL_LEN)
     return tuple(subchannel for subchannel in every if engine.bp_lay(*fields, subchannel, *none) != _UNLIT)
 
 
-def _asked_of_slot(fields: List[int]) -> int:
-    """The first question about mode, size, cell, mask and slot that is answered no, or 0. The engine is asked for a
-    ground of no floats, which it refuses, by 9 at the latest: so nothing is written."""
-    refused = int(engine.bp_ground(*fields, Pair(), None, 0))
+def _asked_of_slot(fields: List[int], row: Listed) -> int:
+    """The first question about mode, size, cell, mask, slot and pilots that is answered no, or 0. The engine is asked
+    for a ground of no floats, which it refuses, by 9 at the latest: so nothing is written."""
+    refused = int(engine.bp_ground(*fields, row.memory, row.length, Pair(), None, 0))
     return 0 if refused == _NO_GRID else refused
 
 
-def places(mode: Int, size: Int, cell: Int, slot: Int, subchannel: Int) -> Row:
-    """Where the 48 points of a subchannel stand in a slot's grid, by index, as array('I'). Refusals 1, 2, 3, 4, 5.
+def places(mode: Int, size: Int, cell: Int, slot: Int, subchannel: Int, *, pilots: Pilots = None) -> Row:
+    """Where the 48 points of a subchannel stand in a slot's grid, by index, as array('I'). Refusals 1, 2, 3, 4, 5, 20.
 
     A place counts points: it is offset * size + size // 2 + carrier, for the symbol's offset in the slot. So the floats
     of its point are at 2 * place and the one after; in an array of complex numbers the point is at place.
     The row serves every slot of its cell whose pilots are on the same carriers: all slots in modes 0, 1, 4 and 6, those
-    that agree mod 3 in modes 2, 3 and 5.
+    that agree mod 3 in modes 2, 3 and 5, those with the same list of pilots in mode 7.
+    pilots: as in `place`.
     """
-    row = array("I", bytes(ctypes.sizeof(Places)))
-    refused = engine.bp_places(*numbers(mode, size, cell, slot, subchannel), Places.from_buffer(row))
+    answer, row = array("I", bytes(ctypes.sizeof(Places))), listed(pilots)
+    fields = numbers(mode, size, cell, slot, subchannel)
+    refused = engine.bp_places(*fields, row.memory, row.length, Places.from_buffer(answer))
     if refused:
-        raise _refusal(refused, mode=mode, size=size, cell=cell, slot=slot, subchannel=subchannel)
-    return row
+        of = {"mode": mode, "size": size, "cell": cell, "slot": slot, "subchannel": subchannel}
+        raise _refusal(refused, **of, pilots=row.given)
+    return answer
 
 
-def slot_places(mode: Int, size: Int, cell: Int, slot: Int, *, mask: Mask = None) -> Row:
+def slot_places(mode: Int, size: Int, cell: Int, slot: Int, *, mask: Mask = None, pilots: Pilots = None) -> Row:
     """`places` of every lit subchannel, one after the other, as a slot's points are: point n of `empty` is the one that
-    stands at place n of these. Refusals 1, 2, 3, 17, 4."""
-    mask = _mask(mode, mask)
-    refused = _asked_of_slot(numbers(mode, size, cell, mask, slot))
+    stands at place n of these. Refusals 1, 2, 3, 17, 4, 20."""
+    mask, row = _mask(mode, mask), listed(pilots)
+    refused = _asked_of_slot(numbers(mode, size, cell, mask, slot), row)
     if refused:
-        raise _refusal(refused, mode=mode, size=size, cell=cell, mask=mask, slot=slot)
+        raise _refusal(refused, mode=mode, size=size, cell=cell, mask=mask, slot=slot, pilots=row.given)
     rows = array("I")
     for subchannel in _lit(mode, size, mask):
-        rows.extend(places(mode, size, cell, slot, subchannel))
+        rows.extend(places(mode, size, cell, slot, subchannel, pilots=row.given))
     return rows
 
 
-def ground(mode: Int, size: Int, cell: Int, slot: Int, pilot: Pilot, grid: Buffer, *, mask: Mask = None) -> None:
-    """Lays the ground of a slot's grid, the first move of filling it. Refusals 1, 2, 3, 17, 4, 9.
+def ground(
+    mode: Int,
+    size: Int,
+    cell: Int,
+    slot: Int,
+    pilot: Pilot,
+    grid: Buffer,
+    *,
+    mask: Mask = None,
+    pilots: Pilots = None,
+) -> None:
+    """Lays the ground of a slot's grid, the first move of filling it. Refusals 1, 2, 3, 17, 4, 20, 9.
 
     The whole grid is written: the pilot point on lit pilots, 0.0 on every other carrier, data carriers too.
 
     pilot: a complex number or two numbers (rounded to 32-bit floats), or a buffer of two floats, whose bits are copied
     as they are.
+    pilots: as in `place`, where the pilots of FUSC are.
     grid: `grid_len(mode, size)` floats, symbol after symbol, each by rising carrier: the point of `carrier` in the
     symbol with this offset in the slot is at 2 * (offset * size + size // 2 + carrier).
     """
-    mask = _mask(mode, mask)
+    mask, row = _mask(mode, mask), listed(pilots)
     fields, point = numbers(mode, size, cell, mask, slot), pilot_point(pilot)
     with lent(grid, "grid", FLOAT, writable=True) as target:
-        refused = engine.bp_ground(*fields, point, target.address, target.length)
+        refused = engine.bp_ground(*fields, row.memory, row.length, point, target.address, target.length)
     if refused:
-        lengths = (target.length, grid_len(mode, size))
-        raise _refusal(refused, mode=mode, size=size, cell=cell, mask=mask, slot=slot, grid=lengths)
+        of = {"mode": mode, "size": size, "cell": cell, "mask": mask, "slot": slot}
+        raise _refusal(refused, **of, pilots=row.given, grid=(target.length, grid_len(mode, size)))
 
 
 def lay(
-    mode: Int, size: Int, cell: Int, slot: Int, subchannel: Int, points: Buffer, grid: Buffer, *, mask: Mask = None
+    mode: Int,
+    size: Int,
+    cell: Int,
+    slot: Int,
+    subchannel: Int,
+    points: Buffer,
+    grid: Buffer,
+    *,
+    mask: Mask = None,
+    pilots: Pilots = None,
 ) -> None:
     """Lays the points of one lit subchannel on a slot's grid, the second move of filling it.
 
     No other float of the grid is written. Subchannels may be laid in any order, and again: the last time counts. Bits
-    are copied as they are, those of a NaN too. Refusals 1, 2, 3, 17, 4, 5 (out of range or unlit), 8, 9.
+    are copied as they are, those of a NaN too. Refusals 1, 2, 3, 17, 4, 5 (out of range or unlit), 20, 8, 9.
 
     points: the subchannel's 48 points by index, in-phase first: 96 floats. Where all is lit, they are those of a slot's
     points from 96 * subchannel on.
     grid: as in `ground`. A ground serves every slot whose pilots are on the same carriers: all slots in modes 0, 1, 4
-    and 6, those that agree mod 3 in modes 2, 3 and 5. Where all is lit it serves every cell too; else, in mode 0, only
-    the same cell and mask.
+    and 6, those that agree mod 3 in modes 2, 3 and 5, those with the same list of pilots in mode 7. Where all is lit it
+    serves every cell too; else, in mode 0, only the same cell and mask.
+    pilots: as in `ground`.
     """
-    mask = _mask(mode, mask)
-    fields = numbers(mode, size, cell, mask, slot, subchannel)
+    mask, row = _mask(mode, mask), listed(pilots)
+    fields = (*numbers(mode, size, cell, mask, slot, subchannel), row.memory, row.length)
     with lent(points, "points", FLOAT) as source, lent(grid, "grid", FLOAT, writable=True) as target:
         apart(source, target)
         refused = engine.bp_lay(*fields, source.address, source.length, target.address, target.length)
     if refused:
         of = {"mode": mode, "size": size, "cell": cell, "mask": mask, "slot": slot, "subchannel": subchannel}
         lengths = {"points": (source.length, _SUBCHANNEL_LEN), "grid": (target.length, grid_len(mode, size))}
-        raise _refusal(refused, **of, **lengths, lit=_lit(mode, size, mask))
+        raise _refusal(refused, **of, **lengths, pilots=row.given, lit=_lit(mode, size, mask))
 
 
 def _slot_refusal(
-    refused: int, mode: Int, size: Int, cell: Int, mask: Int, slot: Int, points: Lent, grid: Lent
+    refused: int, mode: Int, size: Int, cell: Int, mask: Int, slot: Int, row: Listed, points: Lent, grid: Lent
 ) -> Refusal:
     """Of fill, empty and empty_first, which have all points of a slot."""
     lengths = {
         "points": (points.length, lit_points_len(mode, size, mask)),
         "grid": (grid.length, grid_len(mode, size)),
     }
-    return _refusal(refused, mode=mode, size=size, cell=cell, mask=mask, slot=slot, **lengths)
+    return _refusal(refused, mode=mode, size=size, cell=cell, mask=mask, slot=slot, pilots=row.given, **lengths)
 
 
-def _fill_refusal(fields: List[int], points: Lent, grid: Lent) -> int:
+def _fill_refusal(fields: List[int], row: Listed, points: Lent, grid: Lent) -> int:
     """The first of fill's questions that is answered no, or 0."""
     mode, size, _, mask, _ = fields
-    refused = _asked_of_slot(fields)
+    refused = _asked_of_slot(fields, row)
     if refused:
         return refused
     if points.length != engine.bp_lit_points_len(mode, size, mask):
@@ -494,83 +557,123 @@ def _fill_refusal(fields: List[int], points: Lent, grid: Lent) -> int:
 
 
 def fill(
-    mode: Int, size: Int, cell: Int, slot: Int, pilot: Pilot, points: Buffer, grid: Buffer, *, mask: Mask = None
+    mode: Int,
+    size: Int,
+    cell: Int,
+    slot: Int,
+    pilot: Pilot,
+    points: Buffer,
+    grid: Buffer,
+    *,
+    mask: Mask = None,
+    pilots: Pilots = None,
 ) -> None:
-    """`ground`, and then `lay` for each lit subchannel. Refusals 1, 2, 3, 17, 4, 8, 9.
+    """`ground`, and then `lay` for each lit subchannel. Refusals 1, 2, 3, 17, 4, 20, 8, 9.
 
     A convenience of this package: the engine has the two moves only. Every question is put before the first of them.
 
     points: `lit_points_len(mode, size, mask)` floats, by lit subchannel, rising, and index, in-phase first.
-    pilot, grid: as in `ground`.
+    pilot, pilots, grid: as in `ground`.
     """
-    mask = _mask(mode, mask)
+    mask, row = _mask(mode, mask), listed(pilots)
     fields, point = numbers(mode, size, cell, mask, slot), pilot_point(pilot)
     with lent(points, "points", FLOAT) as source, lent(grid, "grid", FLOAT, writable=True) as target:
         apart(source, target)
-        refused = _fill_refusal(fields, source, target)
+        refused = _fill_refusal(fields, row, source, target)
         if refused:
-            raise _slot_refusal(refused, mode, size, cell, mask, slot, source, target)
-        engine.bp_ground(*fields, point, target.address, target.length)
+            raise _slot_refusal(refused, mode, size, cell, mask, slot, row, source, target)
+        into = (target.address, target.length)
+        engine.bp_ground(*fields, row.memory, row.length, point, *into)
         subchannel, own = 0, source.address
         while own < source.end:
-            laid = engine.bp_lay(*fields, subchannel, own, _SUBCHANNEL_LEN, target.address, target.length)
+            laid = engine.bp_lay(*fields, subchannel, row.memory, row.length, own, _SUBCHANNEL_LEN, *into)
             own += 0 if laid == _UNLIT else FLOAT.bytes * _SUBCHANNEL_LEN
             subchannel += 1
 
 
-def empty(mode: Int, size: Int, cell: Int, slot: Int, grid: Buffer, points: Buffer, *, mask: Mask = None) -> None:
-    """Takes the points of a slot's lit subchannels off its grid, into `points`. Refusals 1, 2, 3, 17, 4, 8, 9.
+def empty(
+    mode: Int,
+    size: Int,
+    cell: Int,
+    slot: Int,
+    grid: Buffer,
+    points: Buffer,
+    *,
+    mask: Mask = None,
+    pilots: Pilots = None,
+) -> None:
+    """Takes the points of a slot's lit subchannels off its grid, into `points`. Refusals 1, 2, 3, 17, 4, 20, 8, 9.
 
-    All points are written; only lit data carriers are read. Both buffers are as in `fill`.
+    All points are written; only lit data carriers are read. Both buffers and the pilots are as in `fill`.
     """
-    mask = _mask(mode, mask)
-    fields = numbers(mode, size, cell, mask, slot)
+    mask, row = _mask(mode, mask), listed(pilots)
+    fields = (*numbers(mode, size, cell, mask, slot), row.memory, row.length)
     with lent(grid, "grid", FLOAT) as source, lent(points, "points", FLOAT, writable=True) as target:
         apart(target, source)
         refused = engine.bp_empty(*fields, source.address, source.length, target.address, target.length)
         if refused:
-            raise _slot_refusal(refused, mode, size, cell, mask, slot, target, source)
+            raise _slot_refusal(refused, mode, size, cell, mask, slot, row, target, source)
 
 
 def empty_first(
-    mode: Int, size: Int, cell: Int, slot: Int, carriers: Int, grid: Buffer, points: Buffer, *, mask: Mask = None
+    mode: Int,
+    size: Int,
+    cell: Int,
+    slot: Int,
+    carriers: Int,
+    grid: Buffer,
+    points: Buffer,
+    *,
+    mask: Mask = None,
+    pilots: Pilots = None,
 ) -> None:
-    """Takes the points off the first `carriers` carriers of a slot's grid alone. Refusals 1, 2, 3, 17, 4, 8, 9.
+    """Takes the points off the first `carriers` carriers of a slot's grid alone. Refusals 1, 2, 3, 17, 4, 20, 8, 9.
 
     They count from the grid's start, symbol after symbol, each by rising carrier, guards, DC and pilots too; a count
     past the grid's end, however large, means all of them. So a grid can be emptied while a capture still delivers it:
     call again with a larger count as more arrives.
 
-    The points on these carriers are written, each where `empty` puts it, and no other float. Both buffers are as in
-    `empty`, of the whole slot. A negative count is a ValueError.
+    The points on these carriers are written, each where `empty` puts it, and no other float. Both buffers and the
+    pilots are as in `empty`, of the whole slot. A negative count is a ValueError.
     """
-    mask = _mask(mode, mask)
-    fields, arrived = numbers(mode, size, cell, mask, slot), counted(carriers)
+    mask, row = _mask(mode, mask), listed(pilots)
+    fields = (*numbers(mode, size, cell, mask, slot), counted(carriers), row.memory, row.length)
     with lent(grid, "grid", FLOAT) as source, lent(points, "points", FLOAT, writable=True) as target:
         apart(target, source)
-        refused = engine.bp_empty_first(*fields, arrived, source.address, source.length, target.address, target.length)
+        refused = engine.bp_empty_first(*fields, source.address, source.length, target.address, target.length)
         if refused:
-            raise _slot_refusal(refused, mode, size, cell, mask, slot, target, source)
+            raise _slot_refusal(refused, mode, size, cell, mask, slot, row, target, source)
 
 
 _SEEN = {0: Kind.NOTHING, 2: Kind.PILOT, 3: Kind.DATA}
 
 
-def look(mode: Int, size: Int, cell: Int, symbol: Int, grid: Buffer, carrier: Int, *, mask: Mask = None) -> Seen:
+def look(
+    mode: Int,
+    size: Int,
+    cell: Int,
+    symbol: Int,
+    grid: Buffer,
+    carrier: Int,
+    *,
+    mask: Mask = None,
+    pilots: Pilots = None,
+) -> Seen:
     """What the grid of the symbol's slot holds on a carrier, as Seen(kind, point, slot, subchannel, index).
 
     kind is Kind.NOTHING (guard, DC, or a pilot or data carrier that is unlit, whatever the grid holds there),
     Kind.PILOT with its point, or Kind.DATA with all of it. The point is a pair of Python floats, which hold every
-    32-bit float; only a signalling NaN comes out as a quiet one. Refusals 1, 2, 3, 17, 4, 7, 9.
+    32-bit float; only a signalling NaN comes out as a quiet one. The pilots are as in `locate`.
+    Refusals 1, 2, 3, 17, 4, 7, 20, 9.
     """
-    mask = _mask(mode, mask)
-    fields, last = numbers(mode, size, cell, mask, symbol), signed(carrier)
+    mask, row = _mask(mode, mask), listed(pilots)
+    fields, last = (*numbers(mode, size, cell, mask, symbol), row.memory, row.length), signed(carrier)
     kind, point, slot, subchannel, index = uint(), Pair(), uint(), uint(), uint()
     with lent(grid, "grid", FLOAT) as memory:
         refused = engine.bp_look(*fields, memory.address, memory.length, last, kind, point, slot, subchannel, index)
     if refused:
         of = {"mode": mode, "size": size, "cell": cell, "mask": mask, "symbol": symbol, "carrier": carrier}
-        raise _refusal(refused, **of, grid=(memory.length, grid_len(mode, size)))
+        raise _refusal(refused, **of, pilots=row.given, grid=(memory.length, grid_len(mode, size)))
     what = _SEEN[kind.value]
     if what is Kind.NOTHING:
         return Seen(what)
@@ -736,7 +839,7 @@ def _position(owner: int) -> Optional[int]:
 def bursts_check(mode: Int, size: Int, cell: Int, slots: Int, bursts: Fours, *, mask: Mask = None) -> None:
     """Is a list of bursts fit for its zone? Refusals 1, 2, 3, 13, 17, 18 (the list's length), for each burst 18, 19.
 
-    slots: how many the zone has. mode: one that a plan's zone may have, 0 or 2 to 6.
+    slots: how many the zone has. mode: one that a plan's zone may have, 0 or 2 to 7.
     bursts: Burst(subchannel, subchannels, slot, slots), or any four numbers, for each; a list of none is accepted.
     Subchannels that are unlit count like those that are lit.
 

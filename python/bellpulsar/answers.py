@@ -7,7 +7,7 @@ import bellpulsar
 from bellpulsar import Kind, picture
 from bellpulsar.files import start_of
 from bellpulsar.refusals import POINTS, carriers_of
-from bellpulsar.rows import NOT_YET, arrived, check_picked, is_unlit, lit_subchannels, runs, subchannels_of, symbol_row
+from bellpulsar.rows import NOT_YET, arrived, check_symbol, is_unlit, lit_subchannels, runs, subchannels_of, symbol_row
 
 PLAN_LIMIT = 128  # bytes: no plan is that long, so what follows does not matter
 
@@ -37,14 +37,13 @@ OTHER = "%s\n", '{"kind": "%s"}\n'
 
 
 def place(options):
-    answer = bellpulsar.place(
-        options.mode, options.size, options.cell, options.slot, options.subchannel, options.index
-    )
-    return PLACE[options.json] % answer
+    slot, point = (options.mode, options.size, options.cell, options.slot), (options.subchannel, options.index)
+    return PLACE[options.json] % bellpulsar.place(*slot, *point, pilots=options.pilots)
 
 
 def locate(options):
-    answer = bellpulsar.locate(options.mode, options.size, options.cell, options.symbol, options.carrier)
+    symbol = (options.mode, options.size, options.cell, options.symbol)
+    answer = bellpulsar.locate(*symbol, options.carrier, pilots=options.pilots)
     if answer.kind is Kind.DATA:
         return DATA[options.json] % answer[1:]
     return OTHER[options.json] % answer.kind.value
@@ -59,18 +58,18 @@ CSV_POINT = ",".join("%d" for _ in POINT)
 
 
 def table(options):
-    slot = (options.mode, options.size, options.cell, options.slot)
-    bellpulsar.place(*slot, 0, 0)  # refusals 1, 2, 3, 4
+    slot, pilots = (options.mode, options.size, options.cell, options.slot), options.pilots
+    bellpulsar.place(*slot, 0, 0, pilots=pilots)  # refusals 1, 2, 3, 4, 20
     form = CSV_POINT if options.csv else JSON_POINT if options.json else TEXT_POINT
     every = itertools.product(range(subchannels_of(options.mode, options.size)), range(POINTS))
-    points = (form % (*point, *bellpulsar.place(*slot, *point)) for point in every)
+    points = (form % (*point, *bellpulsar.place(*slot, *point, pilots=pilots)) for point in every)
     return lines(*([",".join(POINT)] if options.csv else []), *points)
 
 
 def first(options):
     slot, mask = (options.mode, options.size, options.cell, options.slot), options.mask
-    there = [place != NOT_YET for place in arrived(*slot, options.carriers, mask)]
-    lit = lit_subchannels(*slot, mask)
+    there = [place != NOT_YET for place in arrived(*slot, options.carriers, mask, options.pilots)]
+    lit = lit_subchannels(options.mode, options.size, mask)
     counts = [sum(there[POINTS * rank : POINTS * (rank + 1)]) for rank in range(len(lit))]
     if options.json:
         each = [{"subchannel": own, "points": count, "of": POINTS} for own, count in zip(lit, counts)]
@@ -204,9 +203,9 @@ def legend(picked, has_unlit):
 
 
 def show(options):
-    setup, mask = (options.mode, options.size, options.cell), options.mask
-    symbol = symbol_row(*setup, options.symbol, mask)
-    check_picked(*setup, 0, options.subchannel, mask)
+    at, lent = (options.mode, options.size, options.cell, options.symbol), (options.mask, options.pilots)
+    check_symbol(*at, options.subchannel, *lent)
+    symbol = symbol_row(*at, *lent)
     signs = "".join(sign(carrier, options.subchannel) for carrier in symbol)
     carriers = carriers_of(options.size)
     rows = ["%7d  %s" % (carriers[at], signs[at : at + ROW]) for at in range(0, options.size, ROW)]
@@ -218,7 +217,7 @@ def show(options):
 
 def slot_picture(options):
     slot = (options.mode, options.size, options.cell, options.slot)
-    return picture.slot(*slot, options.subchannel, options.mask, options.carriers)
+    return picture.slot(*slot, options.subchannel, options.mask, options.carriers, options.pilots)
 
 
 def zone_picture(options):
@@ -226,4 +225,5 @@ def zone_picture(options):
 
 
 def subchannel_picture(options):
-    return picture.subchannel(options.mode, options.size, options.cells, options.slot, options.subchannel)
+    slot = (options.mode, options.size, options.cells, options.slot)
+    return picture.subchannel(*slot, options.subchannel, options.pilots)

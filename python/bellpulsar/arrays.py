@@ -23,12 +23,23 @@ points that `empty` gives, and what is assigned there is laid, at the speed of m
     True
 
 It serves every slot of its cell whose pilots are on the same carriers: all slots in modes 0, 1, 4 and 6, those that
-agree mod 3 in modes 2, 3 and 5. Here it takes the lit points of all twelve slots of a zone at once:
+agree mod 3 in modes 2, 3 and 5, those with the same list of pilots in mode 7. Here it takes the lit points of all
+twelve slots of a zone at once:
 
     >>> zone = numpy.zeros((12, 2, 2048), numpy.complex64)
     >>> places = arrays.slot_places(Mode.PUSC_DL, 2048, 5, 0, mask=0b000011)
     >>> zone.reshape(12, -1)[:, places].shape
     (12, 20, 48)
+
+In FUSC, mode 7, the pilots are a list of the caller's, which every function takes as `bellpulsar.place` does:
+
+    >>> pilots = numpy.arange(26, 1677, 10)
+    >>> points = numpy.ones((32, 48), numpy.complex64)
+    >>> grid = arrays.fill(Mode.FUSC, 2048, 5, 0, 2 + 0j, points, pilots=pilots)
+    >>> numpy.array_equal(numpy.flatnonzero(grid == 2) - 1024, numpy.where(pilots < 851, pilots - 851, pilots - 850))
+    True
+    >>> numpy.array_equal(arrays.empty(Mode.FUSC, 2048, 5, 0, grid, pilots=pilots), points)
+    True
 
 What is taken. Points and grids are arrays of complex64, or of a type that it holds without rounding (float32, or
 integers of 16 bits), in any memory order; they are copied only where they are not contiguous complex64 already. Nothing
@@ -43,7 +54,7 @@ from typing import Any, Optional
 import bellpulsar
 
 from .buffers import Pilot
-from .library import Int, Mask
+from .library import Int, Mask, Pilots
 from .refusals import POINTS
 
 try:
@@ -74,27 +85,41 @@ def _lit(mode: Int, size: Int, mask: Mask) -> int:
     return bellpulsar.lit_points_len(mode, size, mask) // (2 * POINTS)
 
 
-def slot_places(mode: Int, size: Int, cell: Int, slot: Int, *, mask: Mask = None) -> NDArray[numpy.intp]:
+def slot_places(
+    mode: Int, size: Int, cell: Int, slot: Int, *, mask: Mask = None, pilots: Pilots = None
+) -> NDArray[numpy.intp]:
     """Where the points of a slot stand among all carriers of its grid in a row, as an array of (lit subchannels, 48).
-    Refusals 1, 2, 3, 17, 4."""
-    places = bellpulsar.slot_places(mode, size, cell, slot, mask=mask)
+    Refusals 1, 2, 3, 17, 4, 20."""
+    places = bellpulsar.slot_places(mode, size, cell, slot, mask=mask, pilots=pilots)
     return numpy.array(places, numpy.intp).reshape(-1, POINTS)
 
 
-def fill(mode: Int, size: Int, cell: Int, slot: Int, pilot: Pilot, points: Array, *, mask: Mask = None) -> Complex:
+def fill(
+    mode: Int,
+    size: Int,
+    cell: Int,
+    slot: Int,
+    pilot: Pilot,
+    points: Array,
+    *,
+    mask: Mask = None,
+    pilots: Pilots = None,
+) -> Complex:
     """A new grid of (symbols, size): the points on lit data carriers, the pilot on lit pilots, 0 on all else.
-    Refusals 1, 2, 3, 17, 4, 8."""
+    Refusals 1, 2, 3, 17, 4, 20, 8."""
     source = _taken(points, "points", POINTS)
     grid = numpy.empty(bellpulsar.grid_len(mode, size) // 2, numpy.complex64)
-    bellpulsar.fill(mode, size, cell, slot, pilot, source, grid, mask=mask)
+    bellpulsar.fill(mode, size, cell, slot, pilot, source, grid, mask=mask, pilots=pilots)
     return grid.reshape(-1, operator.index(size))
 
 
-def empty(mode: Int, size: Int, cell: Int, slot: Int, grid: Array, *, mask: Mask = None) -> Complex:
-    """The points that stand on a grid, as a new array of (lit subchannels, 48). Refusals 1, 2, 3, 17, 4, 9."""
+def empty(
+    mode: Int, size: Int, cell: Int, slot: Int, grid: Array, *, mask: Mask = None, pilots: Pilots = None
+) -> Complex:
+    """The points that stand on a grid, as a new array of (lit subchannels, 48). Refusals 1, 2, 3, 17, 4, 20, 9."""
     source = _taken(grid, "grid", operator.index(size))
     points = numpy.empty((_lit(mode, size, mask), POINTS), numpy.complex64)
-    bellpulsar.empty(mode, size, cell, slot, source, points, mask=mask)
+    bellpulsar.empty(mode, size, cell, slot, source, points, mask=mask, pilots=pilots)
     return points
 
 
@@ -108,16 +133,17 @@ def empty_first(
     points: Optional[Complex] = None,
     *,
     mask: Mask = None,
+    pilots: Pilots = None,
 ) -> Complex:
     """The points that stand on the first `carriers` carriers of a grid, as `bellpulsar.empty_first` counts them.
 
     points: what the last call gave, to be written to and given again as more of the grid arrives, contiguous and of
     complex64. Without it they are new, (lit subchannels, 48), with nan for every point that has not arrived.
-    Refusals 1, 2, 3, 17, 4, 8, 9.
+    Refusals 1, 2, 3, 17, 4, 20, 8, 9.
     """
     source = _taken(grid, "grid", operator.index(size))
     if points is None:
         nothing = complex(numpy.nan, numpy.nan)
         points = numpy.full((_lit(mode, size, mask), POINTS), nothing, numpy.complex64)
-    bellpulsar.empty_first(mode, size, cell, slot, carriers, source, points, mask=mask)
+    bellpulsar.empty_first(mode, size, cell, slot, carriers, source, points, mask=mask, pilots=pilots)
     return points

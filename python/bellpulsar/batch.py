@@ -5,6 +5,7 @@ from types import SimpleNamespace
 
 from bellpulsar import answers
 from bellpulsar.files import put, reason_of, standard_input
+from bellpulsar.refusals import FUSC
 from bellpulsar.words import MODES, SHIELD, NotUnderstood
 
 CHUNK = 2**16  # bytes that are read at once, if so many have arrived
@@ -35,7 +36,7 @@ class Form:
     def __init__(self, name, is_json):
         self.fields = FIELDS[name]
         self.values = [MODE_WORDS if field == "mode" else NUMBER_WORDS for field in self.fields]
-        self.options = SimpleNamespace(answer=ANSWERS[name], json=is_json)
+        self.options = SimpleNamespace(answer=ANSWERS[name], json=is_json, mode=None)
 
     def understand(self, words):
         """The options; or None where the parser is to say what they are."""
@@ -45,15 +46,16 @@ class Form:
             values = [values[word] for values, word in zip(self.values, words)]
         except KeyError:
             return None
-        vars(self.options).update(zip(self.fields, values))
+        vars(self.options).update(zip(self.fields, values), pilots=None)
         return self.options
 
 
 class Batch:
-    """`parse` gives the options of any request, or raises NotUnderstood; `answer_to` a status and the answer."""
+    """`parse` gives the options of any request, or raises NotUnderstood; `answer_to` a status and the answer. `pilots`
+    are those of requests in FUSC that have none of their own."""
 
-    def __init__(self, is_json, parse, answer_to):
-        self.is_json, self.parse, self.answer_to = is_json, parse, answer_to
+    def __init__(self, is_json, pilots, parse, answer_to):
+        self.is_json, self.pilots, self.parse, self.answer_to = is_json, pilots, parse, answer_to
         self.forms = {name: Form(name, is_json) for name in FIELDS}
         self.requests, self.faults = 0, []
 
@@ -62,7 +64,10 @@ class Batch:
         if name not in self.forms:
             name, rest = " ".join(words[:2]), words[2:]
         form = self.forms.get(name)
-        return form and form.understand(rest) or self.parse(words)
+        options = form and form.understand(rest) or self.parse(words)
+        if options.mode == FUSC and options.pilots is None:
+            options.pilots = self.pilots
+        return options
 
     def answer(self, line, at):
         """The answer's line; none to a line that has no request."""
@@ -96,8 +101,8 @@ def text_of(data):
     return data.decode("utf-8", "replace").replace(SHIELD, "\ufffd")
 
 
-def answer_all(is_json, parse, answer_to):
-    batch, first = Batch(is_json, parse, answer_to), 1
+def answer_all(is_json, pilots, parse, answer_to):
+    batch, first = Batch(is_json, pilots, parse, answer_to), 1
     for lines in arriving(standard_input()):
         put("".join([batch.answer(line, at) for at, line in enumerate(lines, first)]))
         first += len(lines)

@@ -29,6 +29,7 @@ from bellpulsar.words import (
     number,
     path,
     pilot,
+    pilots,
     some,
     zone,
 )
@@ -45,6 +46,7 @@ modes and their ranges (N is SIZE / 64):
   4 amc-2x3  AMC 2x3          256 512 1024 2048     0..2351   0..3*N-1    3
   5 amc-3x2  AMC 3x2          256 512 1024 2048     0..2351   0..2*N-1    2
   6 amc-1x6  AMC 1x6          256 512 1024 2048     0..2351   0..6*N-1    6
+  7 fusc     FUSC             2048                  0..31     0..31       1
 
 MODE is given by its number or its name. SIZE is the FFT size, CELL the permutation base. SLOT is 0..511, INDEX 0..47.
 CARRIER is -SIZE/2..SIZE/2-1, by rising frequency, with DC at 0.
@@ -57,12 +59,16 @@ AMC has four slot shapes, bins x symbols; a bin is nine carriers in a row, of wh
 MASK, of first, fill, empty, show, picture slot, all commands with bursts and a plan's zones, says which major groups of
 mode 0 are lit: 1..63, bit g for group g. Groups 0 to 5 have the subchannels 0..11, 12..19, 20..31, 32..39, 40..51 and
 52..59. In the other modes all is lit and MASK is 0.
+PILOTS, of place, locate, table, first, fill, empty, show, picture slot and picture subchannel, are the pilots of mode
+7, which needs them, as no other mode does: 166 used numbers, rising, below 1702. Used number u is carrier u - 851 below
+851, and u - 850 from there on. They are one word, the numbers with commas between them, or a file that has them, one or
+more on a line, apart by commas or blanks; # starts a comment, and - is standard input.
 Any number may be given (of CARRIERS, any that is not negative): the engine refuses what is out of range."""
 
 PLAN_RULES = """\
-A plan has a SIZE (256, 512, 1024 or 2048) and one to eight zones, each of MODE 0 or 2 to 6, a CELL of that mode, 1 to
+A plan has a SIZE (256, 512, 1024 or 2048) and one to eight zones, each of MODE 0 or 2 to 7, a CELL of that mode, 1 to
 512 SLOTS and a MASK of that mode. At 2048 the first zone is mode 0, with any of its cells. After a zone of AMC (modes 3
-to 6) come zones of AMC only, of any shape.
+to 6) come zones of AMC only, of any shape. A plan has no pilots.
 bellpulsar --help has the modes, their cells and their masks."""
 
 BURST_RULES = (
@@ -81,9 +87,9 @@ STREAM_RULES = (
 Both files are raw complex 32-bit floats, in-phase first, in the byte order of this machine, as SDR tools write them;
 - is standard input or output. A slot's points are those of its lit subchannels, rising, 48 each by index. A slot's grid
 is its symbols one after the other, each SIZE points by rising carrier.
-The slots of a frame follow one another, COUNT of them from FIRST on; then comes the next frame, from FIRST on again. No
-bytes are no slots. An input that ends within a slot is an error, which says how many bytes the last slot has and how
-many it should have; a file is told so before anything is written.
+The slots of a frame follow one another, COUNT of them from FIRST on; then comes the next frame, from FIRST on again. In
+mode 7 all of them have the same PILOTS. No bytes are no slots. An input that ends within a slot is an error, which says
+how many bytes the last slot has and how many it should have; a file is told so before anything is written.
 OUTPUT is written whole or left as it was, and may be INPUT itself; a pipe, a device and standard output have each slot
 as soon as it is done. Where OUTPUT is -, a refusal is told on standard error.
 Where standard error is a terminal, work that takes long shows there how far it is.
@@ -96,6 +102,7 @@ BATCH_RULES = """\
 A line is a request, as the words of a command without bellpulsar: place, locate, collisions, plan write or owner; with
 --json also first, plan read, bursts and owners. Words are apart by blanks; # starts a comment, and a line without words
 has no answer. What has arrived is answered before more is read.
+PILOTS of batch are those of each request in mode 7 that has no --pilots of its own.
 The answer is what the command prints. A refusal is an answer too: "refused", its number and its words. A line that is
 not understood is answered by "error:" and why; then the others follow, and at the end the exit status is 2, else 0.
 bellpulsar --help has the modes and their ranges."""
@@ -124,6 +131,7 @@ examples:
   bellpulsar batch <requests.txt >answers.txt
   bellpulsar plan read 02 80 08 02 11 03 00 03 B0 01 01 00
   bellpulsar owner 0 2048 5 12 3 25 0,20,0,12 20,30,0,6
+  seq 26 10 1676 | bellpulsar place fusc 2048 0 0 31 46 --pilots -
   bellpulsar show 2 1024 17 0 --subchannel 3
   bellpulsar picture slot 0 2048 5 3 --mask 0b000011 --output slot.svg
   bellpulsar place --help"""
@@ -133,7 +141,7 @@ examples:
 # --- arguments --------------------------------------------------------------------------------
 
 FIELDS = {
-    "mode": "0 PUSC downlink, 1 PUSC uplink, 2 optional FUSC, 3 to 6 AMC 6x1, 2x3, 3x2, 1x6, or its name",
+    "mode": "0 PUSC downlink, 1 PUSC uplink, 2 optional FUSC, 3 to 6 AMC 6x1, 2x3, 3x2, 1x6, 7 FUSC, or its name",
     "size": "the FFT size",
     "cell": "the permutation base",
     "cells": "one or more cells",
@@ -155,7 +163,8 @@ FIELDS = {
 KINDS = {"mode": (mode, "MODE"), "cells": (cells, "CELL[,CELL..]"), "carriers": (count, "CARRIERS")}
 
 # Options that take the next word, whatever it looks like, and those that take none.
-VALUED = ("--carriers", "--file", "--list", "--mask", "--output", "--pilot", "--slot", "--slots", "--subchannel")
+VALUED = ("--carriers", "--file", "--list", "--mask", "--output", "--pilot", "--pilots", "--slot", "--slots")
+VALUED += ("--subchannel",)
 PLAIN = ("--csv", "--json")
 
 
@@ -218,6 +227,7 @@ def command(commands, name, answer, summary, example, fields, notes=RANGES):
         epilog="example:\n" + example + "\n\n" + notes,
     )
     parser.set_defaults(answer=answer, output=None, target=None, either=None, json=False, batch=None)
+    parser.set_defaults(mode=None, pilots=None, source=None)
     for field in fields:
         kind, name = KINDS.get(field, (number, field.upper()))
         parser.add_argument(field, type=kind, metavar=name, help=FIELDS[field])
@@ -240,15 +250,35 @@ def add_json(parser, fields, batch=AS_TEXT):
     parser.set_defaults(batch=batch)
 
 
+class PilotList(argparse.Action):
+    """Reads the list, from standard input only where the command's input does not come from there. A command's words
+    are read before its options."""
+
+    def __call__(self, parser, namespace, text, *_):
+        if text == STANDARD and namespace.source == STANDARD:
+            raise argparse.ArgumentError(self, "- is standard input, which has something else")
+        try:
+            namespace.pilots = pilots(text)
+        except argparse.ArgumentTypeError as error:
+            raise argparse.ArgumentError(self, str(error)) from None
+
+
+def add_pilots(parser):
+    told = "the pilots of mode 7, 166 used numbers with commas, or a file that has them; - is standard input"
+    parser.add_argument("--pilots", action=PilotList, help=told)
+
+
 def add_map(commands):
     example = "  bellpulsar place 2 1024 17 0 0 0\n  symbol 0 carrier -425"
     summary = "the symbol and carrier of a point"
     asking = command(commands, "place", answers.place, summary, example, batch.FIELDS["place"])
+    add_pilots(asking)
     add_json(asking, "symbol, carrier")
     example = "  bellpulsar locate 2 1024 17 0 -425\n  data slot 0 subchannel 0 index 0"
     example += "\n\nprints guard, DC, pilot, or data with its slot, subchannel and index"
     summary = "what belongs on a carrier in a symbol of the zone"
     asking = command(commands, "locate", answers.locate, summary, example, batch.FIELDS["locate"])
+    add_pilots(asking)
     add_json(asking, "kind (guard, DC, pilot, data), and of data slot, subchannel, index")
 
 
@@ -259,6 +289,7 @@ def add_table(commands):
 prints a line for each point, by subchannel and index: the first is "subchannel 0 index 0 symbol 0 carrier -425\""""
     summary = "the symbol and carrier of every point of a slot"
     asking = command(commands, "table", answers.table, summary, example, ["mode", "size", "cell", "slot"])
+    add_pilots(asking)
     forms = asking.add_mutually_exclusive_group()
     told = "print comma-separated values: a line of names, then the numbers of a point a line"
     forms.add_argument("--csv", action="store_true", help=told)
@@ -268,7 +299,8 @@ prints a line for each point, by subchannel and index: the first is "subchannel 
 
 def add_collisions(commands):
     summary = "where one subchannel of a cell and one of a different cell share a carrier (optional FUSC), or\n"
-    summary += "where both cells put the same index of a subchannel on the same carrier of the same symbol (AMC); not for PUSC"
+    summary += "where both cells put the same index of a subchannel on the same carrier of the same symbol (AMC);\n"
+    summary += "not for PUSC and FUSC"
     kinds = branch(commands, "collisions", summary)
     example = "  bellpulsar collisions ofusc 2048 0 2 1010 0\n  count 4 groups 0 1 31 32"
     example += """
@@ -336,6 +368,7 @@ Each lit subchannel has a line, and the last line is their sum."""
     fields = ["mode", "size", "cell", "slot", "carriers"]
     asking = command(commands, "first", answers.first, summary, example, fields)
     add_mask(asking)
+    add_pilots(asking)
     add_json(asking, "subchannels (of each subchannel, points, of), points, of", AS_JSON)
 
 
@@ -348,6 +381,7 @@ def add_stream(parser, source, target):
     told = "how many slots a frame has, from FIRST on (default: all up to slot 511)"
     parser.add_argument("--slots", type=some, metavar="COUNT", help=told)
     add_mask(parser)
+    add_pilots(parser)
 
 
 def add_streams(commands):
@@ -372,6 +406,9 @@ def add_batch(commands):
     asking = command(commands, "batch", batch_answers, summary, example, [], BATCH_RULES)
     told = "print every answer as a JSON object; of a line that is not understood: error"
     asking.add_argument("--json", action="store_true", help=told)
+    told = "of requests in mode 7 without pilots of their own: 166 used numbers with commas, or a file that has them"
+    asking.add_argument("--pilots", action=PilotList, help=told)
+    asking.set_defaults(source=STANDARD)
 
 
 def add_bursts(parser):
@@ -422,6 +459,7 @@ def add_picks(drawing):
     """What show and the picture of a slot may be told."""
     drawing.add_argument("--subchannel", type=number, help="pick out the data of this subchannel, which must be lit")
     add_mask(drawing)
+    add_pilots(drawing)
 
 
 def add_show(commands):
@@ -456,7 +494,9 @@ def add_pictures(commands):
     example = "  bellpulsar picture subchannel 0 2048 0,1,31 0 1 --output subchannel.svg"
     summary = "a subchannel's points: carriers along x, indices along y, a panel for each cell"
     fields = ["mode", "size", "cells", "slot", "subchannel"]
-    add_output(command(kinds, "subchannel", answers.subchannel_picture, summary, example, fields))
+    drawing = command(kinds, "subchannel", answers.subchannel_picture, summary, example, fields)
+    add_pilots(drawing)
+    add_output(drawing)
 
 
 ADDING = (
@@ -522,7 +562,7 @@ def read_request(words, is_json):
 
 
 def batch_answers(options):
-    return batch.answer_all(options.json, lambda words: read_request(words, options.json), answer_to)
+    return batch.answer_all(options.json, options.pilots, lambda words: read_request(words, options.json), answer_to)
 
 
 def main(arguments):

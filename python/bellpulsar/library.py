@@ -6,7 +6,8 @@ import os
 import signal
 import subprocess
 import sys
-from typing import Any, Dict, List, Optional, SupportsIndex
+from array import array
+from typing import Any, Dict, Iterable, List, NamedTuple, Optional, SupportsIndex, Tuple
 
 from .version import __version__
 
@@ -20,6 +21,7 @@ BUILT = os.path.join(ROOT, "build", NAME)
 
 Int = SupportsIndex  # whatever counts as an integer
 Mask = Optional[Int]  # without one all is lit
+Pilots = Optional[Iterable[Int]]  # of FUSC alone, used numbers; without them no list is given
 
 uint = ctypes.c_uint32
 int32 = ctypes.c_int32
@@ -32,20 +34,21 @@ Owners = ctypes.c_uint8 * 192
 _out = ctypes.POINTER(uint)
 _address = ctypes.c_void_p
 _length = ctypes.c_size_t
+_list = [_address, _length]  # of pilots
 
 _PROTOTYPES: Dict[str, List[Any]] = {
     "bp_version": [],
-    "bp_place": [uint] * 6 + [_out, ctypes.POINTER(int32)],
-    "bp_locate": [uint] * 4 + [int32] + [_out] * 4,
-    "bp_places": [uint] * 5 + [Places],
+    "bp_place": [uint] * 6 + _list + [_out, ctypes.POINTER(int32)],
+    "bp_locate": [uint] * 4 + [int32] + _list + [_out] * 4,
+    "bp_places": [uint] * 5 + _list + [Places],
     "bp_points_len": [uint] * 2,
     "bp_lit_points_len": [uint] * 3,
     "bp_grid_len": [uint] * 2,
-    "bp_ground": [uint] * 5 + [Pair, _address, _length],
-    "bp_lay": [uint] * 6 + [_address, _length, _address, _length],
-    "bp_empty": [uint] * 5 + [_address, _length, _address, _length],
-    "bp_empty_first": [uint] * 6 + [_address, _length, _address, _length],
-    "bp_look": [uint] * 5 + [_address, _length, int32, _out, Pair] + [_out] * 3,
+    "bp_ground": [uint] * 5 + _list + [Pair, _address, _length],
+    "bp_lay": [uint] * 6 + _list + [_address, _length, _address, _length],
+    "bp_empty": [uint] * 5 + _list + [_address, _length, _address, _length],
+    "bp_empty_first": [uint] * 6 + _list + [_address, _length, _address, _length],
+    "bp_look": [uint] * 5 + _list + [_address, _length, int32, _out, Pair] + [_out] * 3,
     "bp_ofusc_collisions": [uint] * 5 + [Hits, _out],
     "bp_amc_collisions": [uint] * 2 + [Hits, _out],
     "bp_zone_plan_read": [_address, _length, _out, _out, Zones],
@@ -148,6 +151,32 @@ def _number(value: Int) -> int:
 
 def numbers(*values: Int) -> List[int]:
     return [_number(value) for value in values]
+
+
+class Listed(NamedTuple):
+    """A list of pilots: the memory that a call is lent and its length, and the numbers as they were given."""
+
+    memory: Optional[ctypes.Array[uint]]
+    length: int
+    given: Tuple[int, ...]
+
+
+NO_PILOTS = Listed(None, 0, ())
+
+
+def listed(pilots: Pilots) -> Listed:
+    """A list as the engine takes it. What 32 bits do not hold becomes their largest, which is refused."""
+    if pilots is None:
+        return NO_PILOTS
+    try:
+        given = tuple(map(operator.index, pilots))
+    except TypeError as error:
+        raise TypeError("pilots: integers are needed, used numbers: %s" % error) from None
+    try:
+        row = array("I", given)
+    except OverflowError:
+        row = array("I", numbers(*given))
+    return Listed((uint * len(row)).from_buffer_copy(row), len(row), given)
 
 
 def signed(value: Int) -> int:

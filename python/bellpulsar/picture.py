@@ -93,9 +93,9 @@ GAP = 54  # between bands: tick labels and the mark of DC
 SWATCH = 36
 
 
-def slot_symbols(mode, size, cell, slot):
+def slot_symbols(mode, size, cell, slot, pilots):
     """The zone's symbols that a slot has; each subchannel has points on all of them."""
-    return sorted({bellpulsar.place(mode, size, cell, slot, 0, index).symbol for index in range(48)})
+    return sorted({place.symbol for place in places_of(mode, size, cell, slot, 0, pilots)})
 
 
 def hatch():
@@ -235,15 +235,15 @@ def scale_height(total):
     return 10 + 26 * (1 + (total - 1) // ACROSS)
 
 
-def slot(mode, size, cell, slot, picked=None, mask=None, carriers=None):
+def slot(mode, size, cell, slot, picked=None, mask=None, carriers=None, pilots=None):
     """A slot of a zone; with `picked`, one subchannel of it picked out; with `carriers`, when so many of its carriers
-    have arrived. Refusals 1, 2, 3, 17, 4, 5."""
-    check_slot(mode, size, cell, slot, mask)
-    check_picked(mode, size, cell, slot, picked, mask)
-    symbols = slot_symbols(mode, size, cell, slot)
-    rows = [symbol_row(mode, size, cell, symbol, mask) for symbol in symbols]
+    have arrived. Refusals 1, 2, 3, 17, 4, 5, 20."""
+    check_picked(mode, size, cell, slot, picked, mask, pilots)
+    check_slot(mode, size, cell, slot, mask, pilots)
+    symbols = slot_symbols(mode, size, cell, slot, pilots)
+    rows = [symbol_row(mode, size, cell, symbol, mask, pilots) for symbol in symbols]
     if carriers is not None:
-        rows = awaiting(rows, arrived(mode, size, cell, slot, carriers, mask))
+        rows = awaiting(rows, arrived(mode, size, cell, slot, carriers, mask, pilots))
     awaited = any(carrier.awaited for row in rows for carrier in row)
     total = 1 + max(carrier.what.subchannel for carrier in rows[0] if carrier.what.kind is Kind.DATA)
     dark = [carrier.what for row in rows for carrier in row if is_unlit(carrier)]
@@ -330,7 +330,7 @@ def zone(mode, size, cell, slots, bursts, mask=None):
     """The bursts of a zone; beside it is hatched what is unlit. Refusals 1, 2, 3, 13, 17, 18, 19."""
     boxes = burst_boxes(mode, size, cell, slots, bursts, mask)
     fills = [hue(number, len(boxes)) for number in range(len(boxes))]
-    lit, subchannels = set(lit_subchannels(mode, size, cell, 0, mask)), subchannels_of(mode, size)
+    lit, subchannels = set(lit_subchannels(mode, size, mask)), subchannels_of(mode, size)
     lights = [number in lit for number in range(subchannels)]
     slot, row = min(SLOT, WIDTH / slots), max(ROWS[0], min(ROWS[1], TALL // subchannels))
     parts, kinds = [], swatch(0, "free", FREE)
@@ -360,8 +360,8 @@ CLOSE = (16, 32, 64)  # carriers: a panel has no more where all points lie withi
 LABEL = 140  # width of a symbol's label
 
 
-def places_of(mode, size, cell, slot, subchannel):
-    return [bellpulsar.place(mode, size, cell, slot, subchannel, index) for index in range(48)]
+def places_of(mode, size, cell, slot, subchannel, pilots):
+    return [bellpulsar.place(mode, size, cell, slot, subchannel, index, pilots=pilots) for index in range(48)]
 
 
 def index_height(index):
@@ -458,9 +458,9 @@ def subchannel_legend(symbols, ringed):
     return parts
 
 
-def subchannel(mode, size, cells, slot, subchannel):
-    """One subchannel's points under each of the cells. Refusals 1, 2, 3, 4, 5, those of the first cell first."""
-    points = [places_of(mode, size, cell, slot, subchannel) for cell in cells]
+def subchannel(mode, size, cells, slot, subchannel, pilots=None):
+    """One subchannel's points under each of the cells. Refusals 1, 2, 3, 4, 5, 20, those of the first cell first."""
+    points = [places_of(mode, size, cell, slot, subchannel, pilots) for cell in cells]
     symbols, carriers = sorted({place.symbol for place in points[0]}), window(size, points)
     parts, y = [], TOP + 6
     for cell, marks in zip(cells, marks_of(mode, cells, subchannel, points)):

@@ -12,7 +12,7 @@ Numbers = Sequence[int]  # of a zone or of a burst
 
 # The questions that the engine puts, by number.
 QUESTIONS = {
-    1: "Is the mode listed (in a plan and of bursts: 0 or 2 to 6)?",
+    1: "Is the mode listed (in a plan and of bursts: 0 or 2 to 7)?",
     2: "Is the size that mode's (of a plan: 256, 512, 1024 or 2048)?",
     3: "Is the cell in range?",
     4: "Is the slot below 512, the zone's symbol below 512 times the slot length?",
@@ -31,6 +31,7 @@ QUESTIONS = {
     17: "Is the mask 1 to 63 in mode 0, 0 in the others?",
     18: "Are the bursts at most 64, of four numbers each, none empty and each wholly in its zone?",
     19: "Is the burst apart from every earlier one?",
+    20: "Are the pilots 166 rising used numbers below 1702 in mode 7, none in the others?",
 }
 
 # --- ranges -----------------------------------------------------------------------------------
@@ -40,6 +41,9 @@ SLOTS = 512
 POINTS = 48
 AMC_CELLS = 2352
 AMC_MODES = range(3, 7)
+FUSC = 7
+PILOTS = 166  # of a symbol of FUSC
+USED = 1702  # numbers of its carriers
 ALL_LIT = (0,)  # the masks of a mode that has no major groups
 
 
@@ -67,8 +71,9 @@ MODES = (
     amc(2, 3),
     amc(3, 2),
     amc(1, 6),
+    Ranges("FUSC", (2048,), lambda n: 32, lambda n: 32, 1),
 )
-PLAN_MODES = (0, 2, *AMC_MODES)
+PLAN_MODES = (0, 2, *AMC_MODES, FUSC)
 PLAN_COUNTS = range(1, 9)
 PLAN_SLOTS = range(1, SLOTS + 1)
 BURSTS = 64  # of a list, at most
@@ -170,6 +175,25 @@ def carrier_words(field: str, asked: Asked) -> Words:
     return not_one_of(field, asked[field], "size %d's" % size, carriers_of(size))
 
 
+def pilot_words(at: int, pilots: Numbers) -> Words:
+    """Of one entry of a list of pilots, or nothing."""
+    if pilots[at] not in range(USED):
+        told = (at, shown(pilots[at]), FUSC, accepted_values(range(USED)))
+        return "pilot %d is %s, not one of mode %d's used numbers: %s" % told
+    if at > 0 and pilots[at] <= pilots[at - 1]:
+        return "pilot %d is %d, not larger than pilot %d, which is %d" % (at, pilots[at], at - 1, pilots[at - 1])
+    return None
+
+
+def pilots_words(field: str, asked: Asked) -> Words:
+    mode, pilots = asked["mode"], asked[field]
+    if mode != FUSC and pilots:
+        return "%d pilots are given, and mode %d takes none" % (len(pilots), mode)
+    if mode == FUSC and len(pilots) != PILOTS:
+        return "%d pilots are given, not %d" % (len(pilots), PILOTS)
+    return next(filter(None, (pilot_words(at, pilots) for at in range(len(pilots)))), None)
+
+
 def length_words(field: str, asked: Asked) -> Words:
     given, right = asked[field]
     return "%s of %d floats, not %d" % (field, given, right)
@@ -187,12 +211,13 @@ FIELDS = {
     8: {"points": length_words},
     9: {"grid": length_words},
     17: {"mask": mask_words},
+    20: {"pilots": pilots_words},
 }
 
 
 def field_words(number: int, asked: Asked) -> str:
     """Of a request's fields by name, lengths as pairs of what is given and what would be accepted; `lit` has the
-    subchannels that a lay's mask lights."""
+    subchannels that a lay's mask lights, `pilots` the numbers of a list."""
     for field, words in FIELDS[number].items():
         told = field in asked and words(field, asked)
         if told:

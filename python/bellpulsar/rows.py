@@ -6,8 +6,11 @@ from array import array
 from typing import NamedTuple
 
 import bellpulsar
-from bellpulsar import Kind, Located
+from bellpulsar import Kind, Located, Refusal
 from bellpulsar.refusals import POINTS, carriers_of
+
+
+PILOTS_REFUSED = 20  # the number of the question that follows the one about a subchannel
 
 
 class Carrier(NamedTuple):
@@ -27,26 +30,38 @@ def blank_grid(mode, size):
     return array("f", [0.0]) * bellpulsar.grid_len(mode, size)
 
 
-def symbol_row(mode, size, cell, symbol, mask):
-    """The carriers of a symbol of the zone, rising. Refusals 1, 2, 3, 17, 4."""
+def check_symbol(mode, size, cell, symbol, subchannel, mask, pilots):
+    """Puts the questions of a symbol, and of a subchannel that is picked out, where one is. Refusals 1, 2, 3, 17, 4, 5,
+    20."""
+    try:
+        bellpulsar.look(mode, size, cell, symbol, blank_grid(mode, size), 0, mask=mask, pilots=pilots)
+    except Refusal as refusal:
+        if refusal.number != PILOTS_REFUSED:
+            raise
+    check_picked(mode, size, cell, 0, subchannel, mask, pilots)
+    check_slot(mode, size, cell, 0, mask, pilots)
+
+
+def symbol_row(mode, size, cell, symbol, mask, pilots):
+    """The carriers of a symbol of the zone, rising; its questions are put before."""
     grid, row = blank_grid(mode, size), []
-    bellpulsar.look(mode, size, cell, symbol, grid, 0, mask=mask)
     for carrier in carriers_of(size):
-        seen = bellpulsar.look(mode, size, cell, symbol, grid, carrier, mask=mask)
-        row.append(Carrier(bellpulsar.locate(mode, size, cell, symbol, carrier), seen.kind is not Kind.NOTHING))
+        seen = bellpulsar.look(mode, size, cell, symbol, grid, carrier, mask=mask, pilots=pilots)
+        what = bellpulsar.locate(mode, size, cell, symbol, carrier, pilots=pilots)
+        row.append(Carrier(what, seen.kind is not Kind.NOTHING))
     return row
 
 
-def check_slot(mode, size, cell, slot, mask):
-    """Puts the questions of a slot. Refusals 1, 2, 3, 17, 4."""
-    bellpulsar.ground(mode, size, cell, slot, (0.0, 0.0), blank_grid(mode, size), mask=mask)
+def check_slot(mode, size, cell, slot, mask, pilots):
+    """Puts the questions of a slot. Refusals 1, 2, 3, 17, 4, 20."""
+    bellpulsar.ground(mode, size, cell, slot, (0.0, 0.0), blank_grid(mode, size), mask=mask, pilots=pilots)
 
 
-def check_picked(mode, size, cell, slot, subchannel, mask):
-    """Puts the questions of a subchannel that is picked out of a slot, where one is. Refusals 1, 2, 3, 17, 4, 5."""
+def check_picked(mode, size, cell, slot, subchannel, mask, pilots):
+    """Puts the questions of a subchannel that is picked out of a slot, where one is. Refusals 1, 2, 3, 17, 4, 5, 20."""
     if subchannel is not None:
         none = array("f", [0.0]) * (2 * POINTS)
-        bellpulsar.lay(mode, size, cell, slot, subchannel, none, blank_grid(mode, size), mask=mask)
+        bellpulsar.lay(mode, size, cell, slot, subchannel, none, blank_grid(mode, size), mask=mask, pilots=pilots)
 
 
 def subchannels_of(mode, size):
@@ -54,26 +69,21 @@ def subchannels_of(mode, size):
     return bellpulsar.points_len(mode, size) // (2 * POINTS)
 
 
-def lit_subchannels(mode, size, cell, slot, mask):
-    """Those whose points a slot has, rising: where the first of these belongs, data is seen."""
-    grid, lit = blank_grid(mode, size), []
-    for subchannel in range(subchannels_of(mode, size)):
-        symbol, carrier = bellpulsar.place(mode, size, cell, slot, subchannel, 0)
-        if bellpulsar.look(mode, size, cell, symbol, grid, carrier, mask=mask).kind is Kind.DATA:
-            lit.append(subchannel)
-    return lit
+def lit_subchannels(mode, size, mask):
+    """Those whose points a slot has, rising."""
+    return bellpulsar._lit(mode, size, bellpulsar._mask(mode, mask))
 
 
 NOT_YET = -1  # the place of a point that has not arrived
 
 
-def arrived(mode, size, cell, slot, carriers, mask):
+def arrived(mode, size, cell, slot, carriers, mask, pilots):
     """Of each point of a slot, by lit subchannel and index, its place in the grid where that is one of the first
-    `carriers`, else NOT_YET. Refusals 1, 2, 3, 17, 4."""
+    `carriers`, else NOT_YET. Refusals 1, 2, 3, 17, 4, 20."""
     places = range(bellpulsar.grid_len(mode, size) // 2)
     grid = array("f", [part for place in places for part in (place, place)])
     points = array("f", [NOT_YET]) * bellpulsar.lit_points_len(mode, size, mask)
-    bellpulsar.empty_first(mode, size, cell, slot, carriers, grid, points, mask=mask)
+    bellpulsar.empty_first(mode, size, cell, slot, carriers, grid, points, mask=mask, pilots=pilots)
     return list(map(int, points[::2]))
 
 

@@ -2,8 +2,8 @@
 
 The files are raw complex 32-bit floats, slot after slot. A block has places for many slots, and the calls for each of
 its places are prepared once, since making a call's arguments takes longer than the call. Slots that agree mod 3 have
-their points and their pilots on the same carriers, in every mode; so the places are of slots 0, 1 and 2, again and
-again, and a slot comes into any place of its like.
+their points and their pilots on the same carriers, in every mode, under one list of pilots in FUSC; so the places are
+of slots 0, 1 and 2, again and again, and a slot comes into any place of its like.
 """
 
 import contextlib
@@ -18,7 +18,7 @@ from array import array
 import bellpulsar
 from bellpulsar.buffers import FLOAT
 from bellpulsar.files import STANDARD, named, reading, writing
-from bellpulsar.library import engine, uint
+from bellpulsar.library import engine, listed, uint
 from bellpulsar.refusals import POINTS, SLOTS
 from bellpulsar.rows import check_slot, lit_subchannels
 
@@ -67,6 +67,8 @@ class Block:
         grid_len = bellpulsar.grid_len(mode, size)
         self.places = LIKES * max(1, BLOCK // (LIKES * FLOAT.bytes * grid_len))
         self.slots = [[uint.from_param(field) for field in (mode, size, cell, mask, slot)] for slot in range(LIKES)]
+        row = listed(options.pilots)
+        self.pilots = ctypes.c_void_p.from_param(row.memory), ctypes.c_size_t.from_param(row.length)
         self.points = Memory(self.places, bellpulsar.lit_points_len(mode, size, mask))
         self.grids = Memory(self.places, grid_len)
 
@@ -80,16 +82,18 @@ class Filling(Block):
     def __init__(self, options):
         super().__init__(options)
         self.source, self.target, self.call = self.points, self.grids, unchecked(engine.bp_lay)
-        lit = lit_subchannels(options.mode, options.size, options.cell, options.slot, options.mask)
+        lit = lit_subchannels(options.mode, options.size, options.mask)
         lit = [uint.from_param(subchannel) for subchannel in lit]
         self.prepared = [list(self.lays(place, lit)) for place in range(self.places)]
-        grounds = [(*self.slots[at % LIKES], options.pilot, *self.grid(at)) for at in range(self.places)]
-        do_all(unchecked(engine.bp_ground), grounds)
+        do_all(unchecked(engine.bp_ground), [self.ground(place, options.pilot) for place in range(self.places)])
+
+    def ground(self, place, pilot):
+        return (*self.slots[place % LIKES], *self.pilots, pilot, *self.grid(place))
 
     def lays(self, place, lit):
         slot, grid, own = self.slots[place % LIKES], self.grid(place), ctypes.c_size_t.from_param(2 * POINTS)
         for rank, subchannel in enumerate(lit):
-            yield (*slot, subchannel, self.points.at(place, 2 * POINTS * rank), own, *grid)
+            yield (*slot, subchannel, *self.pilots, self.points.at(place, 2 * POINTS * rank), own, *grid)
 
 
 class Emptying(Block):
@@ -99,7 +103,8 @@ class Emptying(Block):
         self.prepared = [[self.empty(place)] for place in range(self.places)]
 
     def empty(self, place):
-        return (*self.slots[place % LIKES], *self.grid(place), self.points.at(place), self.points.length)
+        slot = (*self.slots[place % LIKES], *self.pilots)
+        return (*slot, *self.grid(place), self.points.at(place), self.points.length)
 
 
 # --- from file to file ------------------------------------------------------------------------
@@ -137,11 +142,11 @@ class Progress:
 
 
 def check_slots(options):
-    """The slots of a frame. Refusals 1, 2, 3, 17, 4."""
+    """The slots of a frame. Refusals 1, 2, 3, 17, 4, 20."""
     setup, first = (options.mode, options.size, options.cell), options.slot
-    check_slot(*setup, first, options.mask)
+    check_slot(*setup, first, options.mask, options.pilots)
     slots = range(first, SLOTS if options.slots is None else first + options.slots)
-    check_slot(*setup, slots[-1], options.mask)
+    check_slot(*setup, slots[-1], options.mask, options.pilots)
     return slots
 
 

@@ -43,7 +43,7 @@ def mode(text):
         return MODES.index(name)
     if not re.search("[A-Za-z]", name):
         return number(text)
-    raise argparse.ArgumentTypeError("%r is not a mode: 0 to 6 or %s" % (name, ", ".join(MODES)))
+    raise argparse.ArgumentTypeError("%r is not a mode: 0 to %d or %s" % (name, len(MODES) - 1, ", ".join(MODES)))
 
 
 def count(text):
@@ -107,22 +107,37 @@ def burst(text, between=","):
     return Burst(*map(number, parts))
 
 
-LIST_LIMIT = 2**20  # bytes: far more than 64 bursts need
+LIST_LIMIT = 2**20  # bytes: far more than 64 bursts or 166 pilots need
+BETWEEN = "[ \t]*,[ \t]*|[ \t]+"  # two numbers of a line
 
 
-def burst_list(path):
-    """The bursts of a file, one on each line that has more than blanks and a comment."""
+def lines_of(path, read):
+    """What `read` makes of each line of a file that has more than blanks and a comment."""
     data = start_of(path, LIST_LIMIT + 1)
     if len(data) > LIST_LIMIT:
         raise argparse.ArgumentTypeError("%s has more than %d bytes" % (path, LIST_LIMIT))
-    text, bursts = data.decode("utf-8-sig", "replace").replace(SHIELD, "\ufffd"), []
+    text, things = data.decode("utf-8-sig", "replace").replace(SHIELD, "\ufffd"), []
     for at, line in enumerate(text.split("\n"), 1):
         line = line.partition("#")[0].strip(" \t\r")
         try:
-            bursts += [burst(line, "[ \t]*,[ \t]*|[ \t]+")] if line else []
+            things += [read(line)] if line else []
         except argparse.ArgumentTypeError as error:
             raise argparse.ArgumentTypeError("%s, line %d: %s" % (path, at, error)) from None
-    return bursts
+    return things
+
+
+def burst_list(path):
+    """The bursts of a file, one on each line."""
+    return lines_of(path, lambda line: burst(line, BETWEEN))
+
+
+def pilots(text):
+    """A list of pilots: numbers with commas, or the file that has them, one or more on each line."""
+    text = text.removeprefix(SHIELD)
+    if re.fullmatch("-?[0-9]+(,-?[0-9]+)*", text):
+        return [number(part) for part in text.split(",")]
+    rows = lines_of(text, lambda line: [number(part) for part in re.split(BETWEEN, line)])
+    return [part for row in rows for part in row]
 
 
 def cells(text):

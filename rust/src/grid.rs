@@ -1,5 +1,5 @@
 use crate::refusal::done;
-use crate::{c, Address, Mode, Refusal, Setup};
+use crate::{c, Address, Mode, Piloted, Refusal};
 
 /// In-phase and quadrature.
 pub type Point = [f32; 2];
@@ -59,13 +59,14 @@ pub fn grid_len(mode: Mode, size: u32) -> usize {
 /// assert_eq!(back, points);
 /// # Ok::<(), Refusal>(())
 /// ```
-pub fn ground(
-    setup: Setup,
+pub fn ground<'a>(
+    setup: impl Into<Piloted<'a>>,
     mask: u32,
     slot: u32,
     pilot: Point,
     grid: &mut [f32],
 ) -> Result<(), Refusal> {
+    let setup = setup.into();
     let (mode, size, cell) = setup.numbers();
     // Safety: each pointer comes with its slice's own length, and a slice lent mutably overlaps no other.
     done(unsafe {
@@ -75,6 +76,8 @@ pub fn ground(
             cell,
             mask,
             slot,
+            setup.pilots.as_ptr(),
+            setup.pilots.len(),
             pilot.as_ptr(),
             grid.as_mut_ptr(),
             grid.len(),
@@ -84,16 +87,17 @@ pub fn ground(
 
 /// The second move: lays the 48 points, 96 floats, of one lit subchannel on the grid; no other float of it is written.
 /// Subchannels may be laid in any order, and again. A ground serves every slot whose pilots are on the same carriers: all
-/// slots in PUSC, AMC 2x3 and AMC 1x6, those that agree mod 3 in optional FUSC, AMC 6x1 and AMC 3x2. Where all is lit it
-/// serves every cell too; else only the same cell and mask.
-pub fn lay(
-    setup: Setup,
+/// slots in PUSC, AMC 2x3 and AMC 1x6, those that agree mod 3 in optional FUSC, AMC 6x1 and AMC 3x2, those with the same
+/// pilot list in FUSC. Where all is lit it serves every cell too; else only the same cell and mask.
+pub fn lay<'a>(
+    setup: impl Into<Piloted<'a>>,
     mask: u32,
     slot: u32,
     subchannel: u32,
     points: &[f32],
     grid: &mut [f32],
 ) -> Result<(), Refusal> {
+    let setup = setup.into();
     let (mode, size, cell) = setup.numbers();
     // Safety: as in `ground`.
     done(unsafe {
@@ -104,6 +108,8 @@ pub fn lay(
             mask,
             slot,
             subchannel,
+            setup.pilots.as_ptr(),
+            setup.pilots.len(),
             points.as_ptr(),
             points.len(),
             grid.as_mut_ptr(),
@@ -113,13 +119,14 @@ pub fn lay(
 }
 
 /// Takes the points of the lit subchannels off a slot's grid, rising; all of `points` is written.
-pub fn empty(
-    setup: Setup,
+pub fn empty<'a>(
+    setup: impl Into<Piloted<'a>>,
     mask: u32,
     slot: u32,
     grid: &[f32],
     points: &mut [f32],
 ) -> Result<(), Refusal> {
+    let setup = setup.into();
     let (mode, size, cell) = setup.numbers();
     // Safety: as in `ground`.
     done(unsafe {
@@ -129,6 +136,8 @@ pub fn empty(
             cell,
             mask,
             slot,
+            setup.pilots.as_ptr(),
+            setup.pilots.len(),
             grid.as_ptr(),
             grid.len(),
             points.as_mut_ptr(),
@@ -141,14 +150,15 @@ pub fn empty(
 /// `points` stays. Carriers count from the grid's start, symbol after symbol, each by rising carrier, guards, DC and pilots
 /// too; any count is accepted, and one past the grid's end means all. Call it again with a larger count as a capture
 /// delivers more.
-pub fn empty_first(
-    setup: Setup,
+pub fn empty_first<'a>(
+    setup: impl Into<Piloted<'a>>,
     mask: u32,
     slot: u32,
     carriers: u32,
     grid: &[f32],
     points: &mut [f32],
 ) -> Result<(), Refusal> {
+    let setup = setup.into();
     let (mode, size, cell) = setup.numbers();
     // Safety: as in `ground`.
     done(unsafe {
@@ -159,6 +169,8 @@ pub fn empty_first(
             mask,
             slot,
             carriers,
+            setup.pilots.as_ptr(),
+            setup.pilots.len(),
             grid.as_ptr(),
             grid.len(),
             points.as_mut_ptr(),
@@ -168,16 +180,17 @@ pub fn empty_first(
 }
 
 /// The point on a carrier in a symbol of the zone, read from the grid of the symbol's slot, and whose it is.
-pub fn look(
-    setup: Setup,
+pub fn look<'a>(
+    setup: impl Into<Piloted<'a>>,
     mask: u32,
     symbol: u32,
     grid: &[f32],
     carrier: i32,
 ) -> Result<Seen, Refusal> {
+    let setup = setup.into();
     let (mode, size, cell) = setup.numbers();
     let (mut kind, mut point, mut of) = (0, [0.0; 2], Address::default());
-    // Safety: the grid comes with its own length, and the out parameters are distinct variables.
+    // Safety: grid and list come with their own lengths, and the out parameters are distinct variables.
     done(unsafe {
         c::bp_look(
             mode,
@@ -185,6 +198,8 @@ pub fn look(
             cell,
             mask,
             symbol,
+            setup.pilots.as_ptr(),
+            setup.pilots.len(),
             grid.as_ptr(),
             grid.len(),
             carrier,

@@ -1,4 +1,4 @@
-//! Bellpulsar from Rust: the subcarrier map of IEEE 802.16e OFDMA, proved. A safe wrapper over each call of version 4 of
+//! Bellpulsar from Rust: the subcarrier map of IEEE 802.16e OFDMA, proved. A safe wrapper over each call of version 5 of
 //! the C interface, `include/bellpulsar.h`.
 //!
 //! ```
@@ -35,6 +35,9 @@
 //! itself, with the first question that is answered no, a [`Refusal`]. On a refusal no lent slice is written. Lengths,
 //! ranges and the order of the questions stand in the header.
 //!
+//! In FUSC the pilots are a list of the caller's. It goes with the setup, [`Setup::with_pilots`], in the calls that take a
+//! [`Piloted`]; in every other mode these are given the [`Setup`] alone.
+//!
 //! The mode alone has a type of its own, [`Mode`]. One that comes as a number or by name is made a `Mode` first, and where
 //! it is not listed that is refused, with [`Refusal::Mode`]: the first question of every call that takes a `Mode`, so no
 //! other could come before it. In a [`Zone`] the mode stays a number, and the engine is asked: of a plan and of bursts not
@@ -54,12 +57,12 @@ pub use bursts::{burst_owner, burst_owners, bursts_check, Burst, Owner};
 pub use collisions::{amc_collisions, ofusc_collisions, Collisions};
 pub use grid::{empty, empty_first, grid_len, ground, lay, lit_points_len, look, points_len};
 pub use grid::{Point, Seen, ALL_GROUPS};
-pub use map::{locate, place, places, Address, Content, Place, Setup};
+pub use map::{locate, place, places, Address, Content, Piloted, Place, Setup};
 pub use mode::Mode;
 pub use plan::{plan_read, plan_write, Plan, Zone};
 pub use refusal::Refusal;
 
-/// The version of the library that is linked, 40300 for 4.3.0.
+/// The version of the library that is linked, 50000 for 5.0.0.
 pub fn version() -> u32 {
     // Safety: no pointer is given.
     unsafe { c::bp_version() }

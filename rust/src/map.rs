@@ -10,8 +10,65 @@ pub struct Setup {
 }
 
 impl Setup {
-    pub(crate) fn numbers(self) -> (u32, u32, u32) {
-        (self.mode.number(), self.size, self.cell)
+    /// The setup with the pilot list of a symbol in FUSC: the used numbers of its 166 pilots, rising, each below 1702. Used
+    /// number u is carrier u - 851 below 851, and u - 850 from there on. What the list leaves is data. It may be another one
+    /// for each slot: a grid is emptied and looked at with the list that it was filled with.
+    ///
+    /// ```
+    /// use bellpulsar::*;
+    ///
+    /// // An even spread, laid and emptied. FUSC has one symbol a slot and 32 subchannels.
+    /// let pilots: Vec<u32> = (26..1677).step_by(10).collect();
+    /// let (alone, mask, slot) = (Setup { mode: Mode::Fusc, size: 2048, cell: 0 }, 0, 0);
+    /// let setup = alone.with_pilots(&pilots);
+    ///
+    /// let address = Address { slot, subchannel: 31, index: 46 };
+    /// let at = place(setup, address)?;
+    /// assert_eq!(at, Place { symbol: 0, carrier: -217 });
+    /// assert_eq!(locate(setup, at)?, Content::Data(address));
+    /// assert_eq!(locate(setup, Place { symbol: 0, carrier: 26 - 851 })?, Content::Pilot);
+    ///
+    /// let mut grid = vec![0.0; grid_len(Mode::Fusc, 2048)];
+    /// ground(setup, mask, slot, [1.0, 0.0], &mut grid)?;
+    /// let points: Vec<f32> = (0..32 * 96).map(|n| n as f32).collect();
+    /// for (subchannel, own) in (0..).zip(points.chunks(96)) {
+    ///     lay(setup, mask, slot, subchannel, own, &mut grid)?;
+    /// }
+    /// let mut back = vec![0.0; points.len()];
+    /// empty(setup, mask, slot, &grid, &mut back)?;
+    /// assert_eq!(back, points);
+    ///
+    /// // FUSC asks for a list, and no other mode takes one.
+    /// assert_eq!(place(alone, address), Err(Refusal::Pilots));
+    /// let other = Setup { mode: Mode::Ofusc, ..alone };
+    /// assert_eq!(place(other.with_pilots(&pilots), address), Err(Refusal::Pilots));
+    /// # Ok::<(), Refusal>(())
+    /// ```
+    pub fn with_pilots(self, pilots: &[u32]) -> Piloted<'_> {
+        Piloted {
+            setup: self,
+            pilots,
+        }
+    }
+}
+
+/// A setup and the pilot list that is lent with it. A [`Setup`] alone is one whose list is empty, as every mode but FUSC has
+/// it.
+#[derive(Clone, Copy, Debug, PartialEq, Eq, Hash)]
+pub struct Piloted<'a> {
+    pub setup: Setup,
+    pub pilots: &'a [u32],
+}
+
+impl Piloted<'_> {
+    pub(crate) fn numbers(&self) -> (u32, u32, u32) {
+        (self.setup.mode.number(), self.setup.size, self.setup.cell)
+    }
+}
+
+impl From<Setup> for Piloted<'_> {
+    fn from(setup: Setup) -> Self {
+        setup.with_pilots(&[])
     }
 }
 
@@ -40,10 +97,11 @@ pub enum Content {
 }
 
 /// Where a point lies.
-pub fn place(setup: Setup, address: Address) -> Result<Place, Refusal> {
+pub fn place<'a>(setup: impl Into<Piloted<'a>>, address: Address) -> Result<Place, Refusal> {
+    let setup = setup.into();
     let (mode, size, cell) = setup.numbers();
     let mut at = Place::default();
-    // Safety: both out parameters are distinct fields of `at`.
+    // Safety: the list comes with its own length, and both out parameters are distinct fields of `at`.
     done(unsafe {
         c::bp_place(
             mode,
@@ -52,6 +110,8 @@ pub fn place(setup: Setup, address: Address) -> Result<Place, Refusal> {
             address.slot,
             address.subchannel,
             address.index,
+            setup.pilots.as_ptr(),
+            setup.pilots.len(),
             &mut at.symbol,
             &mut at.carrier,
         )
@@ -60,10 +120,11 @@ pub fn place(setup: Setup, address: Address) -> Result<Place, Refusal> {
 }
 
 /// What a carrier holds in a symbol of the zone.
-pub fn locate(setup: Setup, at: Place) -> Result<Content, Refusal> {
+pub fn locate<'a>(setup: impl Into<Piloted<'a>>, at: Place) -> Result<Content, Refusal> {
+    let setup = setup.into();
     let (mode, size, cell) = setup.numbers();
     let (mut kind, mut of) = (0, Address::default());
-    // Safety: the out parameters are distinct variables.
+    // Safety: the list comes with its own length, and the out parameters are distinct variables.
     done(unsafe {
         c::bp_locate(
             mode,
@@ -71,6 +132,8 @@ pub fn locate(setup: Setup, at: Place) -> Result<Content, Refusal> {
             cell,
             at.symbol,
             at.carrier,
+            setup.pilots.as_ptr(),
+            setup.pilots.len(),
             &mut kind,
             &mut of.slot,
             &mut of.subchannel,
@@ -111,10 +174,26 @@ pub fn locate(setup: Setup, at: Place) -> Result<Content, Refusal> {
 /// assert_eq!(back, points);
 /// # Ok::<(), Refusal>(())
 /// ```
-pub fn places(setup: Setup, slot: u32, subchannel: u32) -> Result<[u32; 48], Refusal> {
+pub fn places<'a>(
+    setup: impl Into<Piloted<'a>>,
+    slot: u32,
+    subchannel: u32,
+) -> Result<[u32; 48], Refusal> {
+    let setup = setup.into();
     let (mode, size, cell) = setup.numbers();
     let mut places = [0; 48];
-    // Safety: `places` has the 48 numbers that are written.
-    done(unsafe { c::bp_places(mode, size, cell, slot, subchannel, places.as_mut_ptr()) })?;
+    // Safety: the list comes with its own length, and `places` has the 48 numbers that are written.
+    done(unsafe {
+        c::bp_places(
+            mode,
+            size,
+            cell,
+            slot,
+            subchannel,
+            setup.pilots.as_ptr(),
+            setup.pilots.len(),
+            places.as_mut_ptr(),
+        )
+    })?;
     Ok(places)
 }

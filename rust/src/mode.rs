@@ -12,7 +12,7 @@ use std::str::FromStr;
 /// assert_eq!((mode.number(), mode.to_string()), (4, "amc-2x3".to_string()));
 /// assert_eq!("4".parse(), Ok(mode));
 /// assert_eq!(Mode::try_from(4), Ok(mode));
-/// assert_eq!(Mode::try_from(7), Err(Refusal::Mode));
+/// assert_eq!(Mode::try_from(8), Err(Refusal::Mode));
 /// # Ok::<(), Refusal>(())
 /// ```
 #[non_exhaustive] // A later version may have more.
@@ -32,6 +32,8 @@ pub enum Mode {
     Amc3x2 = 5,
     /// AMC 1x6.
     Amc1x6 = 6,
+    /// FUSC, whose pilots are a list of the caller's ([`Setup::with_pilots`](crate::Setup::with_pilots)).
+    Fusc = 7,
 }
 
 impl Mode {
@@ -44,6 +46,7 @@ impl Mode {
         Mode::Amc2x3,
         Mode::Amc3x2,
         Mode::Amc1x6,
+        Mode::Fusc,
     ];
 
     /// The header's number, as a [`Zone`](crate::Zone) has it.
@@ -86,6 +89,7 @@ impl fmt::Display for Mode {
             Mode::Amc2x3 => "amc-2x3",
             Mode::Amc3x2 => "amc-3x2",
             Mode::Amc1x6 => "amc-1x6",
+            Mode::Fusc => "fusc",
         })
     }
 }

@@ -42,6 +42,8 @@ pub enum Refusal {
     Burst = 18,
     /// A burst overlaps an earlier one.
     Overlap = 19,
+    /// The pilot list is not 166 rising used numbers in FUSC, or not empty in another mode.
+    Pilots = 20,
 }
 
 impl Refusal {
@@ -66,6 +68,7 @@ impl Refusal {
         Refusal::Mask,
         Refusal::Burst,
         Refusal::Overlap,
+        Refusal::Pilots,
     ];
 
     /// The question's number.
@@ -76,7 +79,7 @@ impl Refusal {
     /// The question in words.
     pub fn question(self) -> &'static str {
         match self {
-            Refusal::Mode => "Is the mode listed (in a plan and of bursts: 0 or 2 to 6)?",
+            Refusal::Mode => "Is the mode listed (in a plan and of bursts: 0 or 2 to 7)?",
             Refusal::Size => "Is the size that mode's (of a plan: 256, 512, 1024 or 2048)?",
             Refusal::Cell => "Is the cell in range?",
             Refusal::Slot => "Is the slot below 512, the zone's symbol below 512 times the slot length?",
@@ -95,6 +98,7 @@ impl Refusal {
             Refusal::Mask => "Is the mask 1 to 63 in mode 0, 0 in the others?",
             Refusal::Burst => "Are the bursts at most 64, of four numbers each, none empty and each wholly in its zone?",
             Refusal::Overlap => "Is the burst apart from every earlier one?",
+            Refusal::Pilots => "Are the pilots 166 rising used numbers below 1702 in mode 7, none in the others?",
         }
     }
 }

@@ -8,8 +8,13 @@
 
 #include "bellpulsar.h"
 
+/* The pilot list of a row is that of its number. */
+struct pilot_list {
+    uint32_t len, numbers[167];
+};
+
 struct place_row {
-    uint32_t mode, size, cell, slot, subchannel, index;
+    uint32_t mode, size, cell, slot, subchannel, index, list;
     uint32_t refusal, symbol;
     int32_t carrier;
 };
@@ -17,14 +22,14 @@ struct place_row {
 enum { INDICES = 48, MARKS = 48 };
 
 struct places_row {
-    uint32_t mode, size, cell, slot, subchannel;
+    uint32_t mode, size, cell, slot, subchannel, list;
     uint32_t refusal, places[INDICES];
 };
 
 struct locate_row {
     uint32_t mode, size, cell, symbol;
     int32_t carrier;
-    uint32_t refusal, kind, slot, subchannel, index;
+    uint32_t list, refusal, kind, slot, subchannel, index;
 };
 
 /* What a collision call must give: the refusal, the marks and their count. */
@@ -72,6 +77,12 @@ struct carrier_out {
 /* Each request is put twice, over different words, so that a value written by chance shows. */
 static const uint32_t fills[2] = {0xA5A5A5A5u, 0x5A5A5A5Au};
 
+/* A list as it is lent: the empty one has any pointer. */
+static const uint32_t *lent(uint32_t list, uint32_t fill)
+{
+    return pilot_lists[list].len || fill == fills[0] ? pilot_lists[list].numbers : NULL;
+}
+
 static struct out fresh(uint32_t fill)
 {
     struct out out = {~fill, fill, ~fill};
@@ -89,7 +100,8 @@ static int place_agrees(const struct place_row *row, uint32_t fill)
     struct out symbol = fresh(fill);
     struct carrier_out carrier = {~fill, (int32_t)fill, ~fill};
     uint32_t refusal = bp_place(row->mode, row->size, row->cell, row->slot, row->subchannel,
-                                row->index, &symbol.value, &carrier.value);
+                                row->index, lent(row->list, fill), pilot_lists[row->list].len, &symbol.value,
+                                &carrier.value);
     int accepted = row->refusal == 0;
     return refusal == row->refusal && holds(&symbol, fill, accepted ? row->symbol : fill) && carrier.before == ~fill &&
            carrier.value == (accepted ? row->carrier : (int32_t)fill) && carrier.after == ~fill;
@@ -101,7 +113,8 @@ static int places_agree(const struct places_row *row, uint32_t fill)
     struct { uint32_t before, places[INDICES], after; } out = {.before = ~fill, .after = ~fill};
     for (int i = 0; i < INDICES; i++)
         out.places[i] = fill;
-    uint32_t refusal = bp_places(row->mode, row->size, row->cell, row->slot, row->subchannel, out.places);
+    uint32_t refusal = bp_places(row->mode, row->size, row->cell, row->slot, row->subchannel, lent(row->list, fill),
+                                 pilot_lists[row->list].len, out.places);
     int same = refusal == row->refusal && out.before == ~fill && out.after == ~fill;
     for (int i = 0; i < INDICES; i++)
         same &= out.places[i] == (row->refusal == 0 ? row->places[i] : fill);
@@ -111,8 +124,8 @@ static int places_agree(const struct places_row *row, uint32_t fill)
 static int locate_agrees(const struct locate_row *row, uint32_t fill)
 {
     struct out kind = fresh(fill), slot = fresh(fill), subchannel = fresh(fill), index = fresh(fill);
-    uint32_t refusal = bp_locate(row->mode, row->size, row->cell, row->symbol, row->carrier,
-                                 &kind.value, &slot.value, &subchannel.value, &index.value);
+    uint32_t refusal = bp_locate(row->mode, row->size, row->cell, row->symbol, row->carrier, lent(row->list, fill),
+                                 pilot_lists[row->list].len, &kind.value, &slot.value, &subchannel.value, &index.value);
     int accepted = row->refusal == 0;
     int data = accepted && row->kind == BP_DATA;
     return refusal == row->refusal && holds(&kind, fill, accepted ? row->kind : fill) &&
@@ -174,8 +187,8 @@ static int test_place(void)
             continue;
         wrong = 1;
         printf("bp_place differs: mode %" PRIu32 " size %" PRIu32 " cell %" PRIu32 " slot %" PRIu32
-               " subchannel %" PRIu32 " index %" PRIu32 "\n",
-               row->mode, row->size, row->cell, row->slot, row->subchannel, row->index);
+               " subchannel %" PRIu32 " index %" PRIu32 " list %" PRIu32 "\n",
+               row->mode, row->size, row->cell, row->slot, row->subchannel, row->index, row->list);
     }
     return wrong;
 }
@@ -189,8 +202,8 @@ static int test_places(void)
             continue;
         wrong = 1;
         printf("bp_places differs: mode %" PRIu32 " size %" PRIu32 " cell %" PRIu32 " slot %" PRIu32 " subchannel %" PRIu32
-               "\n",
-               row->mode, row->size, row->cell, row->slot, row->subchannel);
+               " list %" PRIu32 "\n",
+               row->mode, row->size, row->cell, row->slot, row->subchannel, row->list);
     }
     return wrong;
 }
@@ -198,12 +211,13 @@ static int test_places(void)
 static int are_placed(uint32_t mode, uint32_t size, uint32_t cell, uint32_t slot, uint32_t subchannel, size_t grid_len)
 {
     const uint32_t symbols = (uint32_t)(grid_len / 2 / size);
+    const struct pilot_list *list = &pilot_lists[mode == BP_FUSC ? 1 + slot % 5 : 0];
     uint32_t places[INDICES], symbol;
     int32_t carrier;
-    if (bp_places(mode, size, cell, slot, subchannel, places) != 0)
+    if (bp_places(mode, size, cell, slot, subchannel, list->numbers, list->len, places) != 0)
         return 0;
     for (uint32_t m = 0; m < INDICES; m++)
-        if (bp_place(mode, size, cell, slot, subchannel, m, &symbol, &carrier) != 0 ||
+        if (bp_place(mode, size, cell, slot, subchannel, m, list->numbers, list->len, &symbol, &carrier) != 0 ||
             (int64_t)places[m] != (int64_t)(symbol % symbols) * size + size / 2 + carrier)
             return 0;
     return 1;
@@ -234,8 +248,8 @@ static int test_locate(void)
             continue;
         wrong = 1;
         printf("bp_locate differs: mode %" PRIu32 " size %" PRIu32 " cell %" PRIu32
-               " symbol %" PRIu32 " carrier %" PRId32 "\n",
-               row->mode, row->size, row->cell, row->symbol, row->carrier);
+               " symbol %" PRIu32 " carrier %" PRId32 " list %" PRIu32 "\n",
+               row->mode, row->size, row->cell, row->symbol, row->carrier, row->list);
     }
     return wrong;
 }

@@ -1,5 +1,5 @@
-/* What several of the C tests have in common: every mode and size, wrong fields and the refusal that they meet, and out
-   parameters between guard words. */
+/* What several of the C tests have in common: every mode and size, pilot lists, wrong fields and the refusal that they meet,
+   and out parameters between guard words. */
 #ifndef COMMON_H
 #define COMMON_H
 
@@ -10,7 +10,8 @@
 
 enum { SLOTS = 512, MOST_SUBCHANNELS = 192 };
 enum { PUSC_DL = 0, FULL_MASK = 63 };
-enum { UNLISTED = 7 }; /* the first number that is no mode */
+enum { FUSC = 7, PILOTS = 166 }; /* the mode that is lent its pilots, and how many it has */
+enum { UNLISTED = 8 }; /* the first number that is no mode */
 
 struct setup {
     uint32_t mode, size, cells, subchannels, symbols;
@@ -23,6 +24,11 @@ static const struct setup setups[] = {
     {4, 256, 2352, 12, 3}, {4, 512, 2352, 24, 3}, {4, 1024, 2352, 48, 3}, {4, 2048, 2352, 96, 3},
     {5, 256, 2352, 8, 2}, {5, 512, 2352, 16, 2}, {5, 1024, 2352, 32, 2}, {5, 2048, 2352, 64, 2},
     {6, 256, 2352, 24, 6}, {6, 512, 2352, 48, 6}, {6, 1024, 2352, 96, 6}, {6, 2048, 2352, 192, 6},
+    {7, 2048, 32, 32, 1},
+};
+
+struct pilot_list {
+    uint32_t len, numbers[PILOTS + 1];
 };
 
 struct out {

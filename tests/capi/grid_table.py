@@ -1,5 +1,5 @@
-"""Prints the grids that grid_test.c includes, one for each mode and size where all is lit and some more for masks, from a
-fixed seed, and the major groups of PUSC downlink. Floats are bit patterns.
+"""Prints the grids that grid_test.c includes, one for each mode and size where all is lit, some more for masks and for the
+pilot lists of FUSC, from a fixed seed; and the major groups of PUSC downlink. Floats are bit patterns.
 
     python3 tests/capi/grid_table.py > build/capi/grid_table.h
 """
@@ -10,7 +10,9 @@ import sys
 
 sys.path.insert(0, os.path.dirname(os.path.dirname(os.path.abspath(__file__))))
 
+import pilot_lists
 import reference as ref
+from table import GOOD_LISTS, bad_lists, print_lists
 
 SIGN = 2**31
 INFINITY = 0x7F800000
@@ -32,32 +34,36 @@ def pattern(dice):
     return bits + dice.choice([0, SIGN])
 
 
-# Mode, size and mask of each grid: all lit; then one group at either end, every second one, and holes in the middle.
-CASES = [(mode, size, ref.full_mask(mode)) for mode in ref.MODES for size in ref.sizes(mode)]
-CASES += [(ref.PUSC_DL, 2048, mask) for mask in (1, 32, 0b010101, 0b101010, 0b110011, 0b001011)]
+# Mode, size, mask and list of each grid: all lit; then one group at either end, every second one, and holes in the middle;
+# then each other list of FUSC.
+CASES = [
+    (mode, size, ref.full_mask(mode), pilot_lists.of_mode(mode)) for mode in ref.MODES for size in ref.sizes(mode)
+]
+CASES += [(ref.PUSC_DL, 2048, mask, ()) for mask in (1, 32, 0b010101, 0b101010, 0b110011, 0b001011)]
+CASES += [(ref.FUSC, 2048, 0, pilots) for pilots in GOOD_LISTS if pilots != pilot_lists.EVEN]
 
 
-def case(dice, mode, size, mask):
+def case(dice, mode, size, mask, pilots):
     cell, slot = dice.randrange(ref.cells(mode, size)), dice.randrange(512)
     pilot = [pattern(dice), pattern(dice)]
     points = [pattern(dice) for _ in range(ref.lit_points_len(mode, size, mask))]
-    number, grid = ref.fill(mode, size, cell, mask, slot, pilot, points, [1] * ref.grid_floats(mode, size))
+    number, grid = ref.fill(mode, size, cell, mask, slot, pilot, points, [1] * ref.grid_floats(mode, size), pilots)
     assert number == 0
-    assert ref.empty(mode, size, cell, mask, slot, grid, [1] * len(points)) == (0, points)
+    assert ref.empty(mode, size, cell, mask, slot, grid, [1] * len(points), pilots) == (0, points)
     return cell, slot, pilot, points, grid
 
 
-def grounded(mode, size, cell, mask, slot, pilot):
+def grounded(mode, size, cell, mask, slot, pilot, pilots):
     """The ground of a slot's grid."""
-    number, grid = ref.ground(mode, size, cell, mask, slot, pilot, [1] * ref.grid_floats(mode, size))
+    number, grid = ref.ground(mode, size, cell, mask, slot, pilot, [1] * ref.grid_floats(mode, size), pilots)
     assert number == 0
     return grid
 
 
-def places(mode, size, cell, mask, slot):
+def places(mode, size, cell, mask, slot, pilots):
     """Where the two floats of each point start in a slot's grid, by lit subchannel and index."""
     addresses = [(s, m) for s in ref.lit_subchannels(mode, size, mask) for m in range(ref.POINTS)]
-    placed = [ref.place(mode, size, cell, slot, s, m) for s, m in addresses]
+    placed = [ref.place(mode, size, cell, slot, s, m, pilots) for s, m in addresses]
     return [ref.grid_at(mode, size, symbol, carrier) for _, symbol, carrier in placed]
 
 
@@ -80,20 +86,24 @@ def print_groups():
 def main():
     dice = random.Random(17)
     rows = []
+    lists = [(), *GOOD_LISTS]
     print_groups()
-    for mode, size, mask in CASES:
-        cell, slot, pilot, points, grid = case(dice, mode, size, mask)
+    print_lists("good_lists", lists)
+    print_lists("bad_lists", bad_lists(dice))
+    for mode, size, mask, pilots in CASES:
+        cell, slot, pilot, points, grid = case(dice, mode, size, mask, pilots)
         arrays = {
             "points": points,
-            "places": places(mode, size, cell, mask, slot),
-            "ground": grounded(mode, size, cell, mask, slot, pilot),
+            "places": places(mode, size, cell, mask, slot, pilots),
+            "ground": grounded(mode, size, cell, mask, slot, pilot, pilots),
             "grid": grid,
         }
         n = len(rows)
         for name, numbers in arrays.items():
             print("static const uint32_t %s_%d[] = {%s};" % (name, n, words(numbers)))
         names = ", ".join("%s_%d" % (name, n) for name in arrays)
-        rows.append("{%s, {%s}, %s}" % (words([mode, size, cell, mask, slot]), words(pilot), names))
+        numbers = words([mode, size, cell, mask, slot])
+        rows.append("{%s, &good_lists[%d], {%s}, %s}" % (numbers, lists.index(pilots), words(pilot), names))
     print("static const struct grid_row grid_rows[] = {\n    %s,\n};" % ",\n    ".join(rows))
 
 

@@ -3,8 +3,9 @@
    payloads, infinities, signed zeros and subnormals stand among the points and in the pilot point. Each lay is made
    alone, where every float but its own keeps its bits, and all are made in a shuffled order with repeats, where the last
    one of a subchannel counts; an unlit one is refused. The first carriers are emptied by every count from 0 to past the
-   grid's end, and by two counts in turn. All 63 masks of PUSC downlink are gone through. Then every set of wrong fields:
-   the first refusal, and nothing written. Floats are read and written as bit patterns only. Run by run.sh. */
+   grid's end, and by two counts in turn. All 63 masks of PUSC downlink are gone through, and pilot lists of every kind in
+   FUSC. Then every set of wrong fields, of place, places and locate too: the first refusal, and nothing written. Floats are
+   read and written as bit patterns only. Run by run.sh. */
 #include <inttypes.h>
 #include <stddef.h>
 #include <stdint.h>
@@ -14,10 +15,12 @@
 #include "bellpulsar.h"
 #include "common.h"
 
-/* A slot and the bits that its buffers hold: the points of its lit subchannels, its ground, and its grid when each of
-   these is laid. places: where the two floats of each point start in the grid. */
+/* A slot, the pilot list that is lent for it, and the bits that its buffers hold: the points of its lit subchannels, its
+   ground, and its grid when each of these is laid. places: where the two floats of each point start in the grid. */
 struct grid_row {
-    uint32_t mode, size, cell, mask, slot, pilot[2];
+    uint32_t mode, size, cell, mask, slot;
+    const struct pilot_list *list;
+    uint32_t pilot[2];
     const uint32_t *points, *places, *ground, *grid;
 };
 
@@ -178,7 +181,8 @@ static int work_out_ground(const struct setup *s, const struct grid_row *row)
         for (int32_t carrier = -half(s); carrier < half(s); carrier++) {
             uint32_t symbol = row->slot * s->symbols + offset, kind, of, subchannel, index;
             size_t at = grid_at(s, symbol, carrier);
-            if (bp_locate(s->mode, s->size, row->cell, symbol, carrier, &kind, &of, &subchannel, &index))
+            if (bp_locate(s->mode, s->size, row->cell, symbol, carrier, row->list->numbers, row->list->len, &kind, &of,
+                          &subchannel, &index))
                 return 0;
             want_kinds[at / 2] = seen_kind(s, row->cell, row->mask, carrier, kind);
             if (want_kinds[at / 2] == KIND_PILOT)
@@ -198,7 +202,8 @@ static int work_out_points(const struct setup *s, const struct grid_row *row)
         int32_t carrier;
         want_points[2 * n] = point_bits(2 * n);
         want_points[2 * n + 1] = point_bits(2 * n + 1);
-        if (bp_place(s->mode, s->size, row->cell, row->slot, list[n / POINTS], n % POINTS, &symbol, &carrier))
+        if (bp_place(s->mode, s->size, row->cell, row->slot, list[n / POINTS], n % POINTS, row->list->numbers,
+                     row->list->len, &symbol, &carrier))
             return 0;
         size_t at = grid_at(s, symbol, carrier);
         if (want_kinds[at / 2] != KIND_DATA)
@@ -221,7 +226,8 @@ static int ground_agrees(const struct setup *s, const struct grid_row *row)
     spoil(&grid, sizeof grid);
     spoil(&pair, sizeof pair);
     copy_bits(pair.at, row->pilot, 2);
-    return bp_ground(s->mode, s->size, row->cell, row->mask, row->slot, pair.at, grid.at, grid_floats(s)) == 0 &&
+    return bp_ground(s->mode, s->size, row->cell, row->mask, row->slot, row->list->numbers, row->list->len, pair.at, grid.at,
+                     grid_floats(s)) == 0 &&
            holds(&grid, sizeof grid, row->ground, grid_floats(s)) && holds(&pair, sizeof pair, row->pilot, 2);
 }
 
@@ -231,8 +237,8 @@ static int lay(const struct setup *s, const struct grid_row *row, uint32_t subch
     uint32_t refusal = lit_subchannel(s, row->mask, subchannel) ? 0 : 5;
     spoil(&laid, sizeof laid);
     copy_bits(laid.at, bits, LAID);
-    return bp_lay(s->mode, s->size, row->cell, row->mask, row->slot, subchannel, laid.at, LAID, grid.at,
-                  grid_floats(s)) == refusal &&
+    return bp_lay(s->mode, s->size, row->cell, row->mask, row->slot, subchannel, row->list->numbers, row->list->len, laid.at,
+                  LAID, grid.at, grid_floats(s)) == refusal &&
            holds(&laid, sizeof laid, bits, LAID);
 }
 
@@ -318,8 +324,8 @@ static int empty_agrees(const struct setup *s, const struct grid_row *row)
     spoil(&points, sizeof points);
     spoil(&grid, sizeof grid);
     copy_bits(grid.at, row->grid, grid_floats(s));
-    uint32_t refusal = bp_empty(s->mode, s->size, row->cell, row->mask, row->slot, grid.at, grid_floats(s), points.at,
-                                points_floats(s, row->mask));
+    uint32_t refusal = bp_empty(s->mode, s->size, row->cell, row->mask, row->slot, row->list->numbers, row->list->len,
+                                grid.at, grid_floats(s), points.at, points_floats(s, row->mask));
     return refusal == 0 && holds(&points, sizeof points, row->points, points_floats(s, row->mask)) &&
            holds(&grid, sizeof grid, row->grid, grid_floats(s));
 }
@@ -352,8 +358,8 @@ static void arrive(const struct setup *s, const struct grid_row *row, uint32_t c
 /* The call on the grid and the points as they stand. */
 static uint32_t empty_first(const struct setup *s, const struct grid_row *row, uint32_t carriers)
 {
-    return bp_empty_first(s->mode, s->size, row->cell, row->mask, row->slot, carriers, grid.at, grid_floats(s),
-                          points.at, points_floats(s, row->mask));
+    return bp_empty_first(s->mode, s->size, row->cell, row->mask, row->slot, carriers, row->list->numbers, row->list->len,
+                          grid.at, grid_floats(s), points.at, points_floats(s, row->mask));
 }
 
 /* Of a grid that holds the row's bits, over points of their own: those that are wanted, and the grid is only read. */
@@ -435,10 +441,10 @@ static int look_agrees(const struct setup *s, const struct grid_row *row, uint32
     struct out kind = fresh(), slot = fresh(), subchannel = fresh(), index = fresh();
     uint32_t what = 0, a = untold, b = untold, m = untold;
     spoil(&pair, sizeof pair);
-    if (bp_look(s->mode, s->size, row->cell, row->mask, symbol, grid.at, grid_floats(s), carrier, &kind.value, pair.at,
-                &slot.value, &subchannel.value, &index.value) != 0)
+    if (bp_look(s->mode, s->size, row->cell, row->mask, symbol, row->list->numbers, row->list->len, grid.at, grid_floats(s),
+                carrier, &kind.value, pair.at, &slot.value, &subchannel.value, &index.value) != 0)
         return 0;
-    if (bp_locate(s->mode, s->size, row->cell, symbol, carrier, &what, &a, &b, &m) != 0)
+    if (bp_locate(s->mode, s->size, row->cell, symbol, carrier, row->list->numbers, row->list->len, &what, &a, &b, &m) != 0)
         return 0;
     uint32_t seen = seen_kind(s, row->cell, row->mask, carrier, what);
     int data = seen == KIND_DATA;
@@ -491,10 +497,16 @@ static int has_every_count(const struct setup *s, uint32_t mask)
     return s->size == 256 || (s->mode == PUSC_DL && (mask & (mask - 1)) == 0);
 }
 
-static const char *slot_difference(const struct setup *s, uint32_t cell, uint32_t mask, uint32_t slot,
-                                   const uint32_t pilot[2])
+/* A list that the mode takes: the first one is empty, the others are FUSC's. */
+static const struct pilot_list *good_list(const struct setup *s, unsigned turn)
 {
-    const struct grid_row row = {s->mode, s->size, cell, mask, slot, {pilot[0], pilot[1]},
+    return &good_lists[s->mode == FUSC ? 1 + turn % (COUNT(good_lists) - 1) : 0];
+}
+
+static const char *slot_difference(const struct setup *s, uint32_t cell, uint32_t mask, uint32_t slot, uint32_t turn)
+{
+    const uint32_t *pilot = pilots[turn % COUNT(pilots)];
+    const struct grid_row row = {s->mode, s->size, cell, mask, slot, good_list(s, turn), {pilot[0], pilot[1]},
                                  want_points, want_places, want_ground, want_grid};
     if (!work_out_ground(s, &row) || !work_out_points(s, &row))
         return "place or locate";
@@ -509,7 +521,7 @@ static const char *slot_difference(const struct setup *s, uint32_t cell, uint32_
 static int slot_differs(const struct setup *s, uint32_t cell, uint32_t mask, uint32_t slot)
 {
     static uint32_t turn = 0;
-    const char *what = slot_difference(s, cell, mask, slot, pilots[turn++ % COUNT(pilots)]);
+    const char *what = slot_difference(s, cell, mask, slot, turn++);
     if (what)
         printf("%s differs: mode %" PRIu32 " size %" PRIu32 " cell %" PRIu32 " mask %" PRIu32 " slot %" PRIu32 "\n", what,
                s->mode, s->size, cell, mask, slot);
@@ -547,7 +559,8 @@ static int test_rows(void)
     int wrong = COUNT(grid_rows) <= COUNT(setups);
     for (size_t i = 0; i < COUNT(grid_rows); i++) {
         const struct grid_row *row = &grid_rows[i];
-        const struct setup *s = &setups[i < COUNT(setups) ? i : PUSC_DL]; /* those past all setups are for masks */
+        /* Those past all setups are for masks, and for the lists of FUSC, the last setup. */
+        const struct setup *s = &setups[i < COUNT(setups) ? i : row->mode == PUSC_DL ? PUSC_DL : COUNT(setups) - 1];
         const char *what = row->mode == s->mode && row->size == s->size ? difference(s, row) : "the table";
         if (!what && !every_first_agrees(s, row))
             what = "empty_first by every count";
@@ -604,6 +617,20 @@ static size_t wrong_points(const struct setup *s, size_t right, unsigned turn)
     return turn % 8 < COUNT(others) ? others[turn % 8] : wrong_length(right, turn % 8 - COUNT(others));
 }
 
+/* A wrong list: one that no mode takes, or one that is another mode's. */
+static const struct pilot_list *wrong_list(const struct setup *s, unsigned turn)
+{
+    static unsigned next = 0;
+    if (turn == 0)
+        return &good_lists[s->mode == FUSC ? 0 : 1];
+    return &bad_lists[next++ % COUNT(bad_lists)];
+}
+
+static const struct pilot_list *some_list(const struct setup *s, int wrong, unsigned turn)
+{
+    return wrong ? wrong_list(s, turn) : good_list(s, turn);
+}
+
 /* A wrong subchannel: past the last, or one that is not lit. */
 static uint32_t wrong_subchannel(const struct setup *s, unsigned turn)
 {
@@ -625,54 +652,58 @@ static int all_untouched(void)
 
 static int ground_refusal_agrees(const struct setup *s, unsigned wrong_fields, unsigned turn)
 {
-    static const uint32_t questions[] = {1, 2, 3, 17, 4, 9, 0};
+    static const uint32_t questions[] = {1, 2, 3, 17, 4, 20, 9, 0};
     struct fields f = fields_of(s, SLOTS, wrong_fields, turn);
-    size_t grid_len = wrong_fields & 32 ? wrong_length(grid_floats(s), turn) : grid_floats(s);
+    const struct pilot_list *list = some_list(s, wrong_fields & 32, turn);
+    size_t grid_len = wrong_fields & 64 ? wrong_length(grid_floats(s), turn) : grid_floats(s);
     spoil_all();
-    return bp_ground(f.mode, f.size, f.cell, f.mask, f.slot, pair.at, grid.at, grid_len) ==
+    return bp_ground(f.mode, f.size, f.cell, f.mask, f.slot, list->numbers, list->len, pair.at, grid.at, grid_len) ==
                first_refusal(wrong_fields, questions) &&
            all_untouched();
 }
 
 static int lay_refusal_agrees(const struct setup *s, unsigned wrong_fields, unsigned turn)
 {
-    static const uint32_t questions[] = {1, 2, 3, 17, 4, 5, 8, 9, 0};
+    static const uint32_t questions[] = {1, 2, 3, 17, 4, 5, 20, 8, 9, 0};
     struct fields f = fields_of(s, SLOTS, wrong_fields, turn);
     uint32_t subchannel = wrong_fields & 32 ? wrong_subchannel(s, turn) : s->subchannels - 1;
-    size_t points_len = wrong_fields & 64 ? wrong_laid(s, turn) : LAID;
-    size_t grid_len = wrong_fields & 128 ? wrong_length(grid_floats(s), turn / 2) : grid_floats(s);
+    const struct pilot_list *list = some_list(s, wrong_fields & 64, turn);
+    size_t points_len = wrong_fields & 128 ? wrong_laid(s, turn) : LAID;
+    size_t grid_len = wrong_fields & 256 ? wrong_length(grid_floats(s), turn / 2) : grid_floats(s);
     spoil_all();
-    return bp_lay(f.mode, f.size, f.cell, f.mask, f.slot, subchannel, points.at, points_len, grid.at, grid_len) ==
-               first_refusal(wrong_fields, questions) &&
+    return bp_lay(f.mode, f.size, f.cell, f.mask, f.slot, subchannel, list->numbers, list->len, points.at, points_len,
+                  grid.at, grid_len) == first_refusal(wrong_fields, questions) &&
            all_untouched();
 }
 
 static int empty_refusal_agrees(const struct setup *s, unsigned wrong_fields, unsigned turn)
 {
-    static const uint32_t questions[] = {1, 2, 3, 17, 4, 8, 9, 0};
+    static const uint32_t questions[] = {1, 2, 3, 17, 4, 20, 8, 9, 0};
     struct fields f = fields_of(s, SLOTS, wrong_fields, turn);
+    const struct pilot_list *list = some_list(s, wrong_fields & 32, turn);
     size_t right = points_floats(s, good_mask(s, turn));
-    size_t points_len = wrong_fields & 32 ? wrong_points(s, right, turn) : right;
-    size_t grid_len = wrong_fields & 64 ? wrong_length(grid_floats(s), turn / 2) : grid_floats(s);
+    size_t points_len = wrong_fields & 64 ? wrong_points(s, right, turn) : right;
+    size_t grid_len = wrong_fields & 128 ? wrong_length(grid_floats(s), turn / 2) : grid_floats(s);
     spoil_all();
-    return bp_empty(f.mode, f.size, f.cell, f.mask, f.slot, grid.at, grid_len, points.at, points_len) ==
-               first_refusal(wrong_fields, questions) &&
+    return bp_empty(f.mode, f.size, f.cell, f.mask, f.slot, list->numbers, list->len, grid.at, grid_len, points.at,
+                    points_len) == first_refusal(wrong_fields, questions) &&
            all_untouched();
 }
 
 /* The count has no part in a refusal. */
 static int empty_first_refusal_agrees(const struct setup *s, unsigned wrong_fields, unsigned turn)
 {
-    static const uint32_t questions[] = {1, 2, 3, 17, 4, 8, 9, 0};
+    static const uint32_t questions[] = {1, 2, 3, 17, 4, 20, 8, 9, 0};
     const uint32_t counts[] = {0, 1, carriers_of(s), UINT32_MAX};
     struct fields f = fields_of(s, SLOTS, wrong_fields, turn);
+    const struct pilot_list *list = some_list(s, wrong_fields & 32, turn);
     size_t right = points_floats(s, good_mask(s, turn));
-    size_t points_len = wrong_fields & 32 ? wrong_points(s, right, turn) : right;
-    size_t grid_len = wrong_fields & 64 ? wrong_length(grid_floats(s), turn / 2) : grid_floats(s);
+    size_t points_len = wrong_fields & 64 ? wrong_points(s, right, turn) : right;
+    size_t grid_len = wrong_fields & 128 ? wrong_length(grid_floats(s), turn / 2) : grid_floats(s);
     spoil_all();
     for (size_t n = 0; n < COUNT(counts); n++)
-        if (bp_empty_first(f.mode, f.size, f.cell, f.mask, f.slot, counts[n], grid.at, grid_len, points.at,
-                           points_len) != first_refusal(wrong_fields, questions))
+        if (bp_empty_first(f.mode, f.size, f.cell, f.mask, f.slot, counts[n], list->numbers, list->len, grid.at, grid_len,
+                           points.at, points_len) != first_refusal(wrong_fields, questions))
             return 0;
     return all_untouched();
 }
@@ -687,17 +718,63 @@ static int32_t wrong_carrier(const struct setup *s, unsigned turn)
 
 static int look_refusal_agrees(const struct setup *s, unsigned wrong_fields, unsigned turn)
 {
-    static const uint32_t questions[] = {1, 2, 3, 17, 4, 7, 9, 0};
+    static const uint32_t questions[] = {1, 2, 3, 17, 4, 7, 20, 9, 0};
     struct fields f = fields_of(s, SLOTS * s->symbols, wrong_fields, turn);
     int32_t right = turn % 2 ? -half(s) : half(s) - 1;
     int32_t carrier = wrong_fields & 32 ? wrong_carrier(s, turn) : right;
-    size_t grid_len = wrong_fields & 64 ? wrong_length(grid_floats(s), turn) : grid_floats(s);
+    const struct pilot_list *list = some_list(s, wrong_fields & 64, turn);
+    size_t grid_len = wrong_fields & 128 ? wrong_length(grid_floats(s), turn) : grid_floats(s);
     struct out kind = fresh(), slot = fresh(), subchannel = fresh(), index = fresh();
     spoil_all();
-    return bp_look(f.mode, f.size, f.cell, f.mask, f.slot, grid.at, grid_len, carrier, &kind.value, pair.at, &slot.value,
-                   &subchannel.value, &index.value) == first_refusal(wrong_fields, questions) &&
+    return bp_look(f.mode, f.size, f.cell, f.mask, f.slot, list->numbers, list->len, grid.at, grid_len, carrier, &kind.value,
+                   pair.at, &slot.value, &subchannel.value, &index.value) == first_refusal(wrong_fields, questions) &&
            told(&kind, untold) && told(&slot, untold) && told(&subchannel, untold) && told(&index, untold) &&
            all_untouched();
+}
+
+/* Of a call without a mask: the fourth field of a set is the slot. */
+static struct fields maskless(const struct setup *s, uint32_t slots, unsigned wrong_fields, unsigned turn)
+{
+    return fields_of(s, slots, (wrong_fields & 7) | (wrong_fields & 8) << 1, turn);
+}
+
+static int place_refusal_agrees(const struct setup *s, unsigned wrong_fields, unsigned turn)
+{
+    static const uint32_t questions[] = {1, 2, 3, 4, 5, 6, 20, 0};
+    struct fields f = maskless(s, SLOTS, wrong_fields, turn);
+    uint32_t subchannel = wrong_fields & 16 ? past(s->subchannels, turn) : s->subchannels - 1;
+    uint32_t index = wrong_fields & 32 ? past(POINTS, turn) : POINTS - 1;
+    const struct pilot_list *list = some_list(s, wrong_fields & 64, turn);
+    struct out symbol = fresh();
+    int32_t carrier = INT32_MIN;
+    return bp_place(f.mode, f.size, f.cell, f.slot, subchannel, index, list->numbers, list->len, &symbol.value, &carrier) ==
+               first_refusal(wrong_fields, questions) &&
+           told(&symbol, untold) && carrier == INT32_MIN;
+}
+
+static int places_refusal_agrees(const struct setup *s, unsigned wrong_fields, unsigned turn)
+{
+    static const uint32_t questions[] = {1, 2, 3, 4, 5, 20, 0};
+    struct fields f = maskless(s, SLOTS, wrong_fields, turn);
+    uint32_t subchannel = wrong_fields & 16 ? past(s->subchannels, turn) : s->subchannels - 1;
+    const struct pilot_list *list = some_list(s, wrong_fields & 32, turn);
+    uint32_t places[POINTS];
+    memcpy(places, old_bits, sizeof places);
+    return bp_places(f.mode, f.size, f.cell, f.slot, subchannel, list->numbers, list->len, places) ==
+               first_refusal(wrong_fields, questions) &&
+           memcmp(places, old_bits, sizeof places) == 0;
+}
+
+static int locate_refusal_agrees(const struct setup *s, unsigned wrong_fields, unsigned turn)
+{
+    static const uint32_t questions[] = {1, 2, 3, 4, 7, 20, 0};
+    struct fields f = maskless(s, SLOTS * s->symbols, wrong_fields, turn);
+    int32_t carrier = wrong_fields & 16 ? wrong_carrier(s, turn) : turn % 2 ? -half(s) : half(s) - 1;
+    const struct pilot_list *list = some_list(s, wrong_fields & 32, turn);
+    struct out kind = fresh(), slot = fresh(), subchannel = fresh(), index = fresh();
+    return bp_locate(f.mode, f.size, f.cell, f.slot, carrier, list->numbers, list->len, &kind.value, &slot.value,
+                     &subchannel.value, &index.value) == first_refusal(wrong_fields, questions) &&
+           told(&kind, untold) && told(&slot, untold) && told(&subchannel, untold) && told(&index, untold);
 }
 
 /* Each call and how many of its fields can be wrong. */
@@ -706,11 +783,14 @@ static const struct refusing {
     unsigned fields;
     int (*agrees)(const struct setup *s, unsigned wrong_fields, unsigned turn);
 } refusing[] = {
-    {"ground", 6, ground_refusal_agrees},
-    {"lay", 8, lay_refusal_agrees},
-    {"empty", 7, empty_refusal_agrees},
-    {"empty_first", 7, empty_first_refusal_agrees},
-    {"look", 7, look_refusal_agrees},
+    {"ground", 7, ground_refusal_agrees},
+    {"lay", 9, lay_refusal_agrees},
+    {"empty", 8, empty_refusal_agrees},
+    {"empty_first", 8, empty_first_refusal_agrees},
+    {"look", 8, look_refusal_agrees},
+    {"place", 7, place_refusal_agrees},
+    {"places", 6, places_refusal_agrees},
+    {"locate", 6, locate_refusal_agrees},
 };
 
 static int call_refuses(const struct refusing *call, const struct setup *s)

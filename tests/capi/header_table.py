@@ -14,7 +14,8 @@ sys.path.insert(0, TESTS)
 import reference as ref
 
 HEADER = os.path.join(os.path.dirname(TESTS), "include", "bellpulsar.h")
-NAMES = ["PUSC downlink", "PUSC uplink", "optional FUSC", *("AMC %dx%d" % shape for shape in ref.SHAPES.values())]
+AMC_NAMES = ["AMC %dx%d" % shape for shape in ref.SHAPES.values()]
+NAMES = ["PUSC downlink", "PUSC uplink", "optional FUSC", *AMC_NAMES, "FUSC"]
 
 
 def ends(numbers):

@@ -9,12 +9,36 @@ import sys
 
 sys.path.insert(0, os.path.dirname(os.path.dirname(os.path.abspath(__file__))))
 
+import pilot_lists
 import reference as ref
 
 LARGEST = 2**32 - 1
 LEAST_CARRIER, GREATEST_CARRIER = -(2**31), 2**31 - 1
 KINDS = {ref.GUARD: 0, ref.DC: 1, ref.PILOT: 2, ref.DATA: 3}
 SETUPS = [(mode, size) for mode in ref.MODES for size in ref.sizes(mode)]
+
+
+def bad_lists(dice):
+    """Lists that no mode takes: each damage of a few good ones, and short ones, some of which have nothing wrong but that."""
+    goods = [pilot_lists.EVEN, pilot_lists.END, pilot_lists.random_list(dice)]
+    damaged = [damage(dice, good) for damage in pilot_lists.DAMAGES.values() for good in goods]
+    return [pilots for pilots in damaged if pilots] + [(0,), (5, 1701), (LARGEST,)]
+
+
+# A row has its pilot list by its number: the empty one, those that FUSC takes, and those that no mode takes.
+SOME_DICE = random.Random(20)
+GOOD_LISTS = [*pilot_lists.GOOD.values(), pilot_lists.random_list(SOME_DICE), pilot_lists.random_list(SOME_DICE)]
+LISTS = [(), *GOOD_LISTS, *bad_lists(SOME_DICE)]
+
+
+def some_list(dice, mode):
+    """The number of a list that the mode takes."""
+    return dice.randrange(1, 1 + len(GOOD_LISTS)) if mode == ref.FUSC else 0
+
+
+def other_list(dice, mode):
+    """That of a list which the mode does not take, or at times of one that it takes."""
+    return dice.choice([0, dice.randrange(1 + len(GOOD_LISTS), len(LISTS)), dice.randrange(len(LISTS))])
 
 
 def wrong(dice, good, limit):
@@ -38,29 +62,36 @@ def spoiled(dice, good, limits, others={}):
     return fields
 
 
-def place_row(fields):
-    return fields + list(ref.place(*fields))
+def with_lists(dice, row, mode, good, other):
+    """A row of the good fields, one of the others with the same list or another, and one of the good with another."""
+    yield row(good, some_list(dice, mode))
+    yield row(other, dice.choice([some_list, some_list, other_list])(dice, mode))
+    if dice.randrange(4) == 0:
+        yield row(good, other_list(dice, mode))
 
 
-def locate_row(fields):
-    number, what = ref.locate(*fields)
+def place_row(fields, pilots):
+    return fields + [pilots] + list(ref.place(*fields, LISTS[pilots]))
+
+
+def locate_row(fields, pilots):
+    number, what = ref.locate(*fields, LISTS[pilots])
     if number:
-        return fields + [number, 0, 0, 0, 0]
+        return fields + [pilots, number, 0, 0, 0, 0]
     address = list(what[1:]) if what[0] == ref.DATA else [0, 0, 0]
-    return fields + [0, KINDS[what[0]]] + address
+    return fields + [pilots, 0, KINDS[what[0]]] + address
 
 
 def place_rows(dice, mode, size):
     limits = [ref.UNLISTED, 2049, ref.cells(mode, size), 512, ref.subchannels(mode, size), 48]
     for _ in range(300):
         good = [mode, size] + [dice.randrange(limit) for limit in limits[2:]]
-        yield place_row(good)
-        yield place_row(spoiled(dice, good, limits))
+        yield from with_lists(dice, place_row, mode, good, spoiled(dice, good, limits))
 
 
-def places_row(fields):
-    number, places = ref.places(*fields)
-    return fields + [number, places or [0]]
+def places_row(fields, pilots):
+    number, places = ref.places(*fields, LISTS[pilots])
+    return fields + [pilots, number, places or [0]]
 
 
 def places_rows(dice, mode, size):
@@ -69,8 +100,7 @@ def places_rows(dice, mode, size):
     ends = [[dice.randrange(limits[2]), slot, s] for slot in (0, 1, 2, 511) for s in (0, limits[4] - 1)]
     for fields in ends + [[dice.randrange(limit) for limit in limits[2:]] for _ in range(40)]:
         good = [mode, size] + fields
-        yield places_row(good)
-        yield places_row(spoiled(dice, good, limits))
+        yield from with_lists(dice, places_row, mode, good, spoiled(dice, good, limits))
 
 
 def carrier_edges(size):
@@ -87,8 +117,8 @@ def locate_rows(dice, mode, size):
         cell, symbol = dice.randrange(limits[2]), dice.randrange(limits[3])
         for carrier in carrier_edges(size) + [low - 1, low, high, high + 1] + dice.choices(ref.carriers(size), k=50):
             fields = [mode, size, cell, symbol, carrier]
-            yield locate_row(fields)
-            yield locate_row(spoiled(dice, fields, limits, {4: wrong_carrier}))
+            other = spoiled(dice, fields, limits, {4: wrong_carrier})
+            yield from with_lists(dice, locate_row, mode, fields, other)
 
 
 def ofusc_row(fields):
@@ -136,7 +166,8 @@ def lit_rows():
     """Every mask about the range with every mode and size that is listed; masks cut to a right one; unlisted modes and
     sizes."""
     cut = [mask + off for mask in (1, 63) for off in (2**8, 2**16, 2**31)]
-    for mode, size in SETUPS + [(ref.UNLISTED, 2048), (LARGEST, 2048), (0, 1024), (0, 2049), (2, 128), (6, 0)]:
+    unlisted = [(ref.UNLISTED, 2048), (LARGEST, 2048), (0, 1024), (0, 2049), (2, 128), (6, 0), (7, 1024)]
+    for mode, size in SETUPS + unlisted:
         for mask in [*range(66), 127, 128, 255, *cut, LARGEST - 63, LARGEST - 1, LARGEST]:
             yield [mode, size, mask, ref.lit_points_len(mode, size, mask)]
 
@@ -155,6 +186,10 @@ def print_table(kind, name, rows):
     print("};")
 
 
+def print_lists(name, lists):
+    print_table("struct pilot_list", name, [[len(pilots), list(pilots) or [0]] for pilots in lists])
+
+
 def main():
     dice = random.Random(16)
     places = [row for setup in SETUPS for row in place_rows(dice, *setup)]
@@ -162,10 +197,14 @@ def main():
     rows = [row for setup in SETUPS for row in places_rows(dice, *setup)]
     ofuscs = [row for size in ref.sizes(ref.OFUSC) for row in ofusc_rows(dice, size)]
     amcs = list(amc_rows(dice))
-    assert {row[6] for row in places} == {0, 1, 2, 3, 4, 5, 6}
-    assert {row[5] for row in rows} == {0, 1, 2, 3, 4, 5}
-    assert {row[5] for row in locates} == {0, 1, 2, 3, 4, 7}
-    assert {row[6] for row in locates} == {0, 1, 2, 3}
+    assert {row[7] for row in places} == {0, 1, 2, 3, 4, 5, 6, 20}
+    assert {row[6] for row in rows} == {0, 1, 2, 3, 4, 5, 20}
+    assert {row[6] for row in locates} == {0, 1, 2, 3, 4, 7, 20}
+    assert {row[7] for row in locates} == {0, 1, 2, 3}
+    for made, number in ((places, 6), (rows, 5), (locates, 5)):
+        assert {row[number] for row in made} == set(range(len(LISTS)))
+        assert {tuple(row[:2]) for row in made if row[number + 1] == 20} >= set(SETUPS)
+    print_lists("pilot_lists", LISTS)
     assert {row[-1][0] for row in ofuscs} == {0, 2, 3, 5}
     assert {row[-1][0] for row in amcs} == {0, 3}
     assert {row[-1][2] for row in ofuscs} >= {0, 1, 2, 3, 48}

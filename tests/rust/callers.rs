@@ -32,10 +32,24 @@ fn refused(number: u32) -> Refusal {
     Refusal::ALL[number as usize - 1]
 }
 
-/// A row's setup. An unlisted mode is refused here, and the call is not made.
-fn setup(mode: u32, size: u32, cell: u32) -> Result<Setup, Refusal> {
+/// The pilot lists, by number.
+fn lists() -> Vec<Vec<u32>> {
+    let read = |row: Vec<u32>| {
+        assert_eq!(row[0] as usize, row.len() - 1, "{row:?}");
+        row[1..].to_vec()
+    };
+    rows("list", 30).into_iter().map(read).collect()
+}
+
+/// A row's setup. An unlisted mode is refused here, and the call is not made. With an empty list it is the setup alone, as
+/// callers of most modes give it.
+fn setup(mode: u32, size: u32, cell: u32, pilots: &[u32]) -> Result<Piloted<'_>, Refusal> {
     let mode = Mode::try_from(mode)?;
-    Ok(Setup { mode, size, cell })
+    let alone = Setup { mode, size, cell };
+    Ok(match pilots {
+        [] => alone.into(),
+        pilots => alone.with_pilots(pilots),
+    })
 }
 
 /// Floats lent to a call, and guards on both sides.
@@ -90,10 +104,13 @@ fn point_of(bits: &[u32]) -> Point {
 
 #[test]
 fn place_agrees() {
-    for row in rows("place", 13000) {
-        let [mode, size, cell, slot, subchannel, index, refusal, symbol, carrier] = row[..] else {
+    let lists = lists();
+    for row in rows("place", 15000) {
+        let [mode, size, cell, slot, subchannel, index, list, refusal, symbol, carrier] = row[..]
+        else {
             panic!("{row:?}")
         };
+        let setup = setup(mode, size, cell, &lists[list as usize]);
         let address = Address {
             slot,
             subchannel,
@@ -101,7 +118,7 @@ fn place_agrees() {
         };
         let carrier = carrier as i32;
         assert_eq!(
-            setup(mode, size, cell).and_then(|setup| place(setup, address)),
+            setup.and_then(|setup| place(setup, address)),
             expected(refusal, Place { symbol, carrier }),
             "{row:?}"
         );
@@ -110,14 +127,16 @@ fn place_agrees() {
 
 #[test]
 fn places_agree() {
-    for row in rows("places", 2600) {
-        let [mode, size, cell, slot, subchannel, refusal] = row[..6] else {
+    let lists = lists();
+    for row in rows("places", 2400) {
+        let [mode, size, cell, slot, subchannel, list, refusal] = row[..7] else {
             panic!("{row:?}")
         };
-        let table = setup(mode, size, cell).and_then(|setup| places(setup, slot, subchannel));
+        let setup = setup(mode, size, cell, &lists[list as usize]);
+        let table = setup.and_then(|setup| places(setup, slot, subchannel));
         assert_eq!(
             table.map(Vec::from),
-            expected(refusal, row[6..].to_vec()),
+            expected(refusal, row[7..].to_vec()),
             "{row:?}"
         );
     }
@@ -150,8 +169,10 @@ fn lit_lengths_agree() {
 
 #[test]
 fn locate_agrees() {
-    for row in rows("locate", 16000) {
-        let [mode, size, cell, symbol, carrier, refusal, kind, slot, subchannel, index] = row[..]
+    let lists = lists();
+    for row in rows("locate", 19000) {
+        let [mode, size, cell, symbol, carrier, list, refusal, kind, slot, subchannel, index] =
+            row[..]
         else {
             panic!("{row:?}")
         };
@@ -167,7 +188,8 @@ fn locate_agrees() {
         };
         let carrier = carrier as i32;
         let at = Place { symbol, carrier };
-        let located = setup(mode, size, cell).and_then(|setup| locate(setup, at));
+        let setup = setup(mode, size, cell, &lists[list as usize]);
+        let located = setup.and_then(|setup| locate(setup, at));
         assert_eq!(located, expected(refusal, content), "{row:?}");
     }
 }
@@ -175,6 +197,7 @@ fn locate_agrees() {
 /// A row `grid`; the points and places are those of the lit subchannels.
 struct Grid {
     setup: Setup,
+    pilots: Vec<u32>,
     mask: u32,
     slot: u32,
     pilot: Point,
@@ -189,6 +212,10 @@ struct Grid {
 const LAID: usize = 96;
 
 impl Grid {
+    fn piloted(&self) -> Piloted<'_> {
+        self.setup.with_pilots(&self.pilots)
+    }
+
     /// Which of the lit subchannels it is.
     fn rank(&self, subchannel: u32) -> Option<usize> {
         self.lit.iter().position(|lit| *lit == subchannel)
@@ -205,7 +232,7 @@ impl Grid {
         let refusal = if self.lit.contains(&subchannel) { 0 } else { 5 };
         assert_eq!(
             lay(
-                self.setup,
+                self.piloted(),
                 self.mask,
                 self.slot,
                 subchannel,
@@ -219,16 +246,18 @@ impl Grid {
 }
 
 fn grids() -> Vec<Grid> {
+    let lists = lists();
     let read = |row: Vec<u32>| {
-        let (lit, rest) = row[8..].split_at(row[7] as usize);
+        let (lit, rest) = row[9..].split_at(row[8] as usize);
         let (points, rest) = rest.split_at(LAID * lit.len());
         let (places, rest) = rest.split_at(points.len() / 2);
         let (ground, grid) = rest.split_at(rest.len() / 2);
         Grid {
-            setup: setup(row[0], row[1], row[2]).unwrap(),
+            setup: setup(row[0], row[1], row[2], &[]).unwrap().setup,
+            pilots: lists[row[5] as usize].clone(),
             mask: row[3],
             slot: row[4],
-            pilot: point_of(&row[5..7]),
+            pilot: point_of(&row[6..8]),
             lit: lit.to_vec(),
             points: points.to_vec(),
             places: places.to_vec(),
@@ -236,14 +265,14 @@ fn grids() -> Vec<Grid> {
             grid: Lent::new(grid),
         }
     };
-    rows("grid", 28).into_iter().map(read).collect()
+    rows("grid", 35).into_iter().map(read).collect()
 }
 
 /// A grid of any floats with the ground laid on it.
 fn grounded(of: &Grid) -> Lent {
     let mut grid = Lent::spoiled(of.ground.at().len());
     assert_eq!(
-        ground(of.setup, of.mask, of.slot, of.pilot, grid.at_mut()),
+        ground(of.piloted(), of.mask, of.slot, of.pilot, grid.at_mut()),
         Ok(())
     );
     grid
@@ -277,7 +306,7 @@ fn a_lay_writes_its_own_floats_alone() {
 #[test]
 fn ground_and_lays_give_the_grid() {
     let grids = grids();
-    for row in rows("order", 28) {
+    for row in rows("order", 35) {
         let (of, order) = (&grids[row[0] as usize], &row[1..]);
         let mut grid = grounded(of);
         for (n, subchannel) in order.iter().enumerate() {
@@ -304,7 +333,14 @@ fn a_row_of_lit_points_is_laid() {
         let mut next = points.at().chunks(LAID).peekable();
         for subchannel in 0..subchannels as u32 {
             let Some(own) = next.peek() else { break };
-            let laid = lay(of.setup, of.mask, of.slot, subchannel, own, grid.at_mut());
+            let laid = lay(
+                of.piloted(),
+                of.mask,
+                of.slot,
+                subchannel,
+                own,
+                grid.at_mut(),
+            );
             if laid.is_ok() {
                 next.next();
             } else {
@@ -321,7 +357,7 @@ fn empty_keeps_every_bit() {
         let lit = lit_points_len(of.setup.mode, of.setup.size, of.mask);
         let mut back = Lent::spoiled(lit);
         assert_eq!(
-            empty(of.setup, of.mask, of.slot, of.grid.at(), back.at_mut()),
+            empty(of.piloted(), of.mask, of.slot, of.grid.at(), back.at_mut()),
             Ok(())
         );
         assert!(back.is(&Lent::new(&of.points)), "empty {:?}", of.setup);
@@ -332,7 +368,7 @@ fn empty_keeps_every_bit() {
 #[test]
 fn empty_first_writes_the_points_of_these_carriers_alone() {
     let grids = grids();
-    for row in rows("first", 940) {
+    for row in rows("first", 1000) {
         let (of, carriers) = (&grids[row[0] as usize], row[1]);
         let mut back = Lent::spoiled(of.points.len());
         let mut expected = Lent::spoiled(of.points.len());
@@ -344,7 +380,7 @@ fn empty_first_writes_the_points_of_these_carriers_alone() {
         }
         assert_eq!(
             empty_first(
-                of.setup,
+                of.piloted(),
                 of.mask,
                 of.slot,
                 carriers,
@@ -359,12 +395,13 @@ fn empty_first_writes_the_points_of_these_carriers_alone() {
 
 #[test]
 fn ground_refuses_and_writes_nothing() {
-    for row in rows("ground", 8000) {
-        let [mode, size, cell, mask, slot, grid_len, refusal] = row[..] else {
+    let lists = lists();
+    for row in rows("ground", 17000) {
+        let [mode, size, cell, mask, slot, list, grid_len, refusal] = row[..] else {
             panic!("{row:?}")
         };
         let mut grid = Lent::spoiled(grid_len as usize);
-        let setup = setup(mode, size, cell);
+        let setup = setup(mode, size, cell, &lists[list as usize]);
         assert_eq!(
             setup.and_then(|setup| ground(setup, mask, slot, [1.0, -1.0], grid.at_mut())),
             Err(refused(refusal)),
@@ -376,14 +413,16 @@ fn ground_refuses_and_writes_nothing() {
 
 #[test]
 fn lay_refuses_and_writes_nothing() {
-    for row in rows("lay", 16000) {
-        let [mode, size, cell, mask, slot, subchannel, points_len, grid_len, refusal] = row[..]
+    let lists = lists();
+    for row in rows("lay", 35000) {
+        let [mode, size, cell, mask, slot, subchannel, list, points_len, grid_len, refusal] =
+            row[..]
         else {
             panic!("{row:?}")
         };
         let points = Lent::spoiled(points_len as usize);
         let mut grid = Lent::spoiled(grid_len as usize);
-        let setup = setup(mode, size, cell);
+        let setup = setup(mode, size, cell, &lists[list as usize]);
         assert_eq!(
             setup.and_then(|setup| lay(setup, mask, slot, subchannel, points.at(), grid.at_mut())),
             Err(refused(refusal)),
@@ -397,13 +436,14 @@ fn lay_refuses_and_writes_nothing() {
 /// And empty_first as empty does, whatever the count.
 #[test]
 fn empty_refuses_and_writes_nothing() {
-    for row in rows("empty", 8000) {
-        let [mode, size, cell, mask, slot, points_len, grid_len, refusal] = row[..] else {
+    let lists = lists();
+    for row in rows("empty", 23000) {
+        let [mode, size, cell, mask, slot, list, points_len, grid_len, refusal] = row[..] else {
             panic!("{row:?}")
         };
         let mut points = Lent::spoiled(points_len as usize);
         let grid = Lent::spoiled(grid_len as usize);
-        let setup = setup(mode, size, cell);
+        let setup = setup(mode, size, cell, &lists[list as usize]);
         assert_eq!(
             setup.and_then(|setup| empty(setup, mask, slot, grid.at(), points.at_mut())),
             Err(refused(refusal)),
@@ -428,6 +468,24 @@ fn empty_refuses_and_writes_nothing() {
     }
 }
 
+/// Each call that takes one, on grids of FUSC.
+#[test]
+fn no_call_writes_to_a_list() {
+    let of_fusc = |of: &Grid| of.setup.mode == Mode::Fusc;
+    for of in grids().into_iter().filter(of_fusc) {
+        let (kept, mut grid) = (of.pilots.clone(), grounded(&of));
+        let mut back = Lent::spoiled(of.points.len());
+        let at = place(of.piloted(), Address::default()).unwrap();
+        locate(of.piloted(), at).unwrap();
+        places(of.piloted(), of.slot, 31).unwrap();
+        of.lay(31, of.laid(31), &mut grid);
+        empty(of.piloted(), 0, of.slot, grid.at(), back.at_mut()).unwrap();
+        empty_first(of.piloted(), 0, of.slot, 2048, grid.at(), back.at_mut()).unwrap();
+        look(of.piloted(), 0, at.symbol, grid.at(), at.carrier).unwrap();
+        assert_eq!(of.pilots, kept);
+    }
+}
+
 /// What was seen as the row has it: kind, the point's bits, address.
 fn numbers(seen: Seen) -> [u32; 6] {
     match seen {
@@ -447,9 +505,9 @@ fn numbers(seen: Seen) -> [u32; 6] {
 #[test]
 fn look_agrees() {
     let grids = grids();
-    for row in rows("look", 4600) {
+    for row in rows("look", 5000) {
         let of = &grids[row[0] as usize];
-        let seen = look(of.setup, of.mask, row[1], of.grid.at(), row[2] as i32).map(numbers);
+        let seen = look(of.piloted(), of.mask, row[1], of.grid.at(), row[2] as i32).map(numbers);
         assert_eq!(
             seen.as_ref().map(|seen| &seen[..]),
             Ok(&row[3..]),
@@ -460,12 +518,13 @@ fn look_agrees() {
 
 #[test]
 fn look_refuses() {
-    for row in rows("unseen", 11000) {
-        let [mode, size, cell, mask, symbol, carrier, grid_len, refusal] = row[..] else {
+    let lists = lists();
+    for row in rows("unseen", 23000) {
+        let [mode, size, cell, mask, symbol, carrier, list, grid_len, refusal] = row[..] else {
             panic!("{row:?}")
         };
         let grid = Lent::spoiled(grid_len as usize);
-        let setup = setup(mode, size, cell);
+        let setup = setup(mode, size, cell, &lists[list as usize]);
         let seen = setup.and_then(|setup| look(setup, mask, symbol, grid.at(), carrier as i32));
         assert_eq!(seen.map(numbers), Err(refused(refusal)), "{row:?}");
     }
@@ -639,7 +698,7 @@ fn modes_are_the_headers() {
 #[test]
 fn modes_have_names() {
     let names = [
-        "pusc-dl", "pusc-ul", "ofusc", "amc-6x1", "amc-2x3", "amc-3x2", "amc-1x6",
+        "pusc-dl", "pusc-ul", "ofusc", "amc-6x1", "amc-2x3", "amc-3x2", "amc-1x6", "fusc",
     ];
     for (n, mode) in Mode::ALL.iter().enumerate() {
         assert_eq!(mode.to_string(), names[n]);
@@ -648,7 +707,7 @@ fn modes_have_names() {
     }
     for word in [
         "",
-        "7",
+        "8",
         "-1",
         "+2",
         "02",

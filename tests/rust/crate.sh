@@ -37,12 +37,17 @@ fn main() -> Result<(), Refusal> {
     let setup = Setup { mode: Mode::Ofusc, size: 1024, cell: 17 };
     let at = place(setup, Address { slot: 0, subchannel: 0, index: 0 })?;
     println!("version {} symbol {} carrier {}", version(), at.symbol, at.carrier);
+
+    let pilots: Vec<u32> = (26..1677).step_by(10).collect();
+    let setup = Setup { mode: Mode::Fusc, size: 2048, cell: 0 };
+    let at = place(setup.with_pilots(&pilots), Address { slot: 3, subchannel: 31, index: 46 })?;
+    println!("symbol {} carrier {}", at.symbol, at.carrier);
     Ok(())
 }
 END
     said=$(cargo run --quiet --offline --release --manifest-path "$program/Cargo.toml")
-    [ "$said" = "version $((major * 10000 + minor * 100 + patch)) symbol 0 carrier -425" ] ||
-        fail "a program of edition $edition says: $said"
+    [ "$said" = "version $((major * 10000 + minor * 100 + patch)) symbol 0 carrier -425
+symbol 3 carrier -217" ] || fail "a program of edition $edition says: $said"
 done
 
 # From here on a copy of the crate in a project with a build.sh of its own, which is not to be run.

@@ -2,20 +2,21 @@
 
     python3 tests/rust/rows.py > build/rust/rows.txt
 
-    place     mode size cell slot subchannel index; refusal symbol carrier
-    places    mode size cell slot subchannel; refusal places(48)
-    locate    mode size cell symbol carrier; refusal kind slot subchannel index
+    list      n; the n pilots of a list. The rows below have a list by its number, of which 0 is the empty one
+    place     mode size cell slot subchannel index list; refusal symbol carrier
+    places    mode size cell slot subchannel list; refusal, where it is 0 places(48)
+    locate    mode size cell symbol carrier list; refusal kind slot subchannel index
     length    mode size; points_len grid_len
     lit       mode size mask; lit_points_len
-    grid      mode size cell mask slot pilot(2) n; the n lit subchannels, their points, where each one's floats start in
+    grid      mode size cell mask slot list pilot(2) n; the n lit subchannels, their points, where each one's floats start in
               the grid, the ground, the grid; floats as bit patterns
     order     the number of a grid above; subchannels to lay, each at least once, unlit ones too
     first     the number of a grid above; how many of its carriers to empty
-    ground    mode size cell mask slot grid_len; refusal of ground
-    lay       mode size cell mask slot subchannel points_len grid_len; refusal of lay
-    empty     mode size cell mask slot points_len grid_len; refusal of empty and of empty_first
+    ground    mode size cell mask slot list grid_len; refusal of ground
+    lay       mode size cell mask slot subchannel list points_len grid_len; refusal of lay
+    empty     mode size cell mask slot list points_len grid_len; refusal of empty and of empty_first
     look      the number of a grid above, symbol carrier; kind point(2) slot subchannel index
-    unseen    mode size cell mask symbol carrier grid_len; refusal of look
+    unseen    mode size cell mask symbol carrier list grid_len; refusal of look
     ofusc     size cell subchannel cell subchannel; refusal count hits(48)
     amc       cell cell; refusal count hits(48)
     read      length bytes; refusal count size zones(32)
@@ -66,29 +67,26 @@ def setups(dice, mode, size, turn):
     return [mode, size, cells - 1, mask], [ref.UNLISTED, 128, cells, dice.choice(others + [2**32 - 1])]
 
 
-def places_row(fields):
-    refused = ref.place(*fields, 0)[0]
-    if refused:
-        return fields + [refused] + [0] * ref.POINTS
-    mode, size = fields[:2]
-    placed = [ref.place(*fields, index)[1:] for index in range(ref.POINTS)]
-    return fields + [0] + [symbol % ref.SLOT_LENGTH[mode] * size + size // 2 + carrier for symbol, carrier in placed]
-
-
 def places_rows(dice, mode, size):
-    limits = [ref.UNLISTED, 2049, ref.cells(mode, size), ref.SLOTS, ref.subchannels(mode, size)]
-    for _ in range(60):
-        good = [mode, size] + [dice.randrange(limit) for limit in limits[2:]]
-        yield places_row(good)
-        yield places_row(table.spoiled(dice, good, limits))
+    for *fields, places in table.places_rows(dice, mode, size):
+        yield fields + places
+
+
+def lists(dice, mode):
+    """The number of a list that a mode takes, and of one that it does not take."""
+    goods, last = len(table.GOOD_LISTS), len(table.LISTS) - 1
+    other = dice.choice([0, dice.randint(goods + 1, last)]) if mode == ref.FUSC else dice.randint(1, last)
+    return table.some_list(dice, mode), other
 
 
 def ground_rows(dice, mode, size):
     points, grid = 96 * ref.subchannels(mode, size), ref.grid_floats(mode, size)
     for turn in range(6):
         good, wrong = setups(dice, mode, size, turn)
-        for fields in wrong_sets(good + [511, grid], wrong + [512, wrong_length(dice, grid, points)]):
-            yield fields + [ref.ground_refusal(*fields)]
+        pilots, other = lists(dice, mode)
+        for fields in wrong_sets(good + [511, pilots, grid], wrong + [512, other, wrong_length(dice, grid, points)]):
+            *first, pilots, grid_len = fields
+            yield fields + [ref.ground_refusal(*first, grid_len, table.LISTS[pilots])]
 
 
 def lay_rows(dice, mode, size):
@@ -98,9 +96,11 @@ def lay_rows(dice, mode, size):
         good, wrong = setups(dice, mode, size, turn)
         lit = ref.lit_subchannels(mode, size, good[3])
         unlit = dice.choice([s for s in range(subchannels) if s not in lit] or [subchannels])
-        right = good + [511, subchannels - 1, 96, grid]
-        for fields in wrong_sets(right, wrong + [512, unlit, length, wrong_length(dice, grid, 96 * subchannels)]):
-            yield fields + [ref.lay_refusal(*fields)]
+        pilots, other = lists(dice, mode)
+        right = good + [511, subchannels - 1, pilots, 96, grid]
+        for fields in wrong_sets(right, wrong + [512, unlit, other, length, wrong_length(dice, grid, 96 * subchannels)]):
+            *first, pilots, points_len, grid_len = fields
+            yield fields + [ref.lay_refusal(*first, points_len, grid_len, table.LISTS[pilots])]
 
 
 def empty_rows(dice, mode, size):
@@ -110,8 +110,11 @@ def empty_rows(dice, mode, size):
         good, wrong = setups(dice, mode, size, turn)
         points = ref.lit_points_len(mode, size, good[3])
         other = [every if points < every else 0, wrong_length(dice, points, grid), points + 96, points - 96][turn]
-        for fields in wrong_sets(good + [511, points, grid], wrong + [512, other, wrong_length(dice, grid, points)]):
-            yield fields + [ref.buffers_refusal(*fields)]
+        pilots, unfit = lists(dice, mode)
+        wrong += [512, unfit, other, wrong_length(dice, grid, points)]
+        for fields in wrong_sets(good + [511, pilots, points, grid], wrong):
+            *first, pilots, points_len, grid_len = fields
+            yield fields + [ref.buffers_refusal(*first, points_len, grid_len, table.LISTS[pilots])]
 
 
 def unseen_rows(dice, mode, size):
@@ -119,19 +122,21 @@ def unseen_rows(dice, mode, size):
     edges = [edge for edge in table.carrier_edges(size) if edge not in ref.carriers(size)]
     for turn, carrier in enumerate(edges):
         good, wrong = setups(dice, mode, size, turn)
-        right = good + [symbols - 1, dice.choice(ref.carriers(size)), grid]
+        pilots, other = lists(dice, mode)
+        right = good + [symbols - 1, dice.choice(ref.carriers(size)), pilots, grid]
         length = wrong_length(dice, grid, 96 * ref.subchannels(mode, size))
-        for fields in wrong_sets(right, wrong + [symbols, carrier, length]):
-            yield fields + [ref.look_refusal(*fields[:5], fields[6], fields[5])]
+        for fields in wrong_sets(right, wrong + [symbols, carrier, other, length]):
+            *first, at, pilots, grid_len = fields
+            yield fields + [ref.look_refusal(*first, grid_len, at, table.LISTS[pilots])]
 
 
-def look_rows(dice, number, mode, size, cell, mask, slot, grid):
+def look_rows(dice, number, mode, size, cell, mask, slot, grid, pilots):
     """Each offset of the slot: the edges of the range and of the band, DC and both beside it, and others."""
     length = ref.SLOT_LENGTH[mode]
     edges = [-size // 2, *ref.band(mode, size), -1, 0, 1, size // 2 - 1]
     for symbol in range(slot * length, (slot + 1) * length):
         for carrier in edges + dice.sample(ref.carriers(size), 60):
-            what = ref.look(mode, size, cell, mask, symbol, grid, carrier)[1]
+            what = ref.look(mode, size, cell, mask, symbol, grid, carrier, pilots)[1]
             told = list(what[1] if what[1:] else [0, 0]) + list(what[2:])
             yield [number, symbol, carrier, KINDS[what[0]]] + told + [0] * (5 - len(told))
 
@@ -152,16 +157,17 @@ def some_order(dice, subchannels):
 
 
 def print_grids(dice):
-    for number, (mode, size, mask) in enumerate(grid_table.CASES):
-        cell, slot, pilot, points, grid = grid_table.case(dice, mode, size, mask)
+    for number, (mode, size, mask, pilots) in enumerate(grid_table.CASES):
+        cell, slot, pilot, points, grid = grid_table.case(dice, mode, size, mask, pilots)
         lit = ref.lit_subchannels(mode, size, mask)
-        places = grid_table.places(mode, size, cell, mask, slot)
-        ground = grid_table.grounded(mode, size, cell, mask, slot, pilot)
-        line("grid", [mode, size, cell, mask, slot] + pilot + [len(lit), *lit] + points + places + ground + grid)
+        places = grid_table.places(mode, size, cell, mask, slot, pilots)
+        ground = grid_table.grounded(mode, size, cell, mask, slot, pilot, pilots)
+        fields = [mode, size, cell, mask, slot, table.LISTS.index(pilots)]
+        line("grid", fields + pilot + [len(lit), *lit] + points + places + ground + grid)
         line("order", [number] + some_order(dice, ref.subchannels(mode, size)))
         for count in some_counts(dice, mode, size):
             line("first", [number, count])
-        for row in look_rows(dice, number, mode, size, cell, mask, slot, grid):
+        for row in look_rows(dice, number, mode, size, cell, mask, slot, grid, pilots):
             line("look", row)
 
 
@@ -207,6 +213,8 @@ def print_plans():
 
 def main():
     dice = random.Random(1)
+    for pilots in table.LISTS:
+        line("list", [len(pilots), *pilots])
     for mode, size in table.SETUPS:
         for name, rows in [
             ("place", table.place_rows),

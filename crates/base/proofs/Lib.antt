@@ -3,6 +3,7 @@ pub mod Prelude
 pub mod Test
 pub mod Xor
 pub mod Perm
+pub mod Inner
 pub mod LeaveOut
 pub mod Table
 pub mod Tabulate

@@ -5,7 +5,7 @@ use Rattle.base.specs.{Answer.{Answer, accepted, refused}, Tabulate.tabulate}
 use Rattle.modes.specs.{Mode.subchannels, Question.isSubchannel}
 use Rattle.modes.proofs.ByMode.{few}
 use Rattle.zone.specs.{declared.Zone.Zone, Zone.{setupOf, fieldsRefusal}}
-use Rattle.zone.proofs.Judge.{fields-valid, fields-slots}
+use Rattle.zone.proofs.Judge.{fields-ranged, fields-slots}
 use Rattle.burst.specs.Burst.{burstAt, isCovering}
 use Rattle.burst.proofs.Cover.{inside-covers}
 use Rattle.burst_list.specs.Model.{listRefusal}
@@ -17,7 +17,7 @@ use Rattle.bursts.specs.{declared.OwnerRow.OwnerRow, Burst.askBursts, Ow
 module _ (size : ℕ) (zone : Zone) where
   -- where a zone's own questions are all answered yes, it is small
   pub zone-limits : fieldsRefusal size zone ≡ 0 → (subchannels (setupOf size zone) ≤ 192) × (zone .slots ≤ 512)
-  zone-limits e = (few (fields-valid size zone e) .subchannels-few, fields-slots size zone e)
+  zone-limits e = (few (fields-ranged size zone e) .subchannels-few, fields-slots size zone e)
 
   -- what the list's questions ask of it
   pub list-asks : {n s : ℕ} → n ≡ fieldsRefusal size zone → n ≡ 0 → s ≡ subchannels (setupOf size zone) → (s < 65536) × (zone .slots < 65536)

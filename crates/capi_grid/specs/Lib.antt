@@ -1,3 +1,2 @@
--- What a C call lends the engine, and what it writes of a row of places.
+-- What a C call lends the engine.
 pub mod Grid
-pub mod Places

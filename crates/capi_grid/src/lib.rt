@@ -1,15 +1,11 @@
-// The C calls that write a slot's grid, those that empty it, and that which tells where a subchannel's points stand in it. Each
-// returns 0, or document 01's refusal number; on a refusal nothing is written.
+// The C calls over a whole slot's grid: that which puts its pilots on it, and those that empty it. Each returns 0, or document
+// 01's refusal number; on a refusal nothing is written.
 use points::Point;
 ghost use mathlib.Core.Path.{_≡_};
-ghost use Rattle.modes.specs.Setup.{setupWith};
+ghost use Rattle.modes.specs.Setup.{setupLent};
 ghost use Rattle.ground.specs.Ground.{groundOf};
-ghost use Rattle.lay.specs.Lay.{layOf};
 ghost use Rattle.empty.specs.Empty.{emptyOf, emptyFirstOf};
-ghost use Rattle.places.specs.Places.{placesOf};
-ghost use Rattle.c_boundary.specs.Row.{RowOut};
 ghost use Rattle.capi_grid.specs.Grid.{pairPoint};
-ghost use Rattle.capi_grid.specs.Places.{placesOut};
 
 #[no_mangle]
 pub extern "C" fn bp_ground(
@@ -18,10 +14,11 @@ pub extern "C" fn bp_ground(
     cell: u32,
     mask: u32,
     slot: u32,
+    pilots: &[u32],
     pilot: &[f32; 2],
     grid: &mut [f32],
 ) -> u32
-    ensures { λ r. ⌜ record { refusal = r; buffer = now (grid .exit) } ≡ groundOf (setupWith mode size cell) mask slot (pairPoint (now (pilot .entry))) (now (grid .entry)) ⌝ }
+    ensures { λ r. ⌜ record { refusal = r; buffer = now (grid .exit) } ≡ groundOf (setupLent mode size cell (now (pilots .entry))) mask slot (pairPoint (now (pilot .entry))) (now (grid .entry)) ⌝ }
 {
     let p = Point {
         i: pilot[0],
@@ -29,26 +26,7 @@ pub extern "C" fn bp_ground(
     };
     let of = c_boundary::setup(mode, size, cell);
     let mask = mask as usize;
-    let number = ground::ground(of, mask, slot as usize, p, grid);
-    number as u32
-}
-
-#[no_mangle]
-pub extern "C" fn bp_lay(
-    mode: u32,
-    size: u32,
-    cell: u32,
-    mask: u32,
-    slot: u32,
-    subchannel: u32,
-    points: &[f32],
-    grid: &mut [f32],
-) -> u32
-    ensures { λ r. ⌜ record { refusal = r; buffer = now (grid .exit) } ≡ layOf (setupWith mode size cell) mask slot subchannel (now (points .entry)) (now (grid .entry)) ⌝ }
-{
-    let of = c_boundary::setup(mode, size, cell);
-    let mask = mask as usize;
-    let number = lay::lay(of, mask, slot as usize, subchannel as usize, points, grid);
+    let number = ground::ground(of, mask, slot as usize, pilots, p, grid);
     number as u32
 }
 
@@ -59,14 +37,15 @@ pub extern "C" fn bp_empty(
     cell: u32,
     mask: u32,
     slot: u32,
+    pilots: &[u32],
     grid: &[f32],
     points: &mut [f32],
 ) -> u32
-    ensures { λ r. ⌜ record { refusal = r; buffer = now (points .exit) } ≡ emptyOf (setupWith mode size cell) mask slot (now (grid .entry)) (now (points .entry)) ⌝ }
+    ensures { λ r. ⌜ record { refusal = r; buffer = now (points .exit) } ≡ emptyOf (setupLent mode size cell (now (pilots .entry))) mask slot (now (grid .entry)) (now (points .entry)) ⌝ }
 {
     let of = c_boundary::setup(mode, size, cell);
     let mask = mask as usize;
-    let number = empty::empty(of, mask, slot as usize, grid, points);
+    let number = empty::empty(of, mask, slot as usize, pilots, grid, points);
     number as u32
 }
 
@@ -78,35 +57,15 @@ pub extern "C" fn bp_empty_first(
     mask: u32,
     slot: u32,
     carriers: u32,
+    pilots: &[u32],
     grid: &[f32],
     points: &mut [f32],
 ) -> u32
-    ensures { λ r. ⌜ record { refusal = r; buffer = now (points .exit) } ≡ emptyFirstOf (setupWith mode size cell) mask slot carriers (now (grid .entry)) (now (points .entry)) ⌝ }
+    ensures { λ r. ⌜ record { refusal = r; buffer = now (points .exit) } ≡ emptyFirstOf (setupLent mode size cell (now (pilots .entry))) mask slot carriers (now (grid .entry)) (now (points .entry)) ⌝ }
 {
     let of = c_boundary::setup(mode, size, cell);
     let mask = mask as usize;
-    let number = empty::empty_first(of, mask, slot as usize, carriers as usize, grid, points);
+    let slot = slot as usize;
+    let number = empty::empty_first(of, mask, slot, carriers as usize, pilots, grid, points);
     number as u32
-}
-
-#[no_mangle]
-pub extern "C" fn bp_places(
-    mode: u32,
-    size: u32,
-    cell: u32,
-    slot: u32,
-    subchannel: u32,
-    places: &mut [u32; 48],
-) -> u32
-    ensures { λ r. ⌜ record { refusal = r; row = now (places .exit) } ≡ placesOut (placesOf (setupWith mode size cell) slot subchannel) (now (places .entry)) ⌝ }
-{
-    let of = c_boundary::setup(mode, size, cell);
-    let found = places::row(of, slot as usize, subchannel as usize);
-    let number = found.refusal;
-    if number != 0 {
-        return number as u32;
-    }
-    let row = found.places;
-    *places = row;
-    0
 }

@@ -1,7 +1,7 @@
 // The C call that looks at a grid. It returns 0, or document 01's refusal number; on a refusal nothing is written.
 use look::Seen;
 ghost use mathlib.Core.Path.{_≡_};
-ghost use Rattle.modes.specs.Setup.{setupWith};
+ghost use Rattle.modes.specs.Setup.{setupLent};
 ghost use Rattle.look.specs.Look.{lookOf};
 ghost use Rattle.capi_look.specs.Look.{lookOut};
 
@@ -12,6 +12,7 @@ pub extern "C" fn bp_look(
     cell: u32,
     mask: u32,
     symbol: u32,
+    pilots: &[u32],
     grid: &[f32],
     carrier: i32,
     kind: &mut u32,
@@ -20,11 +21,11 @@ pub extern "C" fn bp_look(
     subchannel: &mut u32,
     index: &mut u32,
 ) -> u32
-    ensures { λ r. ⌜ record { refusal = r; kind = now (kind .exit); point = now (point .exit); slot = now (slot .exit); subchannel = now (subchannel .exit); index = now (index .exit) } ≡ lookOut (lookOf (setupWith mode size cell) mask symbol (now (grid .entry)) carrier) (now (kind .entry)) (now (point .entry)) (now (slot .entry)) (now (subchannel .entry)) (now (index .entry)) ⌝ }
+    ensures { λ r. ⌜ record { refusal = r; kind = now (kind .exit); point = now (point .exit); slot = now (slot .exit); subchannel = now (subchannel .exit); index = now (index .exit) } ≡ lookOut (lookOf (setupLent mode size cell (now (pilots .entry))) mask symbol (now (grid .entry)) carrier) (now (kind .entry)) (now (point .entry)) (now (slot .entry)) (now (subchannel .entry)) (now (index .entry)) ⌝ }
 {
     let of = c_boundary::setup(mode, size, cell);
     let mask = mask as usize;
-    let answer = look::look(of, mask, symbol as usize, grid, carrier);
+    let answer = look::look(of, mask, symbol as usize, pilots, grid, carrier);
     match answer {
         Seen::Nothing => {
             *kind = 0;

@@ -2,7 +2,7 @@
 use map::Located;
 use map::Placed;
 ghost use mathlib.Core.Path.{_≡_};
-ghost use Rattle.modes.specs.Setup.{setupWith};
+ghost use Rattle.modes.specs.Setup.{setupLent};
 ghost use Rattle.map.specs.Place.{placeOf, locateOf};
 ghost use Rattle.capi_map.specs.Map.{PlaceOut, placeOut, LocateOut, locateOut};
 
@@ -14,16 +14,19 @@ pub extern "C" fn bp_place(
     slot: u32,
     subchannel: u32,
     index: u32,
+    pilots: &[u32],
     symbol: &mut u32,
     carrier: &mut i32,
 ) -> u32
-    ensures { λ r. ⌜ record { refusal = r; symbol = now (symbol .exit); carrier = now (carrier .exit) } ≡ placeOut (placeOf (setupWith mode size cell) slot subchannel index) (now (symbol .entry)) (now (carrier .entry)) ⌝ }
+    ensures { λ r. ⌜ record { refusal = r; symbol = now (symbol .exit); carrier = now (carrier .exit) } ≡ placeOut (placeOf (setupLent mode size cell (now (pilots .entry))) slot subchannel index) (now (symbol .entry)) (now (carrier .entry)) ⌝ }
 {
+    let of = c_boundary::setup(mode, size, cell);
     let answer = map::place(
-        c_boundary::setup(mode, size, cell),
+        of,
         slot as usize,
         subchannel as usize,
         index as usize,
+        pilots,
     );
     match answer {
         Placed::At {
@@ -45,18 +48,16 @@ pub extern "C" fn bp_locate(
     cell: u32,
     symbol: u32,
     carrier: i32,
+    pilots: &[u32],
     kind: &mut u32,
     slot: &mut u32,
     subchannel: &mut u32,
     index: &mut u32,
 ) -> u32
-    ensures { λ r. ⌜ record { refusal = r; kind = now (kind .exit); slot = now (slot .exit); subchannel = now (subchannel .exit); index = now (index .exit) } ≡ locateOut (locateOf (setupWith mode size cell) symbol carrier) (now (kind .entry)) (now (slot .entry)) (now (subchannel .entry)) (now (index .entry)) ⌝ }
+    ensures { λ r. ⌜ record { refusal = r; kind = now (kind .exit); slot = now (slot .exit); subchannel = now (subchannel .exit); index = now (index .exit) } ≡ locateOut (locateOf (setupLent mode size cell (now (pilots .entry))) symbol carrier) (now (kind .entry)) (now (slot .entry)) (now (subchannel .entry)) (now (index .entry)) ⌝ }
 {
-    let answer = map::locate(
-        c_boundary::setup(mode, size, cell),
-        symbol as usize,
-        carrier,
-    );
+    let of = c_boundary::setup(mode, size, cell);
+    let answer = map::locate(of, symbol as usize, carrier, pilots);
     match answer {
         Located::Guard => {
             *kind = 0;

@@ -2,4 +2,4 @@
 use Prim.Native.Nat.{ℕ, _+_, _*_}
 
 abbrev pub version : ℕ
-version = 4 * 10000 + 3 * 100 + 0
+version = 5 * 10000 + 0 * 100 + 0

@@ -7,7 +7,7 @@ ghost use Rattle.capi_numbers.specs.Version.{version};
 pub extern "C" fn bp_version() -> u32
     ensures { λ r. ⌜ r ≡ version ⌝ }
 {
-    40300
+    50000
 }
 
 #[no_mangle]

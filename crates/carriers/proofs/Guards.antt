@@ -4,10 +4,13 @@ use Rattle.base.proofs.Prelude.{eqb-false}
 use Rattle.base.proofs.{Test.{cases, true-false}, LeaveOut.{unskip-skip, skip-unskip, skip-ne, skip-lt, unskip-lt, before-skip}}
 use borrow.Author.Tests.{lt-leb, leb-false}
 use Rattle.base.specs.{Choice.pick, Steps.{skip, unskip}}
-use Rattle.carriers.specs.{declared.Band.Band, Band.{binBand, puscBand, carrierOf, usedOf, isGuard, isDc}, Law.{Whole, BandLaw}}
+use Rattle.carriers.specs.{declared.Band.Band, Band.{binBand, puscBand, fuscBand, carrierOf, usedOf, isGuard, isDc}, Law.{Whole, BandLaw}}
 
 pub pusc-band : Whole puscBand 2048
 pusc-band = record { dc-is = refl; half-lt = omega arith; size-is = refl }
+
+pub fusc-band : Whole fuscBand 2048
+fusc-band = record { dc-is = refl; half-lt = omega arith; size-is = refl }
 
 pub bin-band : (n : ℕ) → 0 < n → Whole (binBand n) (64 * n)
 bin-band n h = record { dc-is = omega arith; half-lt = omega arith; size-is = omega arith }

@@ -14,6 +14,10 @@ binBand n = record { left = 5 * n; right = 5 * n - 1; dc = 32 * n; used = 54 * n
 abbrev pub puscBand : Band
 puscBand = record { left = 184; right = 183; dc = 1024; used = 1680; half = 840 }
 
+-- Document 02, wish 8: "173 left and 172 right guards, 1702 used numbers with DC skipped from 851 on".
+abbrev pub fuscBand : Band
+fuscBand = record { left = 173; right = 172; dc = 1024; used = 1702; half = 851 }
+
 -- no carriers at all
 abbrev pub noBand : Band
 noBand = record { left = 0; right = 0; dc = 0; used = 0; half = 0 }

@@ -14,7 +14,7 @@ pub record Whole (b : Band) (size : ℕ) : Type 0 where
   pub half-lt : b .half < b .used
   pub size-is : size ≡ b .left + (b .used + 1) + b .right
 
--- The used numbers and the columns that are neither guard nor DC are the same, one for one and in the same order. Its proof, for every band that is whole, is `band-law`; those of all modes are (`pusc-band`, `bin-band`).
+-- The used numbers and the columns that are neither guard nor DC are the same, one for one and in the same order. Its proof, for every band that is whole, is `band-law`; those of all modes are (`pusc-band`, `bin-band`, `fusc-band`).
 pub record BandLaw (b : Band) (size : ℕ) : Type 0 where
   -- A larger used number is in a column further on.
   pub rising : (used next : ℕ) → used < next → carrierOf b used < carrierOf b next

@@ -7,7 +7,7 @@ ghost use Prim.Native.Nat.{_+_, _≤_, _<_};
 ghost use Rattle.base.specs.Steps.{entry};
 ghost use Rattle.base.specs.Tabulate.{tabulate};
 ghost use Rattle.base.specs.Model.{Below};
-ghost use Rattle.carriers.specs.Band.{binBand, puscBand, carrierOf, usedOf, isGuard, isDc};
+ghost use Rattle.carriers.specs.Band.{binBand, puscBand, fuscBand, carrierOf, usedOf, isGuard, isDc};
 ghost use Rattle.carriers.specs.Model.{carrierStep};
 ghost use Rattle.carriers.specs.Bin.{binPilotPlace, isBinPilot, usedOfData, dataOfUsed};
 
@@ -62,6 +62,18 @@ pub fn pusc_band() -> Band
         dc: 1024,
         used: 1680,
         half: 840,
+    }
+}
+
+pub fn fusc_band() -> Band
+    ensures { λ r. ⌜ r ≡ fuscBand ⌝ }
+{
+    Band {
+        left: 173,
+        right: 172,
+        dc: 1024,
+        used: 1702,
+        half: 851,
     }
 }
 

@@ -41,7 +41,7 @@ fn answer_line(input: &[u8], at: usize) -> usize
     end + 1
 }
 
-fn answer(operation: u8, f: [usize; 64]) {
+fn answer(operation: u8, f: [usize; 192]) {
     if operation == b'o' {
         print_collisions(collision::ofusc(f[0], f[1], f[2], f[3], f[4]));
     } else if operation == b's' {

@@ -1,12 +1,12 @@
 -- The rows of a slot walked one after another: the points on the first carriers are taken, all others are as they were.
-use Rattle.base.proofs.{Prelude.{_≡_, refl, _∙_, List, ℕ, _+_, _*_, _<_, _≤_, arith, ltb, length, ltb-true, ltb-false, lt-ltb}, Test.cases}
+use Rattle.base.proofs.{Prelude.{_≡_, refl, _∙_, subst, List, ℕ, _+_, _*_, _<_, _≤_, arith, ltb, length, ltb-true, ltb-false, lt-ltb}, Test.cases}
 use lib.Ieee.{Float}
 use Rattle.base.specs.Choice.{pick}
-use Rattle.modes.specs.{Setup.Setup, Mode.symbols, Model.Valid}
+use Rattle.modes.specs.{Setup.Setup, Mode.{symbols, symbolsOf}, Model.Valid}
 use Rattle.mask.specs.Mask.{litSubchannels}
 use Rattle.points.specs.{declared.Point.Point, Points.{pointAt, floatsOf}}
 use Rattle.points.proofs.Points.{length-floats, point-floats, by-points}
-use Rattle.lengths.specs.Length.{gridPoints}
+use Rattle.lengths.specs.Length.{gridPointsOf, gridPoints}
 use Rattle.row_walk.specs.Model.{TakenTo, Took}
 use Rattle.row_walk.proofs.Taken.{took-then, took-none, at-lt}
 use Rattle.empty.specs.Empty.{litStandsAt, emptied, emptiedFirst}
@@ -29,7 +29,7 @@ module _ {setup : Setup} (v : Valid setup) (mask slot carriers : ℕ) (grid poin
 
   pub slot-done : {points : List Float} {row : ℕ} → SlotTurn setup mask slot carriers grid points₀ points row → symbols setup ≤ row → length points₀ ≡ 96 * litSubchannels setup mask
       → points ≡ emptiedFirst setup mask slot carriers grid points₀
-  unfolding emptiedFirst gridPoints
+  unfolding emptiedFirst gridPointsOf
   slot-done {points} {row} t h long =
       let all : row ≡ symbols setup = omega (arith, t .0) in
       let w : TakenTo setup mask slot carriers grid points₀ (row * setup .size) points =
@@ -39,6 +39,15 @@ module _ {setup : Setup} (v : Valid setup) (mask slot carriers : ℕ) (grid poin
       cases (ltb (litStandsAt setup mask slot n) carriers)
       (λ b. rw b (w .taken n hn (rw all (at-lt setup v mask slot n hn)) (ltb-true (litStandsAt setup mask slot n) carriers b)))
       (λ b. rw b (w .past n hn (ltb-false (litStandsAt setup mask slot n) carriers b))))
+
+  -- FUSC's only row
+  pub symbol-done : setup .mode ≡ 7 → {points : List Float} → Took setup mask slot carriers grid 0 (setup .size) points₀ points → length points₀ ≡ 96 * litSubchannels setup mask
+      → points ≡ emptiedFirst setup mask slot carriers grid points₀
+  unfolding symbolsOf
+  symbol-done q {points} w long =
+      let one : symbols setup ≡ 1 = rw q in
+      let all : setup .size ≡ 1 * setup .size = omega arith in
+      slot-done {points = points} {row = 1} (omega arith, subst (λ (n : ℕ). Took setup mask slot carriers grid 0 n points₀ points) all w) (omega arith) long
 
 -- where all carriers are counted, all points are taken
 pub first-all : (setup : Setup) → Valid setup → (mask slot carriers : ℕ) (grid old : List Float) → gridPoints setup ≤ carriers

@@ -1,4 +1,4 @@
--- Empty. Document 01, "Grids"; document 02, wishes 5 and 6.
+-- Empty. Document 01, "Grids"; document 02, wishes 5, 6 and 8.
 use mathlib.Core.List.{List}
 use Prim.Native.Nat.{ℕ, _*_, _/_, _%_}
 use lib.Dec.{ltb}
@@ -17,7 +17,7 @@ unfoldable pub emptied : (setup : Setup) (mask slot : ℕ) (grid : List Float) �
 emptied setup mask slot grid =
     floatsOf (48 * litSubchannels setup mask) (λ n. pointAt grid (standsAt setup slot (ofLitRank setup mask (n / 48)) (n % 48)))
 
--- Empty does the reverse and writes the points only. Questions 1, 2, 3, 17, 4, 8, 9.
+-- Empty does the reverse and writes the points only. Questions 1, 2, 3, 17, 4, 20, 8, 9.
 unfoldable pub emptyOf : (setup : Setup) (mask slot : ℕ) (grid points : List Float) → Outcome
 emptyOf setup mask slot grid points =
     outcome
@@ -34,7 +34,7 @@ emptiedFirst setup mask slot carriers grid points =
     floatsOf (48 * litSubchannels setup mask)
     (λ n. pick (ltb (litStandsAt setup mask slot n) carriers) (pointAt grid (litStandsAt setup mask slot n)) (pointAt points n))
 
--- The call that empties the first carriers has the fields of empty and a count, and puts the same questions: 1, 2, 3, 17, 4, 8, 9, none about the count.
+-- The call that empties the first carriers has the fields of empty and a count, and puts the same questions: 1, 2, 3, 17, 4, 20, 8, 9, none about the count.
 unfoldable pub emptyFirstOf : (setup : Setup) (mask slot carriers : ℕ) (grid points : List Float) → Outcome
 emptyFirstOf setup mask slot carriers grid points =
     outcome

@@ -8,7 +8,7 @@ use Rattle.amc.proofs.Law.{traffic-lt, traffic-back, offset-lt, number-below}
 use Rattle.map.specs.{Place.{Place, usedCarrier, placeAt, placeOf}, Formula.spotOf}
 use Rattle.modes.specs.{Setup.setupWith, Mode.{shapeOf, widthOf, subchannels, subchannelsOf, symbolsOf, bandOf}}
 use Rattle.modes.specs.Model.{IsAmc, amc}
-use Rattle.modes.proofs.{Accept.width-is, Choice.{amc-shape, amc-column}}
+use Rattle.modes.proofs.{Accept.width-is, Choice.{amc-shape, amc-column}, Lent.valid-alone}
 use Rattle.map.proofs.Law.{place-accepts}
 use Rattle.collision.specs.Collision.{amcHit}
 use Rattle.collision.proofs.Group.{carrierAt, numberOf, number-at}
@@ -32,7 +32,7 @@ module _ {mode : ℕ} (q : IsAmc mode) {n : ℕ} (w : Width n) (slot s : ℕ) wh
       → placeOf (setupWith mode (64 * n) cell) slot s j ≡ accepted (at (traffic cell j))
   unfolding usedCarrier placeAt spotOf symbolsOf bandOf widthOf dataNumber
   placed cell j h hy hs hj =
-      place-accepts (setupWith mode (64 * n) cell) slot s j (amc q w h) hy hs hj
+      place-accepts (setupWith mode (64 * n) cell) slot s j (valid-alone (amc q w h)) hy hs hj
       ∙ simp (amc-column, width-is n)
 
   -- and what v a place has

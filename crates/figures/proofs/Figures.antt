@@ -26,7 +26,7 @@ unfolding subchannelsOf widthOf
 a-index {n} w cell slot s m k p hk e =
     let q = placing (setupWith 2 (64 * n) cell) slot s m e in
     let hs = rw (width-is n) at (q .subchannel-lt) in
-    let hc = rw (width-is n) at (in-ofusc (q .is-valid) refl .cell-lt) in
+    let hc = rw (width-is n) at (in-ofusc (q .is-valid .ranged) refl .cell-lt) in
     let here = same-accepted (sym (ofusc-placed w cell slot s m (q .slot-lt) hs (q .index-lt) hc) ∙ e) in (
       λ g. index-is w cell slot s k m hs hk (q .index-lt) (subst⁻¹ (λ (x : Place). InGroup n (x .symbol) k (x .carrier)) here g),
       λ i. subst (λ (x : Place). InGroup n (x .symbol) k (x .carrier)) here (index-in w cell slot s k m hs hk (q .index-lt) i),

@@ -5,7 +5,7 @@ use Rattle.ofusc.specs.{Width.Width, Map.{groupOf, dataNumber}}
 use Rattle.ofusc.proofs.{Sequence.pos, Law.{element-lt, group-digit, law}}
 use Rattle.modes.specs.{Setup.setupWith, Mode.{widthOf, symbolsOf, subchannelsOf, bandOf}, Model.ofusc}
 use Rattle.map.specs.{Formula.spotOf, Place.{Place, usedCarrier, placeAt, placeOf}}
-use Rattle.modes.proofs.Accept.{width-is}
+use Rattle.modes.proofs.{Accept.width-is, Lent.valid-alone}
 use Rattle.map.proofs.Law.{place-accepts}
 use Rattle.collision.specs.Collision.{indexIn}
 use Rattle.figures.specs.Word.{InGroup}
@@ -19,7 +19,7 @@ module _ {n : ℕ} (w : Width n) (cell slot s m : ℕ) (hy : slot < 512) (hs : s
   pub ofusc-placed : cell < n * n → placeOf (setupWith 2 (64 * n) cell) slot s m ≡ accepted (at n slot (dataNumber n cell s m))
   unfolding usedCarrier placeAt spotOf symbolsOf subchannelsOf bandOf widthOf
   ofusc-placed h =
-      place-accepts (setupWith 2 (64 * n) cell) slot s m (ofusc w h) hy (rw (width-is n) hs) hm
+      place-accepts (setupWith 2 (64 * n) cell) slot s m (valid-alone (ofusc w h)) hy (rw (width-is n) hs) hm
       ∙ rw (width-is n, one-symbol slot)
 
 pub index-lt : (s k : ℕ) → indexIn s k < 48

@@ -11,12 +11,12 @@ use Rattle.centre.proofs.Law.{one-column}
 use Rattle.modes.specs.{Setup.Setup, Mode.{subchannels, symbols, band}}
 use Rattle.map.specs.Formula.{isPilot, spotOf}
 use Rattle.map.specs.Place.{Content, guard, point, Place, usedCarrier, placeAt, contentOf}
-use Rattle.modes.specs.Model.{Valid}
+use Rattle.modes.specs.Model.{Ranged, Valid}
 use Rattle.map.proofs.{Slot.slot-law, Law.{content-placed, locate-column, placed-where-located, placing}}
 use Rattle.modes.proofs.Whole.{band-law, centred}
 use Rattle.mask.specs.Mask.{isLit, isUsedLit, litContent}
 use Rattle.mask.proofs.Law.{point-lit}
-use Rattle.lengths.specs.Length.{gridPoints}
+use Rattle.lengths.specs.Length.{gridPointsOf, gridPoints}
 use Rattle.grid.specs.{Row.{columnPosition, usedPosition, rowOf, columnOf}, Grid.{contentAt, standsAt, PlacedIn}}
 use Rattle.points.specs.{declared.Point.Point, Points.{pointAt, floatsOf}, Model.{puts, turned, Within}}
 use Rattle.points.proofs.Points.{length-floats, puts-as}
@@ -37,17 +37,17 @@ module _ (setup : Setup) (row k : ℕ) (h : k < setup .size) where
   column-position = digits-mod row h
 
   pub position-lt : row < symbols setup → columnPosition setup row k < gridPoints setup
-  unfolding columnPosition gridPoints
+  unfolding columnPosition gridPointsOf
   position-lt l = digits-lt l h
 
 -- what is worked out is the position, and small
-pub position-is : {setup : Setup} → Valid setup → (row carrier : ℕ) → row < symbols setup → carrier < setup .size → (r k : ℕ) → r ≡ row → k ≡ carrier
+pub position-is : {setup : Setup} → Ranged setup → (row carrier : ℕ) → row < symbols setup → carrier < setup .size → (r k : ℕ) → r ≡ row → k ≡ carrier
     → (r * setup .size + k ≡ columnPosition setup row carrier) × (r * setup .size + k < gridPoints setup)
 unfolding columnPosition
 position-is {setup} v row carrier l h r k e q = rw (e, q) (refl, position-lt setup row carrier h l)
 
 -- a used number stands in its row
-module _ (setup : Setup) (v : Valid setup) (row u : ℕ) (h : u < band setup .used) where
+module _ (setup : Setup) (v : Ranged setup) (row u : ℕ) (h : u < band setup .used) where
   in-size : carrierOf (band setup) u < setup .size
   in-size = carrier-lt (band setup) (setup .size) (band-law v) u h
 
@@ -63,7 +63,7 @@ module _ (setup : Setup) (v : Valid setup) (row u : ℕ) (h : u < band setup .us
   unfolding usedPosition
   used-position-lt l = position-lt setup row (carrierOf (band setup) u) in-size l
 
-pub used-position-is : {setup : Setup} → Valid setup → (row used : ℕ) → row < symbols setup → used < band setup .used
+pub used-position-is : {setup : Setup} → Ranged setup → (row used : ℕ) → row < symbols setup → used < band setup .used
     → (b : Band) → b ≡ band setup → (k : ℕ) → k ≡ carrierOf b used
     → (row * setup .size + k ≡ usedPosition setup row used) × (row * setup .size + k < gridPoints setup)
 unfolding usedPosition
@@ -93,24 +93,24 @@ module _ (setup : Setup) (v : Valid setup) (slot s m : ℕ) (hs : s < subchannel
 
   pub stands-lt : standsAt setup slot s m < gridPoints setup
   unfolding standsAt
-  stands-lt = used-position-lt setup v (x .offset) (x .used) (spot-lies .used-lt) (spot-lies .offset-lt)
+  stands-lt = used-position-lt setup (v .ranged) (x .offset) (x .used) (spot-lies .used-lt) (spot-lies .offset-lt)
 
   stands-column : columnOf setup (standsAt setup slot s m) ≡ carrierOf (band setup) (x .used)
   unfolding standsAt
-  stands-column = used-column setup v (x .offset) (x .used) (spot-lies .used-lt)
+  stands-column = used-column setup (v .ranged) (x .offset) (x .used) (spot-lies .used-lt)
 
   stands-holds : holdsAt setup slot (standsAt setup slot s m) ≡ point slot s m
   unfolding standsAt
   stands-holds =
-      rw (used-row setup v (x .offset) (x .used) (spot-lies .used-lt), used-column setup v (x .offset) (x .used) (spot-lies .used-lt))
+      rw (used-row setup (v .ranged) (x .offset) (x .used) (spot-lies .used-lt), used-column setup (v .ranged) (x .offset) (x .used) (spot-lies .used-lt))
       (content-placed setup v slot s m hs hm)
 
   -- and that is lit exactly when its subchannel is
   stands-lit : (mask : ℕ) → litAt setup mask (standsAt setup slot s m) ≡ isLit setup mask s
   stands-lit mask =
       ap (λ (k : ℕ). isUsedLit setup mask (usedOf (band setup) k)) stands-column
-      ∙ ap (isUsedLit setup mask) (used-carrier (band setup) (setup .size) (band-law v) (x .used) (spot-lies .used-lt))
-      ∙ point-lit v mask slot s m hs hm
+      ∙ ap (isUsedLit setup mask) (used-carrier (band setup) (setup .size) (band-law (v .ranged)) (x .used) (spot-lies .used-lt))
+      ∙ point-lit (v .ranged) mask slot s m hs hm
 
   pub lit-holds : (mask : ℕ) → isLit setup mask s ≡ true → contentAt setup mask slot (standsAt setup slot s m) ≡ point slot s m
   unfolding litContent
@@ -124,7 +124,7 @@ placed-there setup slot s index symbol column e =
     let x = spotOf setup slot s index in
     let o = slot-law (q .is-valid) slot .lies s index (q .subchannel-lt) (q .index-lt) .offset-lt in
     let y : slot * symbols setup + x .offset ≡ symbol = ap (λ (p : Place). p .symbol) (q .place-is) in
-    let k : carrierOf (band setup) (x .used) ≡ column = one-column (centred (q .is-valid) .0) _ _ (ap (λ (p : Place). p .carrier) (q .place-is)) in
+    let k : carrierOf (band setup) (x .used) ≡ column = one-column (centred (q .is-valid .ranged) .0) _ _ (ap (λ (p : Place). p .carrier) (q .place-is)) in
     rw (← y, ← k, digits-mod slot o)
 
 -- so no two points stand at one place
@@ -144,10 +144,10 @@ pub record Stands (setup : Setup) (mask slot n s m : ℕ) : Type 0 where
 
 module _ (setup : Setup) (v : Valid setup) (slot : ℕ) (hs : slot < 512) (n : ℕ) (hn : n < gridPoints setup) where
   size-pos : 0 < setup .size
-  size-pos = let b = band-law v in omega (arith, b .size-is)
+  size-pos = let b = band-law (v .ranged) in omega (arith, b .size-is)
 
   pub row-lt : rowOf setup n < symbols setup
-  unfolding rowOf gridPoints
+  unfolding rowOf gridPointsOf
   row-lt = div-lt-iff-lt-mul size-pos .1 hn
 
   pub column-lt : columnOf setup n < setup .size
@@ -166,7 +166,7 @@ module _ (setup : Setup) (v : Valid setup) (slot : ℕ) (hs : slot < 512) (n : �
       let q = placing setup a s m (placed-where-located setup (slot * symbols setup + rowOf setup n) (fromDc (setup .size) (columnOf setup n)) a s m (l ∙ ap accepted (lit .1))) in
       let o = slot-law v a .lies s m (q .subchannel-lt) (q .index-lt) .offset-lt in
       let y : a * symbols setup + spotOf setup a s m .offset ≡ slot * symbols setup + rowOf setup n = ap (λ (p : Place). p .symbol) (q .place-is) in
-      let k : carrierOf (band setup) (spotOf setup a s m .used) ≡ columnOf setup n = one-column (centred v .0) _ _ (ap (λ (p : Place). p .carrier) (q .place-is)) in
+      let k : carrierOf (band setup) (spotOf setup a s m .used) ≡ columnOf setup n = one-column (centred (v .ranged) .0) _ _ (ap (λ (p : Place). p .carrier) (q .place-is)) in
       let same-slot : a ≡ slot = sym (digits-div a o) ∙ ap (λ (t : ℕ). t / symbols setup) y ∙ digits-div slot row-lt in
       let same-row : spotOf setup a s m .offset ≡ rowOf setup n = sym (digits-mod a o) ∙ ap (λ (t : ℕ). t % symbols setup) y ∙ digits-mod slot row-lt in
       let here : standsAt setup slot s m ≡ n = rw (← same-slot, same-row, k) at-place in

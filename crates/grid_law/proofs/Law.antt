@@ -12,7 +12,7 @@ use Rattle.map.specs.{Formula.{isPilot, spotOf}, Law.Passes}
 use Rattle.map.specs.Place.{Place, Content, guard, dc, pilot, point, usedCarrier, placeAt, placeOf, contentOf}
 use Rattle.modes.proofs.{ByMode.few, Whole.{band-law, centred}}
 use Rattle.map.proofs.Slot.{slot-law}
-use Rattle.modes.proofs.Accept.{setup-asked}
+use Rattle.map.proofs.Claims.{passed as passed-valid}
 use Rattle.map.proofs.Law.{placing, place-accepts, content-placed, dc-content, pilot-content}
 use Rattle.mask.specs.Mask.{isMask, isLit, isUsedLit, litContent, litSubchannels, litRank, ofLitRank, allLit}
 use Rattle.mask.proofs.Law.{mask-law, point-lit}
@@ -52,10 +52,10 @@ module _ {setup : Setup} {mask : ℕ} (m : MaskAccepted setup mask) (slot : ℕ)
   column-on-grid : (symbol column : ℕ) → symbol / symbols setup ≡ slot → column < setup .size
       → OnGrid setup mask slot (litContent setup mask symbol column) symbol (fromDc (setup .size) column) (there setup symbol column)
   column-on-grid symbol column own h =
-      let pos = few (m .valid) .symbols-pos in
+      let pos = few (m .valid .ranged) .symbols-pos in
       let row = symbol % symbols setup in
       let carrier = fromDc (setup .size) column in
-      let l = centred (m .valid) .0 in
+      let l = centred (m .valid .ranged) .0 in
       let y : slot * symbols setup + row ≡ symbol = ap (λ (t : ℕ). t * symbols setup + row) (sym own) ∙ div-add-mod' symbol (symbols setup) in
       record {
         n-lt = position-lt setup row column h (mod-lt symbol pos);
@@ -72,7 +72,7 @@ module _ {setup : Setup} {mask : ℕ} (m : MaskAccepted setup mask) (slot : ℕ)
       (there setup symbol (carrierOf (band setup) used))
   unfolding usedCarrier litContent
   used-on-grid symbol used own h =
-      let b = band-law (m .valid) in
+      let b = band-law (m .valid .ranged) in
       rw (used-carrier (band setup) (setup .size) b used h) at
       (column-on-grid symbol (carrierOf (band setup) used) own (carrier-lt (band setup) (setup .size) b used h))
 
@@ -98,7 +98,7 @@ module _ {setup : Setup} {mask : ℕ} (m : MaskAccepted setup mask) where
       let h = slot-law v slot .lies s index (q .subchannel-lt) (q .index-lt) in
       subst (λ (t : Place). OnGrid setup mask slot (pick (isLit setup mask s) (point slot s index) guard) (t .symbol) (t .carrier) (standsAt setup slot s index)) (q .place-is)
       (rw (
-        point-lit v mask slot s index (q .subchannel-lt) (q .index-lt),
+        point-lit (v .ranged) mask slot s index (q .subchannel-lt) (q .index-lt),
         content-placed setup v slot s index (q .subchannel-lt) (q .index-lt),
         digits-mod slot (h .offset-lt),
       ) at
@@ -303,7 +303,7 @@ module _ (setup : Setup) (mask slot : ℕ) (p : Point) (old ground grid : List F
       record {
         pilots-lit = λ symbol used own h is lit. shown-stays (pilot-on-grid m slot hs symbol used own h is lit) (λ s x o. refl);
         zero-on-guards = λ symbol column own h g. nothing-stays guard (λ s x o. refl) refl symbol column own h (rw g);
-        zero-on-dc = λ symbol own. nothing-stays dc (λ s x o. refl) refl symbol (band setup .dc) own (let b = band-law v in omega (arith, b .size-is, b .dc-is, b .half-lt)) (dc-content setup v symbol);
+        zero-on-dc = λ symbol own. nothing-stays dc (λ s x o. refl) refl symbol (band setup .dc) own (let b = band-law (v .ranged) in omega (arith, b .size-is, b .dc-is, b .half-lt)) (dc-content setup v symbol);
         zero-on-unlit = λ symbol used own h dark. shown-stays (dark-on-grid m slot hs symbol used own h dark) (λ s x o. refl);
         zero-unless-laid = never-laid;
         last-lay-stands = λ s index symbol column points q. last-laid s index symbol column q points;
@@ -385,7 +385,7 @@ all-filled setup slot p points = λ i. floatsOf (gridPoints setup) (λ n. at (sl
 
 -- a setup and a mask that pass, and a grid of the length that is told, which passes the last question
 passed : {setup : Setup} {mask : ℕ} → Passes setup → isMask (setup .mode) mask ≡ true → MaskAccepted setup mask
-passed {setup} e k = record { valid = setup-asked setup _ e .0; mask-is = k }
+passed {setup} e k = record { valid = passed-valid setup e; mask-is = k }
 
 told-long : {setup : Setup} {mask : ℕ} → MaskAccepted setup mask → (grid : ℕ) → grid ≡ gridLength (setup .mode) (setup .size) → grid ≡ 2 * gridPoints setup
 told-long m grid g = g ∙ sym (lengths-listed m .1)
@@ -404,13 +404,13 @@ grid-law =
       laid-in-part = laid-grid;
       ground-mod-3 = ground-mod-3;
       ground-always = ground-always;
-      ground-every-cell = λ mode size cell other slot pilots p old a b. every-cell mode size cell other slot pilots p old (setup-asked _ _ a .0) (setup-asked _ _ b .0);
+      ground-every-cell = λ mode size cell other slot pilots p old a b. every-cell mode size cell other slot pilots p old (passed-valid _ a) (passed-valid _ b);
       unlit-meets-5 = λ setup mask slot s points grid e k h l dark.
           sym (refused-leaves _ _ _ (lay-numbered setup mask slot s (length points) (length grid) _) grid 5
           (lay-unlit setup mask slot s (length points) (length grid) (passed e k) h l dark) (λ z. omega arith));
       unlit-is-nothing = λ setup mask symbol used grid e k hy h dark g.
           let m = passed e k in
-          dark-on-grid m (symbol / symbols setup) (div-lt-iff-lt-mul (few (m .valid) .symbols-pos) .1 hy) symbol used refl h dark .looked grid (told-long m (length grid) g) _ refl;
+          dark-on-grid m (symbol / symbols setup) (div-lt-iff-lt-mul (few (m .valid .ranged) .symbols-pos) .1 hy) symbol used refl h dark .looked grid (told-long m (length grid) g) _ refl;
       first-writes = first-writes;
       first-of-all = λ setup mask slot carriers grid points. of-all setup mask slot grid points carriers;
       first-then-more = λ setup mask slot fewer more earlier grid points e. then-more setup mask slot earlier grid points e fewer more;

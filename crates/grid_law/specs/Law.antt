@@ -105,10 +105,10 @@ pub record GridLaw : Type 0 where
   -- Document 02, wish 4: data change every slot, pilots seldom. After the ground and any list of lays, of all subchannels or of some, each carrier of the slot holds what it should.
   pub laid-in-part : (setup : Setup) (mask slot : ℕ) (p : Point) (old ground grid : List Float) (lays : List Lay)
       → Leaves (groundOf setup mask slot p old) ground → Lays setup mask slot ground lays grid → LaidGrid setup mask slot p lays grid
-  -- One ground serves every slot that agrees with its own mod 3; and every slot at all in PUSC downlink, and where a slot has three or six symbols.
+  -- One ground serves every slot that agrees with its own mod 3; and every slot at all in PUSC downlink, in FUSC with the same list, and where a slot has three or six symbols.
   pub ground-mod-3 : (setup : Setup) (mask slot other : ℕ) (p : Point) (old : List Float) → slot < 512 → other < 512 → slot % 3 ≡ other % 3
       → groundOf setup mask slot p old ≡ groundOf setup mask other p old
-  pub ground-always : (setup : Setup) (mask slot other : ℕ) (p : Point) (old : List Float) → slot < 512 → other < 512 → (setup .mode ≡ 0) ⊎ (symbols setup % 3 ≡ 0)
+  pub ground-always : (setup : Setup) (mask slot other : ℕ) (p : Point) (old : List Float) → slot < 512 → other < 512 → (setup .mode ≡ 0) ⊎ ((setup .mode ≡ 7) ⊎ (symbols setup % 3 ≡ 0))
       → groundOf setup mask slot p old ≡ groundOf setup mask other p old
   -- Where all is lit one ground serves every cell too.
   pub ground-every-cell : (mode size cell other slot : ℕ) (pilots : List ℕ) (p : Point) (old : List Float) → Passes (setupLent mode size cell pilots) → Passes (setupLent mode size other pilots)

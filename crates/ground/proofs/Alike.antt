@@ -7,7 +7,7 @@ use Rattle.carriers.specs.Band.{usedOf, isGuard, isDc}
 use Rattle.modes.specs.{Setup.{Setup, setupLent}, Mode.{symbols, band}, Question.isSlot, Model.Valid}
 use Rattle.map.specs.{Formula.isPilot, Place.{dataAt, contentOf}}
 use Rattle.modes.proofs.Accept.{passes}
-use Rattle.map.proofs.Alike.{alike-mod-3, alike-by-threes, pilots-down, pilots-alike, same-pilots}
+use Rattle.map.proofs.Alike.{alike-mod-3, alike-by-threes, pilots-down, pilots-lent, pilots-alike, same-pilots}
 use Rattle.mask.specs.Mask.{isMask, isUsedLit, litContent, allLit}
 use Rattle.mask.proofs.Law.{mask-law}
 use Rattle.points.specs.{declared.Point.Point, Points.floatsOf}
@@ -52,11 +52,11 @@ pub ground-mod-3 : (setup : Setup) (mask slot other : ℕ) (p : Point) (old : Li
     → groundOf setup mask slot p old ≡ groundOf setup mask other p old
 ground-mod-3 setup mask slot other p old hs ho e = same-ground setup mask p slot other (pilots-alike setup slot other (alike-mod-3 setup slot other e)) old hs ho
 
-pub ground-always : (setup : Setup) (mask slot other : ℕ) (p : Point) (old : List Float) → slot < 512 → other < 512 → (setup .mode ≡ 0) ⊎ (symbols setup % 3 ≡ 0)
+pub ground-always : (setup : Setup) (mask slot other : ℕ) (p : Point) (old : List Float) → slot < 512 → other < 512 → (setup .mode ≡ 0) ⊎ ((setup .mode ≡ 7) ⊎ (symbols setup % 3 ≡ 0))
     → groundOf setup mask slot p old ≡ groundOf setup mask other p old
 ground-always setup mask slot other p old hs ho h =
     same-ground setup mask p slot other
-    (⊎-elim (pilots-down setup slot other) (λ z. pilots-alike setup slot other (alike-by-threes setup slot other z)) h)
+    (⊎-elim (pilots-down setup slot other) (⊎-elim (pilots-lent setup slot other) (λ z. pilots-alike setup slot other (alike-by-threes setup slot other z))) h)
     old hs ho
 
 -- ---- where all is lit
@@ -80,9 +80,9 @@ module _ (mode size cell other slot : ℕ) (pilots : List ℕ) (p : Point) (old 
       (λ d. cases (isPilot b y used) (λ i. rw (g, d, i)) (λ i. rw (g, d, i)))))
 
   pub every-cell : Valid a → Valid b → groundOf a (allLit mode) slot p old ≡ groundOf b (allLit mode) slot p old
-  unfolding groundOf grounded isGrid gridPoints rowOf columnOf
+  unfolding groundOf grounded isGrid rowOf columnOf
   every-cell va vb =
-      rw (passes va, passes vb) (λ i. ground (λ n. same-bare (slot * symbols b + rowOf b n) (columnOf b n) i))
+      rw (passes (va .ranged), passes (vb .ranged), va .is-lent, vb .is-lent) (λ i. ground (λ n. same-bare (slot * symbols b + rowOf b n) (columnOf b n) i))
     where
       ground : (ℕ → Point) → Outcome
       ground f =

@@ -8,7 +8,7 @@ use native.Mathlib.Nat.{mul-le-mul-right}
 use lib.Ieee.{Float}
 use Rattle.carriers.specs.Band.{usedOf}
 use Rattle.carriers.proofs.Guards.{used-carrier}
-use Rattle.modes.specs.{Setup.Setup, Mode.{symbols, band}, Model.Valid}
+use Rattle.modes.specs.{Setup.Setup, Mode.{symbols, band}, Model.{Unlent, Valid}}
 use Rattle.map.specs.{Formula.isPilot, Place.{Content, guard, dc, pilot, point}}
 use Rattle.modes.proofs.Whole.{band-law}
 use Rattle.map.proofs.Law.{pilot-content, pilot-at}
@@ -23,13 +23,13 @@ use Rattle.grid.proofs.Slot.{litAt, holdsAt, used-row, used-column, used-positi
 use Rattle.ground.specs.{Ground.{bare, grounded}, Model.{lastPilot, groundAt, PilotsBelow}}
 
 -- a run's place is a used number
-pub run-used : {setup : Setup} → Valid setup → (i place : ℕ) → i < runCount setup → place < runStep setup → i * runStep setup + place < band setup .used
-run-used v i place hi hp = rw (← run-law v 0 .used-is) (digits-lt hi hp)
+pub run-used : {setup : Setup} → Unlent setup → (i place : ℕ) → i < runCount setup → place < runStep setup → i * runStep setup + place < band setup .used
+run-used its i place hi hp = rw (← run-law its 0 .used-is) (digits-lt hi hp)
 
 -- a run is lit or not
-pub lit-two : {setup : Setup} → Valid setup → (mask : ℕ) (lit : List ℕ) → LitRuns setup mask lit → (i : ℕ) → i < runCount setup → (r : ℕ) → r ≡ runLit setup lit i → r < 2
-lit-two {setup} v mask lit runs i h r e =
-    rw (e ∙ run-light v mask lit runs i h) (cases (isUsedLit setup mask (i * runStep setup)) (λ t. rw t (omega arith)) (λ t. rw t (omega arith)))
+pub lit-two : {setup : Setup} → Unlent setup → (mask : ℕ) (lit : List ℕ) → LitRuns setup mask lit → (i : ℕ) → i < runCount setup → (r : ℕ) → r ≡ runLit setup lit i → r < 2
+lit-two {setup} its mask lit runs i h r e =
+    rw (e ∙ run-light its mask lit runs i h) (cases (isUsedLit setup mask (i * runStep setup)) (λ t. rw t (omega arith)) (λ t. rw t (omega arith)))
 
 -- what holds before each turn of the pass over a slot's rows: the pilots of the rows before are as the ground has them, and all that holds no pilot
 pub record GroundTurn (setup : Setup) (mask slot : ℕ) (p : Point) (grid : List Float) (row : ℕ) : Type 0 where
@@ -56,7 +56,7 @@ module _ (setup : Setup) (v : Valid setup) (mask slot : ℕ) (p : Point) where
 
   -- ---- the pilots of a row
 
-  module _ (lit : List ℕ) (runs : LitRuns setup mask lit) (row : ℕ) (hr : row < symbols setup) where
+  module _ (its : Unlent setup) (lit : List ℕ) (runs : LitRuns setup mask lit) (row : ℕ) (hr : row < symbols setup) where
     abbrev y : ℕ
     y = slot * symbols setup + row
 
@@ -64,7 +64,7 @@ module _ (setup : Setup) (v : Valid setup) (mask slot : ℕ) (p : Point) where
     step = runStep setup
 
     law : RunLaw setup y
-    law = run-law v y
+    law = run-law its y
 
     -- what is put on a pilot's place: the point of its run, out of 0.0 and the pilot point
     module _ (i place : ℕ) (hi : i < runCount setup) (hp : place < step) (is : isPilot setup y (i * step + place) ≡ true) (r : ℕ) (e : r ≡ runLit setup lit i) (d : Point) where
@@ -72,21 +72,21 @@ module _ (setup : Setup) (v : Valid setup) (mask slot : ℕ) (p : Point) where
       used = i * step + place
 
       used-lt : used < band setup .used
-      used-lt = run-used v i place hi hp
+      used-lt = run-used its i place hi hp
 
       place-lit : litAt setup mask (usedPosition setup row used) ≡ isUsedLit setup mask (i * step)
       place-lit =
-          ap (λ (k : ℕ). isUsedLit setup mask (usedOf (band setup) k)) (used-column setup v row used used-lt)
-          ∙ ap (isUsedLit setup mask) (used-carrier (band setup) (setup .size) (band-law v) used used-lt)
+          ap (λ (k : ℕ). isUsedLit setup mask (usedOf (band setup) k)) (used-column setup (v .ranged) row used used-lt)
+          ∙ ap (isUsedLit setup mask) (used-carrier (band setup) (setup .size) (band-law (v .ranged)) used used-lt)
           ∙ law .lit mask i place hp
 
       place-pilot : holdsAt setup slot (usedPosition setup row used) ≡ pilot
-      place-pilot = rw (used-row setup v row used used-lt, used-column setup v row used used-lt) (pilot-content setup v y used used-lt is)
+      place-pilot = rw (used-row setup (v .ranged) row used used-lt, used-column setup (v .ranged) row used used-lt) (pilot-content setup v y used used-lt is)
 
       place-own : getD (zeroPoint ∷ p ∷ []) r d ≡ at (usedPosition setup row used)
       unfolding bare litContent
       place-own =
-          let q = e ∙ run-light v mask lit runs i hi in
+          let q = e ∙ run-light its mask lit runs i hi in
           cases (isUsedLit setup mask (i * step))
           (λ t. rw (q, t, place-lit ∙ t, place-pilot))
           (λ t. rw (q, t, place-lit ∙ t))
@@ -103,7 +103,7 @@ module _ (setup : Setup) (v : Valid setup) (mask slot : ℕ) (p : Point) where
       put-here : pointAt grid′ x ≡ at x
       put-here =
           ap (λ (g : List Float). pointAt g x) q
-          ∙ put-same grid x _ (omega (arith, long, used-position-lt setup v row (i * step + place) (run-used v i place hi hp) hr)) ∙ place-own i place hi hp is r e d
+          ∙ put-same grid x _ (omega (arith, long, used-position-lt setup (v .ranged) row (i * step + place) (run-used its i place hi hp) hr)) ∙ place-own i place hi hp is r e d
 
       put-keeps : (n : ℕ) → pointAt grid n ≡ at n → pointAt grid′ n ≡ at n
       put-keeps n z =
@@ -194,11 +194,11 @@ module _ (setup : Setup) (v : Valid setup) (mask slot : ℕ) (p : Point) where
   pub row-start : (row : ℕ) (grid : List Float) → PilotsBelow setup mask slot p row (0 * runStep setup) grid grid
   row-start row grid = record { long = refl; kept = λ n z. z; put = λ used h. absurd (omega arith) }
 
-  pub row-done : (row : ℕ) {grid₀ grid : List Float} {i : ℕ} → PilotsBelow setup mask slot p row (i * runStep setup) grid₀ grid → runCount setup ≤ i
+  pub row-done : Unlent setup → (row : ℕ) {grid₀ grid : List Float} {i : ℕ} → PilotsBelow setup mask slot p row (i * runStep setup) grid₀ grid → runCount setup ≤ i
       → PilotsBelow setup mask slot p row (band setup .used) grid₀ grid
-  row-done row t h =
+  row-done its row t h =
       let l = mul-le-mul-right (runStep setup) h in
-      record { long = t .long; kept = t .kept; put = λ used hu is. t .put used (omega (arith, run-law v 0 .used-is)) is }
+      record { long = t .long; kept = t .kept; put = λ used hu is. t .put used (omega (arith, run-law its 0 .used-is)) is }
 
   -- ---- row after row
 

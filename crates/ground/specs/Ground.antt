@@ -1,4 +1,4 @@
--- Ground. Document 01, "Grids"; document 02, wishes 4 and 5.
+-- Ground. Document 01, "Grids"; document 02, wishes 4, 5 and 8.
 use mathlib.Core.List.{List}
 use Prim.Native.Nat.{ℕ}
 use lib.ListN.{length}
@@ -22,7 +22,7 @@ bare p (point slot subchannel index) = zeroPoint
 unfoldable pub grounded : (setup : Setup) (mask slot : ℕ) (p : Point) → List Float
 grounded setup mask slot p = floatsOf (gridPoints setup) (λ n. bare p (contentAt setup mask slot n))
 
--- Ground takes mode, size, cell, mask, slot and a pilot point, and writes the slot's grid. Questions 1, 2, 3, 17, 4, 9.
+-- Ground takes mode, size, cell, mask, slot and a pilot point, and writes the slot's grid. Questions 1, 2, 3, 17, 4, 20, 9.
 unfoldable pub groundOf : (setup : Setup) (mask slot : ℕ) (p : Point) (grid : List Float) → Outcome
 groundOf setup mask slot p grid =
     outcome (askGround setup mask slot (length grid) (accepted (grounded setup mask slot p))) grid

@@ -5,9 +5,9 @@ use runs::Runs;
 ghost use mathlib.Core.Path.{_≡_};
 ghost use Prim.Native.Nat.{_+_, _*_, _<_};
 ghost use lib.ListN.{length};
-ghost use Rattle.modes.specs.Setup.{alone};
+ghost use Rattle.modes.specs.Setup.{alone, lent};
 ghost use Rattle.modes.specs.Mode.{symbols, band};
-ghost use Rattle.modes.specs.Model.{Valid};
+ghost use Rattle.modes.specs.Model.{Unlent, Valid};
 ghost use Rattle.runs.specs.Model.{LitRuns, runStep, runCount};
 ghost use Rattle.points.specs.Model.{putPoint};
 ghost use Rattle.lengths.specs.Length.{gridPoints};
@@ -25,7 +25,7 @@ fn put_pilot(
     p: Point,
     grid: &mut [f32],
 )
-    requires { ⌜ Valid (alone setup) ⌝ }
+    requires { ⌜ Unlent (alone setup) ⌝ }
     requires { ⌜ (row < symbols (alone setup)) × (i < runCount (alone setup)) × (step ≡ runStep (alone setup)) × (place < step) × (length (now grid) ≡ 2 * gridPoints (alone setup)) ⌝ }
     ensures { λ _. ⌜ now (grid .exit) ≡ putPoint (now (grid .entry)) (usedPosition (alone setup) row (i * runStep (alone setup) + place)) p ⌝ }
 {
@@ -54,7 +54,7 @@ fn pilot_row(
     p: Point,
     grid: &mut [f32],
 )
-    requires { ⌜ Valid (alone setup) ⌝ }
+    requires { ⌜ Unlent (alone setup) ⌝ }
     requires { ⌜ (slot < 512) × (row < symbols (alone setup)) × (length (now grid) ≡ 2 * gridPoints (alone setup)) ⌝ }
     requires { ⌜ LitRuns (alone setup) mask (now lit) ⌝ }
     ensures { λ _. ⌜ PilotsBelow (alone setup) mask slot p row (band (alone setup) .used) (now (grid .entry)) (now (grid .exit)) ⌝ }
@@ -76,7 +76,7 @@ fn pilot_row(
 
 // Zeros, and the pilot point on the lit pilots.
 fn zeros_and_pilots(setup: Setup, mask: usize, slot: usize, p: Point, grid: &mut [f32])
-    requires { ⌜ Valid (alone setup) ⌝ }
+    requires { ⌜ Unlent (alone setup) ⌝ }
     requires { ⌜ (mask < 64) × (slot < 512) × (length (now grid) ≡ 2 * gridPoints (alone setup)) ⌝ }
     ensures { λ _. ⌜ now (grid .exit) ≡ grounded (alone setup) mask slot p ⌝ }
 {
@@ -90,13 +90,56 @@ fn zeros_and_pilots(setup: Setup, mask: usize, slot: usize, p: Point, grid: &mut
     }
 }
 
-// Lays the ground of a slot's grid, the pilot point on lit pilots and 0.0 elsewhere; or the first refusal of 1, 2, 3, 17, 4, 9.
-pub fn ground(setup: Setup, mask: usize, slot: usize, pilot: Point, grid: &mut [f32]) -> u8
-    ensures { λ r. ⌜ record { refusal = r; buffer = now (grid .exit) } ≡ groundOf (alone setup) mask slot pilot (now (grid .entry)) ⌝ }
+// The pilot point on the pilots of FUSC's only row, which are lent: all are lit.
+fn list_pilots(setup: Setup, mask: usize, slot: usize, pilots: &[u32], p: Point, grid: &mut [f32])
+    requires { ⌜ Valid (lent setup (now pilots)) ⌝ }
+    requires { ⌜ (setup .mode ≡ 7) × (length (now grid) ≡ 2 * gridPoints (alone setup)) ⌝ }
+    ensures { λ _. ⌜ PilotsBelow (lent setup (now (pilots .entry))) mask slot p 0 (band (alone setup) .used) (now (grid .entry)) (now (grid .exit)) ⌝ }
 {
-    let refusal = lengths::ground_refusal(setup, mask, slot, grid.len());
+    let band = modes::band(setup);
+    let mut i = 0;
+    while i < 166 {
+        let used = pilot_list::wide32(pilots[i]);
+        points::put_point(grid, carriers::carrier(band, used), p);
+        i += 1;
+    }
+}
+
+// Zeros, and the pilot point on the pilots that are lent.
+fn zeros_and_list(
+    setup: Setup,
+    mask: usize,
+    slot: usize,
+    pilots: &[u32],
+    p: Point,
+    grid: &mut [f32],
+)
+    requires { ⌜ Valid (lent setup (now pilots)) ⌝ }
+    requires { ⌜ (setup .mode ≡ 7) × (slot < 512) × (length (now grid) ≡ 2 * gridPoints (alone setup)) ⌝ }
+    ensures { λ _. ⌜ now (grid .exit) ≡ grounded (lent setup (now (pilots .entry))) mask slot p ⌝ }
+{
+    points::clear(grid);
+    list_pilots(setup, mask, slot, pilots, p, grid);
+}
+
+// Lays the ground of a slot's grid, the pilot point on lit pilots and 0.0 elsewhere; or the first refusal of 1, 2, 3, 17, 4, 20, 9.
+pub fn ground(
+    setup: Setup,
+    mask: usize,
+    slot: usize,
+    pilots: &[u32],
+    pilot: Point,
+    grid: &mut [f32],
+) -> u8
+    ensures { λ r. ⌜ record { refusal = r; buffer = now (grid .exit) } ≡ groundOf (lent setup (now (pilots .entry))) mask slot pilot (now (grid .entry)) ⌝ }
+{
+    let refusal = lengths::ground_refusal(setup, mask, slot, pilots, grid.len());
     if refusal != 0 {
         return refusal;
+    }
+    if setup.mode == 7 {
+        zeros_and_list(setup, mask, slot, pilots, pilot, grid);
+        return 0;
     }
     zeros_and_pilots(setup, mask, slot, pilot, grid);
     0

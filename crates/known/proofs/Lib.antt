@@ -1,1 +1,2 @@
+pub mod Fusc
 pub mod Table

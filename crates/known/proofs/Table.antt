@@ -7,10 +7,12 @@ use Rattle.collision.specs.Collision.{countOf, indexIn, columnIn, ofuscHit, amc
 use Rattle.mask.specs.Mask.{isMask}
 use Rattle.zone.specs.Zone.{isZoneMode}
 use Rattle.plan.specs.Plan.{each}
-use Rattle.plan_read.proofs.Points.{any-first-cell, first-refusals, amc-after-amc, others-after-amc, faults-in-order, mask-outside, masks-refused}
+use Rattle.plan_read.proofs.Points.{any-first-cell, first-refusals, amc-after-amc, others-after-amc, faults-in-order, mask-outside, masks-refused, fusc-in-plans}
 use Rattle.burst_owner.specs.Owner.{ownerAt, lookedAt}
 use Rattle.bursts.specs.{Burst.checkOf, Owner.ownerOf}
 use Rattle.known.specs.Table.{Known, AnyCell, setFrom, groups, indices, bursts, corner, check, owner, owns, refusal}
+use Rattle.fusc.proofs.Law.{known-number}
+use Rattle.known.proofs.Fusc.{on-lowest, on-tenths, lists-refused}
 use Rattle.carriers.specs.Band as band
 use Rattle.carriers.specs.Bin as bin
 use Rattle.clusters.specs.Cluster as cluster
@@ -30,7 +32,7 @@ use Rattle.burst.specs.Burst as burst
 use Rattle.burst_list.specs.List as list
 
 any-cell : (cell : ℕ) → cell < 32 → AnyCell cell
-unfolding skip unskip inRange onRow locateOf contentOf dataAt mode.cellsOf mode.symbolsOf mode.bandOf formula.isPilot question.isMode question.isSize question.isCell question.isSymbol question.isCarrier band.usedOf band.isGuard band.isDc cluster.isClusterPilot cluster.firstPilot cluster.secondPilot
+unfolding skip unskip inRange onRow locateOf contentOf dataAt mode.cellsOf mode.symbolsOf mode.bandOf formula.isPilot question.isMode question.isSize question.isCell question.isSymbol question.isCarrier question.isLent band.usedOf band.isGuard band.isDc cluster.isClusterPilot cluster.firstPilot cluster.secondPilot
 any-cell cell h =
     let e = lt-ltb cell 32 h in
     record { data-in-symbol-0 = rw e; pilot-in-symbol-1 = rw e; guard-below = λ y l. rw (e, lt-ltb y 1024 l); dc-in-the-middle = λ y l. rw (e, lt-ltb y 1024 l) }
@@ -56,7 +58,7 @@ unfolding isUpTo mode.widthOf mode.cellsOf mode.subchannelsOf question.isFourSiz
 zone-owner = (refl, refl, refl, refl, refl, refl)
 
 pub known : Known
-unfolding each tabulate skip fromDc placeOf usedCarrier placeAt mode.shapeOf mode.widthOf mode.cellsOf mode.subchannelsOf mode.symbolsOf mode.bandOf formula.spotOf question.isMode question.isFourSizes question.isSize question.isCell question.isSlot question.isSubchannel question.isIndex band.carrierOf bin.binPilotPlace bin.usedOfData dl.groupUsed dl.spotOf group.groupIn group.groupSize group.ofSize group.baseOf inner.groupData cluster.unrenumber cluster.firstPilot cluster.secondPilot cluster.clusterPlace ul.spotOf tile.tileOf tile.placeSymbol tile.placeTile tile.placeCarrier ofusc.groupOf ofusc.term ofusc.cellTerm ofusc.dataNumber field.modulus field.coefficient field.product field.remainder field.times field.power field.p1 field.p2 amc.off amc.zeroRule amc.elementOf amc.traffic amc.trafficNumber amc.dataNumber element.add element.times element.sequence
+unfolding each tabulate skip fromDc placeOf usedCarrier placeAt mode.shapeOf mode.widthOf mode.cellsOf mode.subchannelsOf mode.symbolsOf mode.bandOf formula.spotOf question.isMode question.isFourSizes question.isSize question.isCell question.isSlot question.isSubchannel question.isIndex question.isLent band.carrierOf bin.binPilotPlace bin.usedOfData dl.groupUsed dl.spotOf group.groupIn group.groupSize group.ofSize group.baseOf inner.groupData cluster.unrenumber cluster.firstPilot cluster.secondPilot cluster.clusterPlace ul.spotOf tile.tileOf tile.placeSymbol tile.placeTile tile.placeCarrier ofusc.groupOf ofusc.term ofusc.cellTerm ofusc.dataNumber field.modulus field.coefficient field.product field.remainder field.times field.power field.p1 field.p2 amc.off amc.zeroRule amc.elementOf amc.traffic amc.trafficNumber amc.dataNumber element.add element.times element.sequence
 known =
     record {
       line-1 = (refl, refl);
@@ -74,12 +76,19 @@ known =
       line-11-masks = masks-refused;
       amc-after-amc = λ m n h h′. amc-after-amc m n (h .0) (h .1) (h′ .0) (h′ .1);
       others-after-amc = λ m h. others-after-amc m (h .0) (h .1);
+      fusc-is-read = fusc-in-plans .0;
+      others-after-fusc = (fusc-in-plans .1, fusc-in-plans .2, fusc-in-plans .3);
+      fusc-refused = (fusc-in-plans .4, fusc-in-plans .5, fusc-in-plans .6);
       faults-in-order = faults-in-order;
       mask-outside-mode-0 = mask-outside;
       amc-6x1 = refl;
       amc-2x3 = (refl, refl);
       amc-3x2 = refl;
       amc-1x6 = (refl, refl);
+      fusc-number = known-number;
+      fusc-lowest = on-lowest;
+      fusc-tenths = on-tenths;
+      lists-refused = lists-refused;
       bursts-check = zone-check;
       bursts-owner = zone-owner;
     }

@@ -2,13 +2,14 @@
 use mathlib.Core.Path.{_≡_}
 use mathlib.Core.Bool.{Bool, true, false}
 use mathlib.Core.List.{List, [], _∷_}
-use Prim.Native.Nat.{ℕ, suc, _<_, _≤_}
+use Prim.Native.Nat.{ℕ, suc, _+_, _*_, _<_, _≤_}
 use lib.IntN.{ℤ, pos, negℤ}
 use lib.ListN.{length}
 use Rattle.base.specs.Answer.{Answer, accepted, refused}
 use Rattle.base.specs.Tabulate.{tabulate}
 use Rattle.pusc_ul.specs.Tile.{tileOf}
-use Rattle.modes.specs.Setup.{setupWith}
+use Rattle.fusc.specs.Map.{dataNumber}
+use Rattle.modes.specs.Setup.{setupLent, setupWith}
 use Rattle.map.specs.Place.{Place, Content, guard, dc, pilot, point, placeOf, locateOf}
 use Rattle.collision.specs.Collision.{ofuscOf, amcOf}
 use Rattle.zone.specs.declared.Zone.{Zone}
@@ -72,6 +73,18 @@ third before mode slots mask = zone 0 0 1 0x3F ∷ zone before 0 1 0 ∷ zone mo
 abbrev pub Amc : (mode : ℕ) → Type 0
 Amc mode = (3 ≤ mode) × (mode ≤ 6)
 
+-- Lists of 166 pilots: the first used numbers, 0 to 165; and every tenth used number from some first one on.
+abbrev pub lowest : List ℕ
+lowest = tabulate 166 (λ k. k)
+
+abbrev pub tenths : (first : ℕ) → List ℕ
+tenths first = tabulate 166 (λ k. first + 10 * k)
+
+-- Under the lent pilots FUSC's cell 0 has index 46 of its subchannel 31 in slot 0 on a carrier of symbol 0, and the carrier has that point.
+pub record Fusc (pilots : List ℕ) (carrier : ℤ) : Type 0 where
+  pub is-placed : placeOf (setupLent 7 2048 0 pilots) 0 31 46 ≡ at 0 carrier
+  pub is-located : locateOf (setupLent 7 2048 0 pilots) 0 carrier ≡ accepted (point 0 31 46)
+
 -- Three bursts: subchannels 0 and 1 in slots 0 to 3, 2 and 3 in all six, 0 and 1 in slots 4 and 5.
 abbrev pub bursts : List ℕ
 bursts = 0 ∷ 2 ∷ 0 ∷ 4 ∷ 2 ∷ 2 ∷ 0 ∷ 6 ∷ 0 ∷ 2 ∷ 4 ∷ 2 ∷ []
@@ -130,19 +143,32 @@ pub record Known : Type 0 where
   pub line-11-masks : (planOf (1 ∷ 0x80 ∷ 0x10 ∷ 2 ∷ 0 ∷ 0x0C ∷ 0x3F ∷ []) ≡ refused 17) × (planOf (1 ∷ 0x80 ∷ 0x10 ∷ 0 ∷ 0 ∷ 0x0C ∷ 0 ∷ []) ≡ refused 17)
       × (planOf (1 ∷ 0x80 ∷ 0x10 ∷ 0 ∷ 0 ∷ 0x0C ∷ 0x40 ∷ []) ≡ refused 17) × (planOf (1 ∷ 0x80 ∷ 0x10 ∷ 0 ∷ 0 ∷ 0 ∷ 0 ∷ []) ≡ refused 13)
       × (planOf (1 ∷ 0x80 ∷ 0x10 ∷ 0 ∷ 0 ∷ 0x0C ∷ []) ≡ refused 10)
-  -- Not starred: plans at 2048, worked out by hand. Document 02, wish 2: after a zone of any of modes 3 to 6 one of any of these is read, and one of mode 0 or 2 meets 14.
+  -- Not starred: plans at 2048, worked out by hand. Document 02, wish 2: after a zone of any of modes 3 to 6 one of any of these is read, and one of mode 0 or 2, or of mode 7 (wish 8), meets 14.
   pub amc-after-amc : (m n : ℕ) → Amc m → Amc n → planOf (bytes (third m n 1 0)) ≡ whole (third m n 1 0)
-  pub others-after-amc : (m : ℕ) → Amc m → (planOf (bytes (third m 0 1 0x3F)) ≡ refused 14) × (planOf (bytes (third m 2 1 0)) ≡ refused 14)
+  pub others-after-amc : (m : ℕ) → Amc m → (planOf (bytes (third m 0 1 0x3F)) ≡ refused 14) × (planOf (bytes (third m 2 1 0)) ≡ refused 14) × (planOf (bytes (third m 7 1 0)) ≡ refused 14)
+  -- Document 02, wish 8: question 1 takes mode 7. It is read after mode 0, here with the last of its cells, and zones of modes 0, 2 and 3 are read after it; its cell 32 meets 3. It never opens a plan: as the first zone it meets 14, and at 1024, which is none of its sizes, 2.
+  pub fusc-is-read : planOf (bytes (zone 0 0 1 0x3F ∷ zone 7 31 1 0 ∷ [])) ≡ whole (zone 0 0 1 0x3F ∷ zone 7 31 1 0 ∷ [])
+  pub others-after-fusc : (planOf (bytes (third 7 0 1 0x3F)) ≡ whole (third 7 0 1 0x3F)) × (planOf (bytes (third 7 2 1 0)) ≡ whole (third 7 2 1 0)) × (planOf (bytes (third 7 3 1 0)) ≡ whole (third 7 3 1 0))
+  pub fusc-refused : (planOf (bytes (zone 0 0 1 0x3F ∷ zone 7 32 1 0 ∷ [])) ≡ refused 3) × (planOf (bytes (zone 7 0 1 0 ∷ [])) ≡ refused 14) × (planOf (1 ∷ 0x80 ∷ 0x08 ∷ 7 ∷ 0 ∷ 1 ∷ 0 ∷ []) ≡ refused 2)
   -- Document 02, wish 5: of a zone's faults 13 (no slots) is met before 17 (a mask out of its range), and 17 before 14 (its place). First a zone of mode 2 that opens the plan, then one of mode 0 after mode 3, each with one fault less from plan to plan.
   pub faults-in-order : (planOf (bytes (zone 2 0 0 1 ∷ [])) ≡ refused 13) × (planOf (bytes (zone 2 0 1 1 ∷ [])) ≡ refused 17) × (planOf (bytes (zone 2 0 1 0 ∷ [])) ≡ refused 14)
       × (planOf (bytes (third 3 0 0 0)) ≡ refused 13) × (planOf (bytes (third 3 0 1 0)) ≡ refused 17) × (planOf (bytes (third 3 0 1 0x3F)) ≡ refused 14)
   -- A mask other than 0 (here of one byte) meets 17 in every other mode.
-  pub mask-outside-mode-0 : (mode mask : ℕ) → 2 ≤ mode → mode ≤ 6 → 0 < mask → mask < 128 → planOf (bytes (zone 0 0 1 0x3F ∷ zone mode 0 1 mask ∷ [])) ≡ refused 17
+  pub mask-outside-mode-0 : (mode mask : ℕ) → 2 ≤ mode → mode ≤ 7 → 0 < mask → mask < 128 → planOf (bytes (zone 0 0 1 0x3F ∷ zone mode 0 1 mask ∷ [])) ≡ refused 17
   -- Not starred: points of AMC's shapes, worked out by hand from document 02, wish 2. Cell 0 has E = P, so its index 2 is at v = 33 and its index 41 at v = 47; cell 629 has its index 14 under the zero rule, at v = 12.
   pub amc-6x1 : placeOf (setupWith 3 256 0) 0 3 2 ≡ at 0 (pos 93)
   pub amc-2x3 : (placeOf (setupWith 4 256 0) 0 5 2 ≡ at 2 (minus 17)) × (placeOf (setupWith 4 2048 629) 511 95 14 ≡ at 1533 (pos 861))
   pub amc-3x2 : placeOf (setupWith 5 256 0) 1 7 2 ≡ at 3 (pos 93)
   pub amc-1x6 : (placeOf (setupWith 6 512 0) 1 47 2 ≡ at 10 (pos 209)) × (placeOf (setupWith 6 512 0) 511 0 41 ≡ at 3071 (minus 208))
+  -- Document 02, wish 8: FUSC's cell 0, subchannel 31, index 46 gives data number 573.
+  pub fusc-number : dataNumber 0 31 46 ≡ 573
+  -- Not starred: that point under two lists of pilots, worked out by hand. All of the first 166 used numbers are below it: it is on used number 573 + 166 = 739, in column 173 + 739 = 912.
+  -- Of 5, 15, 25 and so on, entry i is 10i + 5 and has 9i + 5 data numbers below it, which is at most 573 for the first 64: it is on used number 573 + 64 = 637, in column 810.
+  pub fusc-lowest : Fusc lowest (minus 112)
+  pub fusc-tenths : Fusc (tenths 5) (minus 214)
+  -- Refused 20: a list that is lent in mode 2, none in mode 7, one that has 1702 for its last entry, and one that does not rise.
+  pub lists-refused : (placeOf (setupLent 2 2048 0 lowest) 0 31 46 ≡ refused 20) × (placeOf (setupWith 7 2048 0) 0 31 46 ≡ refused 20)
+      × (placeOf (setupLent 7 2048 0 (tenths 52)) 0 31 46 ≡ refused 20) × (placeOf (setupLent 7 2048 0 (tabulate 166 (λ k. 5))) 0 31 46 ≡ refused 20)
   -- Not starred: bursts, worked out by hand from document 02, wish 7, in a zone of four subchannels by six slots. `bursts` fills it; another beside its first that has one slot and subchannel in common with the first, the corner of both, is refused 19;
   -- one that ends a subchannel past the zone, has no slots, or has sums that 32 bits would wrap, 18; so is one that overlaps the first and ends past the zone too, since 18 comes before 19.
   pub bursts-check : (check bursts ≡ 0) × (check (corner 1 2 3 2) ≡ 19) × (check (corner 3 2 3 1) ≡ 18) × (check (corner 3 1 3 0) ≡ 18) × (check (corner 4294967295 2 3 1) ≡ 18) × (check (corner 1 4 3 1) ≡ 18)

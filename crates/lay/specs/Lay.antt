@@ -1,4 +1,4 @@
--- Lay. Document 01, "Grids"; document 02, wishes 4 and 5.
+-- Lay. Document 01, "Grids"; document 02, wishes 4, 5 and 8.
 use mathlib.Core.List.{List}
 use Prim.Native.Nat.{ℕ}
 use lib.Dec.{eqb}
@@ -25,7 +25,7 @@ unfoldable pub laid : (setup : Setup) (mask slot subchannel : ℕ) (points grid 
 laid setup mask slot subchannel points grid =
     floatsOf (gridPoints setup) (λ n. relaid subchannel points (pointAt grid n) (contentAt setup mask slot n))
 
--- Lay takes mode, size, cell, mask, slot, a subchannel and its 48 points, and writes these on the slot's grid. Questions 1, 2, 3, 17, 4, 5, 8, 9.
+-- Lay takes mode, size, cell, mask, slot, a subchannel and its 48 points, and writes these on the slot's grid. Questions 1, 2, 3, 17, 4, 5, 20, 8, 9.
 unfoldable pub layOf : (setup : Setup) (mask slot subchannel : ℕ) (points grid : List Float) → Outcome
 layOf setup mask slot subchannel points grid =
     outcome (askLay setup mask slot subchannel (length points) (length grid) (accepted (laid setup mask slot subchannel points grid))) grid

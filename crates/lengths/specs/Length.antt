@@ -2,13 +2,16 @@
 use Prim.Native.Nat.{ℕ, _*_}
 use Rattle.base.specs.Choice.{pick}
 use Rattle.modes.specs.Setup.{Setup, setupWith}
-use Rattle.modes.specs.Mode.{subchannels, symbols}
+use Rattle.modes.specs.Mode.{subchannels, symbolsOf}
 use Rattle.modes.specs.Question.{isListed, isSizeOf}
 use Rattle.mask.specs.Mask.{isMask, litSubchannels}
 
 -- the points of a slot's grid
-unfoldable pub gridPoints : (setup : Setup) → ℕ
-gridPoints setup = symbols setup * setup .size
+unfoldable pub gridPointsOf : (mode size : ℕ) → ℕ
+gridPointsOf mode size = symbolsOf mode * size
+
+abbrev pub gridPoints : (setup : Setup) → ℕ
+gridPoints setup = gridPointsOf (setup .mode) (setup .size)
 
 -- a length where questions 1 and 2 are answered yes; 0 for a mode and size that the map does not have
 abbrev pub whereListed : (mode size length : ℕ) → ℕ

@@ -2,16 +2,22 @@
 use Prim.Native.Nat.{ℕ}
 use lib.IntN.{ℤ}
 use Rattle.base.specs.Answer.{accepted, ask, refusalOf}
-use Rattle.modes.specs.Setup.{Setup}
+use Rattle.modes.specs.Setup.{Setup, setupWith}
 use Rattle.lengths.specs.Question.{isGrid, askMask, askSlot, askGround, askLay, askEmpty, askLook}
 
--- the number of the first of questions 1, 2, 3 and 17 that is answered no, 0 where none is
-unfoldable pub maskRefusal : (setup : Setup) (mask : ℕ) → ℕ
-maskRefusal setup mask = refusalOf (askMask {A = Unit {0}} setup mask (accepted tt))
+-- the number of the first of questions 1, 2, 3 and 17 that is answered no, 0 where none is; they do not go by what is lent
+unfoldable pub maskRefusalAt : (mode size cell mask : ℕ) → ℕ
+maskRefusalAt mode size cell mask = refusalOf (askMask {A = Unit {0}} (setupWith mode size cell) mask (accepted tt))
 
--- the number of the first of questions 1, 2, 3, 17 and 4 that is answered no, 0 where none is
-unfoldable pub slotRefusal : (setup : Setup) (mask slot : ℕ) → ℕ
-slotRefusal setup mask slot = refusalOf (askSlot {A = Unit {0}} setup mask slot (accepted tt))
+abbrev pub maskRefusal : (setup : Setup) (mask : ℕ) → ℕ
+maskRefusal setup mask = maskRefusalAt (setup .mode) (setup .size) (setup .cell) mask
+
+-- the number of the first of questions 1, 2, 3, 17 and 4 that is answered no, 0 where none is; they do not go by what is lent
+unfoldable pub slotRefusalAt : (mode size cell mask slot : ℕ) → ℕ
+slotRefusalAt mode size cell mask slot = refusalOf (askSlot {A = Unit {0}} (setupWith mode size cell) mask slot (accepted tt))
+
+abbrev pub slotRefusal : (setup : Setup) (mask slot : ℕ) → ℕ
+slotRefusal setup mask slot = slotRefusalAt (setup .mode) (setup .size) (setup .cell) mask slot
 
 -- the number of question 9, which comes last in each call, where it is answered no, else 0
 unfoldable pub gridRefusal : (setup : Setup) (grid : ℕ) → ℕ

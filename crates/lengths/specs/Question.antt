@@ -1,4 +1,4 @@
--- Document 01, "The questions put to a request, in order": 8 and 9; and the questions of ground, lay, empty and look, with document 02's 17.
+-- Document 01, "The questions put to a request, in order": 8 and 9; and the questions of ground, lay, empty and look, with document 02's 17 and 20.
 use mathlib.Core.Bool.{Bool, false}
 use Prim.Native.Nat.{ℕ, _*_}
 use lib.Dec.{eqb}
@@ -6,7 +6,7 @@ use lib.IntN.{ℤ}
 use Rattle.base.specs.Choice.{pick}
 use Rattle.base.specs.Answer.{Answer, ask}
 use Rattle.modes.specs.Setup.{Setup}
-use Rattle.modes.specs.Question.{askSetup, isSlot, isSubchannel, askCarrier}
+use Rattle.modes.specs.Question.{askSetup, isSlot, isSubchannel, isLent, askCarrier}
 use Rattle.mask.specs.Mask.{isMask, isLit, litSubchannels}
 use Rattle.lengths.specs.Length.{gridPoints}
 
@@ -34,30 +34,34 @@ askMask setup mask rest = askSetup setup (ask (isMask (setup .mode) mask) 17 res
 abbrev pub askSlot : {A : Type 0} → (setup : Setup) (mask slot : ℕ) (rest : Answer A) → Answer A
 askSlot setup mask slot rest = askMask setup mask (ask (isSlot slot) 4 rest)
 
--- the questions of ground: 1, 2, 3, 17, 4, 9
+-- the questions of ground: 1, 2, 3, 17, 4, 20, 9; document 02, wish 8, puts 20 after the numbers and before the lengths, here and below
 abbrev pub askGround : {A : Type 0} → (setup : Setup) (mask slot grid : ℕ) (rest : Answer A) → Answer A
 askGround setup mask slot grid rest =
     askSlot setup mask slot
-    (ask (isGrid setup grid) 9 rest)
+    (ask (isLent setup) 20
+    (ask (isGrid setup grid) 9 rest))
 
--- the questions of lay: 1, 2, 3, 17, 4, 5, 8, 9
+-- the questions of lay: 1, 2, 3, 17, 4, 5, 20, 8, 9
 abbrev pub askLay : {A : Type 0} → (setup : Setup) (mask slot subchannel points grid : ℕ) (rest : Answer A) → Answer A
 askLay setup mask slot subchannel points grid rest =
     askSlot setup mask slot
     (ask (isLitSubchannel setup mask subchannel) 5
+    (ask (isLent setup) 20
     (ask (areLaidPoints points) 8
-    (ask (isGrid setup grid) 9 rest)))
+    (ask (isGrid setup grid) 9 rest))))
 
--- the questions of empty: 1, 2, 3, 17, 4, 8, 9
+-- the questions of empty: 1, 2, 3, 17, 4, 20, 8, 9
 abbrev pub askEmpty : {A : Type 0} → (setup : Setup) (mask slot points grid : ℕ) (rest : Answer A) → Answer A
 askEmpty setup mask slot points grid rest =
     askSlot setup mask slot
+    (ask (isLent setup) 20
     (ask (arePoints setup mask points) 8
-    (ask (isGrid setup grid) 9 rest))
+    (ask (isGrid setup grid) 9 rest)))
 
--- the questions of look: 1, 2, 3, 17, 4, 7, 9
+-- the questions of look: 1, 2, 3, 17, 4, 7, 20, 9
 abbrev pub askLook : {A : Type 0} → (setup : Setup) (mask symbol : ℕ) (carrier : ℤ) (grid : ℕ) (rest : Answer A) → Answer A
 askLook setup mask symbol carrier grid rest =
     askMask setup mask
     (askCarrier setup symbol carrier
-    (ask (isGrid setup grid) 9 rest))
+    (ask (isLent setup) 20
+    (ask (isGrid setup grid) 9 rest)))

@@ -2,14 +2,14 @@
 use modes::Setup;
 ghost use mathlib.Core.Path.{_≡_};
 ghost use Prim.Native.Nat.{_<_};
-ghost use Rattle.modes.specs.Setup.{alone};
-ghost use Rattle.modes.specs.Model.{Valid};
+ghost use Rattle.modes.specs.Setup.{alone, lent};
+ghost use Rattle.modes.specs.Model.{Ranged};
 ghost use Rattle.lengths.specs.Length.{gridPoints, pointsLength, litPointsLength, gridLength};
 ghost use Rattle.lengths.specs.Model.{maskRefusal, slotRefusal, gridRefusal, groundRefusal, layRefusal, emptyRefusal, lookRefusal};
 
 // The points of a slot's grid.
 pub fn grid_points(setup: Setup) -> usize
-    requires { ⌜ Valid (alone setup) ⌝ }
+    requires { ⌜ Ranged (alone setup) ⌝ }
     ensures { λ r. ⌜ (r ≡ gridPoints (alone setup)) × (r < 65536) ⌝ }
 {
     modes::symbols(setup) * setup.size
@@ -90,7 +90,7 @@ fn slot_refusal(setup: Setup, mask: usize, slot: usize) -> u8
 
 // The number of question 9, which comes last in each call, where it is answered no, or 0.
 fn grid_refusal(setup: Setup, grid: usize) -> u8
-    requires { ⌜ Valid (alone setup) ⌝ }
+    requires { ⌜ Ranged (alone setup) ⌝ }
     ensures { λ r. ⌜ r ≡ gridRefusal (alone setup) grid ⌝ }
 {
     if grid != 2 * grid_points(setup) {
@@ -99,27 +99,31 @@ fn grid_refusal(setup: Setup, grid: usize) -> u8
     0
 }
 
-// The number of the first of ground's questions, 1, 2, 3, 17, 4, 9, that is answered no, or 0.
-pub fn ground_refusal(setup: Setup, mask: usize, slot: usize, grid: usize) -> u8
-    ensures { λ r. ⌜ r ≡ groundRefusal (alone setup) mask slot grid ⌝ }
+// The number of the first of ground's questions, 1, 2, 3, 17, 4, 20, 9, that is answered no, or 0.
+pub fn ground_refusal(setup: Setup, mask: usize, slot: usize, pilots: &[u32], grid: usize) -> u8
+    ensures { λ r. ⌜ r ≡ groundRefusal (lent setup (now (pilots .entry))) mask slot grid ⌝ }
 {
     let k = slot_refusal(setup, mask, slot);
     if k != 0 {
         return k;
     }
+    if !modes::is_lent(setup, pilots) {
+        return 20;
+    }
     grid_refusal(setup, grid)
 }
 
-// The number of the first of lay's questions, 1, 2, 3, 17, 4, 5, 8, 9, that is answered no, or 0.
+// The number of the first of lay's questions, 1, 2, 3, 17, 4, 5, 20, 8, 9, that is answered no, or 0.
 pub fn lay_refusal(
     setup: Setup,
     mask: usize,
     slot: usize,
     subchannel: usize,
+    pilots: &[u32],
     points: usize,
     grid: usize,
 ) -> u8
-    ensures { λ r. ⌜ r ≡ layRefusal (alone setup) mask slot subchannel points grid ⌝ }
+    ensures { λ r. ⌜ r ≡ layRefusal (lent setup (now (pilots .entry))) mask slot subchannel points grid ⌝ }
 {
     let k = slot_refusal(setup, mask, slot);
     if k != 0 {
@@ -131,19 +135,32 @@ pub fn lay_refusal(
     if !mask::is_lit(setup, mask, subchannel) {
         return 5;
     }
+    if !modes::is_lent(setup, pilots) {
+        return 20;
+    }
     if points != 96 {
         return 8;
     }
     grid_refusal(setup, grid)
 }
 
-// The number of the first of empty's questions, 1, 2, 3, 17, 4, 8, 9, that is answered no, or 0.
-pub fn empty_refusal(setup: Setup, mask: usize, slot: usize, points: usize, grid: usize) -> u8
-    ensures { λ r. ⌜ r ≡ emptyRefusal (alone setup) mask slot points grid ⌝ }
+// The number of the first of empty's questions, 1, 2, 3, 17, 4, 20, 8, 9, that is answered no, or 0.
+pub fn empty_refusal(
+    setup: Setup,
+    mask: usize,
+    slot: usize,
+    pilots: &[u32],
+    points: usize,
+    grid: usize,
+) -> u8
+    ensures { λ r. ⌜ r ≡ emptyRefusal (lent setup (now (pilots .entry))) mask slot points grid ⌝ }
 {
     let k = slot_refusal(setup, mask, slot);
     if k != 0 {
         return k;
+    }
+    if !modes::is_lent(setup, pilots) {
+        return 20;
     }
     if points != 96 * mask::lit_subchannels(setup, mask) {
         return 8;
@@ -151,9 +168,16 @@ pub fn empty_refusal(setup: Setup, mask: usize, slot: usize, points: usize, grid
     grid_refusal(setup, grid)
 }
 
-// The number of the first of look's questions, 1, 2, 3, 17, 4, 7, 9, that is answered no, or 0.
-pub fn look_refusal(setup: Setup, mask: usize, symbol: usize, carrier: i32, grid: usize) -> u8
-    ensures { λ r. ⌜ r ≡ lookRefusal (alone setup) mask symbol carrier grid ⌝ }
+// The number of the first of look's questions, 1, 2, 3, 17, 4, 7, 20, 9, that is answered no, or 0.
+pub fn look_refusal(
+    setup: Setup,
+    mask: usize,
+    symbol: usize,
+    carrier: i32,
+    pilots: &[u32],
+    grid: usize,
+) -> u8
+    ensures { λ r. ⌜ r ≡ lookRefusal (lent setup (now (pilots .entry))) mask symbol carrier grid ⌝ }
 {
     let k = mask_refusal(setup, mask);
     if k != 0 {
@@ -164,6 +188,9 @@ pub fn look_refusal(setup: Setup, mask: usize, symbol: usize, carrier: i32, grid
     }
     if !centre::in_range(setup.size, carrier) {
         return 7;
+    }
+    if !modes::is_lent(setup, pilots) {
+        return 20;
     }
     grid_refusal(setup, grid)
 }

@@ -38,7 +38,7 @@ module _ (setup : Setup) (mask symbol : ℕ) (carrier k : ℤ) (same : k ≡ car
     look-asked = look-accepted setup mask symbol k (length grid) n e z
 
     pub look-column : (j : ℕ) → j ≡ onRow (setup .size) k → j < setup .size
-    look-column j f = rw f (centred (look-asked .lit .valid) .0 .column-lt k (look-asked .in-range))
+    look-column j f = rw f (centred (look-asked .lit .valid .ranged) .0 .column-lt k (look-asked .in-range))
 
     pub look-done : (j : ℕ) → j ≡ onRow (setup .size) k → (place : ℕ) → place ≡ columnPosition setup (symbol % symbols setup) j
         → (p : Point) → p ≡ pointAt grid place → (a : Answer Sight) → a ≡ accepted (sight p (litContent setup mask symbol j)) → a ≡ lookOf setup mask symbol grid carrier

@@ -1,4 +1,4 @@
--- Look. Document 01, "Grids"; document 02, wishes 3 and 5.
+-- Look. Document 01, "Grids"; document 02, wishes 3, 5 and 8.
 use mathlib.Core.List.{List}
 use Prim.Native.Nat.{ℕ, _%_}
 use lib.ListN.{length}
@@ -29,7 +29,7 @@ sight p dc = nothing
 sight p pilot = pilot-with p
 sight p (point slot subchannel index) = data-with p slot subchannel index
 
--- Look takes mode, size, cell, mask, a zone's symbol, its slot's filled grid and a carrier, and reads the point from the grid. Questions 1, 2, 3, 17, 4, 7, 9.
+-- Look takes mode, size, cell, mask, a zone's symbol, its slot's filled grid and a carrier, and reads the point from the grid. Questions 1, 2, 3, 17, 4, 7, 20, 9.
 unfoldable pub lookOf : (setup : Setup) (mask symbol : ℕ) (grid : List Float) (carrier : ℤ) → Answer Sight
 lookOf setup mask symbol grid carrier =
     askLook setup mask symbol carrier (length grid)

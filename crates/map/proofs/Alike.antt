@@ -35,6 +35,11 @@ pub pilots-down : (setup : Setup) (slot other : ℕ) → setup .mode ≡ 0 → (
 unfolding isPilot symbolsOf
 pilots-down setup slot other z o used = rw (eq-eqb (setup .mode) 0 z) (pilot-parity slot o used ∙ sym (pilot-parity other o used))
 
+-- in FUSC every slot's, with the same list
+pub pilots-lent : (setup : Setup) (slot other : ℕ) → setup .mode ≡ 7 → (o used : ℕ) → isPilot setup (slot * symbols setup + o) used ≡ isPilot setup (other * symbols setup + o) used
+unfolding isPilot
+pilots-lent setup slot other z o used = rw z
+
 pub pilots-alike : (setup : Setup) (slot other : ℕ) → Alike setup slot other → (o used : ℕ) → isPilot setup (slot * symbols setup + o) used ≡ isPilot setup (other * symbols setup + o) used
 unfolding isPilot isBinPilot binPilotPlace
 pilots-alike setup slot other e o used =

@@ -1,5 +1,5 @@
 -- What the modes' formulas ask of a valid setup, and what they put together.
-use Rattle.base.proofs.Prelude.{_≡_, sym, ap, ap₂, _∙_, false, ℕ, _*_, _/_, _%_, _<_, mod-lt, div-add-mod', arith}
+use Rattle.base.proofs.Prelude.{_≡_, sym, ap, ap₂, _∙_, true, false, ℕ, _*_, _/_, _%_, _<_, mod-lt, div-add-mod', arith}
 use Rattle.base.proofs.LeaveOut.{unskip-le}
 use Rattle.ofusc.specs.Width.{Width}
 use Rattle.ofusc.proofs.Sequence.{size}
@@ -12,16 +12,18 @@ use Rattle.pusc_ul.specs.Tile.{isTilePilot}
 use Rattle.amc.specs.{declared.Shape.Shape, Model.IsShape}
 use Rattle.modes.specs.{Setup.Setup, Mode.{shapeOf, width, subchannels, symbols, band}}
 use Rattle.map.specs.Formula.{isPilot, spotOf, addressOf}
-use Rattle.modes.specs.Model.{IsAmc, Valid}
-use Rattle.modes.proofs.Choice.{amc-shape, at-0, at-1, at-2, at-amc, by-mode}
-use Rattle.modes.proofs.ByMode.{shape-symbols, shape-subchannels, in-pusc-dl, in-pusc-ul, in-ofusc, in-amc, bin-width, amc-width, few-symbols, few-subchannels, few}
+use Rattle.modes.specs.Model.{IsAmc, Ranged, Valid}
+use Rattle.modes.proofs.Choice.{amc-shape, at-0, at-1, at-2, at-amc, at-7, by-mode}
+use Rattle.modes.proofs.ByMode.{shape-symbols, shape-subchannels, in-pusc-dl, in-pusc-ul, in-ofusc, in-amc, in-fusc, bin-width, amc-width, few-symbols, few-subchannels, few}
+use Rattle.modes.proofs.Lent.{list-lent}
+use Rattle.pilot_list.specs.List.{isIn, isPilotList}
 use Rattle.ofusc.specs.Map as spread
 use Rattle.ofusc.proofs.Law as spread-law
 use Rattle.amc.specs.Map as adjacent
 use Rattle.amc.proofs.Law as adjacent-law
 
 -- what the numberings of the modes over bins ask of a valid setup, and that their numbers are few
-module _ {c : Setup} (v : Valid c) (n : ℕ) (e : n ≡ width c) (s m : ℕ) (hs : s < subchannels c) (hm : m < 48) where
+module _ {c : Setup} (v : Ranged c) (n : ℕ) (e : n ≡ width c) (s m : ℕ) (hs : s < subchannels c) (hm : m < 48) where
   pub ofusc-asks : c .mode ≡ 2 → Width n × ((c .cell < n * n) × (s < n) × (m < 48))
   ofusc-asks q =
       let r = in-ofusc v q in
@@ -32,7 +34,7 @@ module _ {c : Setup} (v : Valid c) (n : ℕ) (e : n ≡ width c) (s m : ℕ) (hs
       let a = ofusc-asks q in
       omega (arith, size (a .0), spread-law.law (a .0) (c .cell) .number-lt s m (a .1 .1) hm)
 
-module _ {c : Setup} (v : Valid c) (q : IsAmc (c .mode)) where
+module _ {c : Setup} (v : Ranged c) (q : IsAmc (c .mode)) where
   module _ (s m : ℕ) (hs : s < subchannels c) (hm : m < 48) (shape : Shape) (e : shape ≡ shapeOf (c .mode)) where
     pub amc-asks : IsShape shape × (c .cell < 2352) × (s < 65536) × (m < 48)
     amc-asks = (rw e (amc-shape (c .mode) q), in-amc v q .cell-lt, omega (arith, few-subchannels v q), hm)
@@ -46,7 +48,7 @@ module _ {c : Setup} (v : Valid c) (q : IsAmc (c .mode)) where
         rw e (omega (arith, few-symbols v q, place-law .offset-lt s m hs′ hm), omega (arith, size (amc-width v q), place-law .number-lt s m hs′ hm))
 
 -- what the modes ask of a used number that is no pilot
-module _ {c : Setup} (v : Valid c) (y u : ℕ) (hu : u < band c .used) (np : isPilot c y u ≡ false) where
+module _ {c : Setup} (v : Ranged c) (y u : ℕ) (hu : u < band c .used) (np : isPilot c y u ≡ false) where
   pub pusc-dl-asks : c .mode ≡ 0 → (c .cell < 32) × (y % 2 < 2) × (u < 1680) × (isClusterPilot (y % 2) u ≡ false)
   unfolding isPilot
   pusc-dl-asks q =
@@ -99,3 +101,16 @@ unfolding addressOf
 amc-address c y u shape e o f d h r g q =
     let o-is : o ≡ y % shapeOf (c .mode) .symbols = f ∙ ap (λ (t : ℕ). y % t) (sym (shape-symbols c q)) in
     g ∙ rw (e, o-is, h) (by-mode (at-amc q))
+
+-- what FUSC asks of a valid setup, to place and to locate
+module _ {c : Setup} (v : Valid c) (q : c .mode ≡ 7) where
+  pub fusc-asks : (s m : ℕ) → s < subchannels c → m < 48 → (c .cell < 32) × (s < 32) × (m < 48) × (isPilotList (c .pilots) ≡ true)
+  fusc-asks s m hs hm =
+      let r = in-fusc (v .ranged) q in
+      (r .cell-lt, rw (r .subchannels-are) at hs, hm, list-lent v q)
+
+  pub fusc-back-asks : (y u : ℕ) → u < band c .used → isPilot c y u ≡ false → (c .cell < 32) × (u < 1702) × (isIn (c .pilots) u ≡ false) × (isPilotList (c .pilots) ≡ true)
+  unfolding isPilot
+  fusc-back-asks y u hu np =
+      let r = in-fusc (v .ranged) q in
+      (r .cell-lt, rw (r .used-are) at hu, by-mode (at-7 q) ∙ np, list-lent v q)

@@ -1,10 +1,11 @@
 -- What specs/Law.antt claims of the map holds.
 use Rattle.base.proofs.Prelude.{_≡_, sym, ap, _∙_, subst, false, ℕ, _+_, _*_, _/_, _<_, arith, digits-div, digits-lt}
+use Rattle.base.proofs.Chain.{ask-yes}
 use lib.IntN.{ℤ, pos}
 use Rattle.base.specs.Answer.{accepted}
 use Rattle.carriers.specs.Band.{carrierOf, usedOf}
 use Rattle.carriers.proofs.Guards.{carrier-lt, carrier-no-guard, carrier-no-dc, used-carrier, band-law as columns}
-use Rattle.modes.specs.{Setup.Setup, Mode.{symbols, band}}
+use Rattle.modes.specs.{Setup.Setup, Mode.{symbols, band}, Question.isLent}
 use Rattle.map.specs.Formula.{isPilot, spotOf, addressOf}
 use Rattle.map.specs.Place.{Place, dc, usedCarrier, placeAt, placeOf, contentOf, locateOf}
 use Rattle.modes.specs.Model.{Valid}
@@ -15,8 +16,11 @@ use Rattle.map.proofs.Law.{in-own-slot, data-placed, dc-content, pilot-
 use Rattle.map.proofs.Slot.{slot-law}
 use Rattle.modes.proofs.Whole.{band-law, centred}
 
-passed : (setup : Setup) → Passes setup → Valid setup
-passed setup e = setup-asked setup _ e .0
+-- what the premise of the law comes to
+pub passed : (setup : Setup) → Passes setup → Valid setup
+passed setup e =
+    let q = setup-asked setup _ e in
+    record { ranged = q .0; is-lent = ask-yes (isLent setup) 20 _ (q .1) .0 }
 
 -- a data carrier of a symbol of the slot has its point, and no other
 module _ (setup : Setup) (v : Valid setup) (slot offset : ℕ) (carrier : ℤ) (hs : slot < 512) (ho : offset < symbols setup) where
@@ -26,7 +30,7 @@ module _ (setup : Setup) (v : Valid setup) (slot offset : ℕ) (carrier : ℤ) (
   point-there : HoldsData setup y carrier → JustOnePoint setup slot y carrier
   unfolding usedCarrier
   point-there d =
-      let b = band-law v in
+      let b = band-law (v .ranged) in
       let u = d .used in
       let column = carrierOf (band setup) u in
       let used-is = used-carrier (band setup) (setup .size) b u (d .used-below) in
@@ -61,8 +65,8 @@ module _ (setup : Setup) (v : Valid setup) (slot offset : ℕ) (carrier : ℤ) (
 -- DC stands in the middle of the row
 dc-there : (setup : Setup) → Valid setup → (y : ℕ) → y < 512 * symbols setup → locateOf setup y (pos 0) ≡ accepted dc
 dc-there setup v y h =
-    let q = centred v in
-    let below : setup .size / 2 < setup .size = omega (arith, band-law v) in
+    let q = centred (v .ranged) in
+    let below : setup .size / 2 < setup .size = omega (arith, band-law (v .ranged)) in
     ap (locateOf setup y) (sym (q .0 .middle)) ∙ locate-column setup y (setup .size / 2) v h below
     ∙ ap accepted (ap (contentOf setup y) (sym (q .1)) ∙ dc-content setup v y)
 
@@ -79,10 +83,10 @@ map-law =
       in-own-slot = λ setup slot s m y k e. in-own-slot setup slot s m e;
       pilot-found = λ setup y u e hy hu p.
           let v = passed setup e in
-          locate-column setup y _ v hy (carrier-lt (band setup) (setup .size) (band-law v) u hu) ∙ ap accepted (pilot-content setup v y u hu p);
+          locate-column setup y _ v hy (carrier-lt (band setup) (setup .size) (band-law (v .ranged)) u hu) ∙ ap accepted (pilot-content setup v y u hu p);
       carriers-rise = λ setup u next e l.
           let v = passed setup e in
-          centred v .0 .rising _ _ (columns (band setup) (setup .size) (band-law v) .rising u next l);
+          centred (v .ranged) .0 .rising _ _ (columns (band setup) (setup .size) (band-law (v .ranged)) .rising u next l);
       dc-at-0 = λ setup y e hy. dc-there setup (passed setup e) y hy;
       place-accepts = λ setup slot s m e h₄ h₅ h₆. (placeAt setup slot (spotOf setup slot s m), place-accepts setup slot s m (passed setup e) h₄ h₅ h₆);
       locate-accepts = λ setup y column e h₄ h. (contentOf setup y column, locate-column setup y column (passed setup e) h₄ h);

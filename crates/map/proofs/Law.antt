@@ -11,7 +11,7 @@ use Rattle.centre.specs.Centre.{fromDc, inRange, onRow}
 use Rattle.centre.proofs.Law.{in-range-mag}
 use Rattle.modes.specs.{Setup.Setup, Mode.{subchannels, symbols, band}}
 use Rattle.map.specs.Formula.{isPilot, spotOf, addressOf}
-use Rattle.modes.specs.Question.{isSlot, isSymbol, isSubchannel, isIndex, isCarrier}
+use Rattle.modes.specs.Question.{isSlot, isSymbol, isSubchannel, isIndex, isCarrier, isLent}
 use Rattle.map.specs.Place.{Place, Content, dc, pilot, point, usedCarrier, placeAt, placeOf, dataAt, contentOf, locateOf}
 use Rattle.modes.specs.Model.{Valid}
 use Rattle.modes.proofs.{Accept.{setup-asked, passes}, ByMode.few, Whole.{band-law, centred}}
@@ -40,12 +40,13 @@ placing c slot s m e =
     let q₄ = ask-yes (isSlot slot) 4 _ (q .1) in
     let q₅ = ask-yes (isSubchannel c s) 5 _ (q₄ .1) in
     let q₆ = ask-yes (isIndex m) 6 _ (q₅ .1) in
+    let q₂₀ = ask-yes (isLent c) 20 _ (q₆ .1) in
     record {
-      is-valid = q .0;
+      is-valid = record { ranged = q .0; is-lent = q₂₀ .0 };
       slot-lt = ltb-true slot 512 (q₄ .0);
       subchannel-lt = ltb-true s (subchannels c) (q₅ .0);
       index-lt = ltb-true m 48 (q₆ .0);
-      place-is = same-accepted (q₆ .1);
+      place-is = same-accepted (q₂₀ .1);
     }
 
 pub locating : (c : Setup) (y : ℕ) (k : ℤ) {w : Content} → locateOf c y k ≡ accepted w → Locating c y k w
@@ -54,35 +55,36 @@ locating c y k e =
     let q = setup-asked c _ e in
     let q₄ = ask-yes (isSymbol c y) 4 _ (q .1) in
     let q₇ = ask-yes (isCarrier c k) 7 _ (q₄ .1) in
+    let q₂₀ = ask-yes (isLent c) 20 _ (q₇ .1) in
     let l = centred (q .0) .0 in
     record {
-      is-valid = q .0;
+      is-valid = record { ranged = q .0; is-lent = q₂₀ .0 };
       symbol-lt = ltb-true y (512 * symbols c) (q₄ .0);
       in-range = q₇ .0;
       column-lt = l .column-lt k (q₇ .0);
       column-is = l .forth k (q₇ .0);
-      content-is = same-accepted (q₇ .1);
+      content-is = same-accepted (q₂₀ .1);
     }
 
 -- FIELDS IN RANGE ARE ACCEPTED, so what is said below of accepted requests is said of every valid setup.
 pub place-accepts : (c : Setup) (slot s m : ℕ) → Valid c → slot < 512 → s < subchannels c → m < 48
     → placeOf c slot s m ≡ accepted (placeAt c slot (spotOf c slot s m))
 unfolding placeOf isSlot isSubchannel isIndex
-place-accepts c slot s m v h₄ h₅ h₆ = passes v ∙ rw (lt-ltb _ _ h₄, lt-ltb _ _ h₅, lt-ltb _ _ h₆)
+place-accepts c slot s m v h₄ h₅ h₆ = passes (v .ranged) ∙ rw (lt-ltb _ _ h₄, lt-ltb _ _ h₅, lt-ltb _ _ h₆, v .is-lent)
 
 pub locate-accepts : (c : Setup) (y : ℕ) (k : ℤ) → Valid c → y < 512 * symbols c → isCarrier c k ≡ true → locateOf c y k ≡ accepted (contentOf c y (onRow (c .size) k))
 unfolding locateOf isSymbol
-locate-accepts c y k v h₄ h₇ = passes v ∙ rw (lt-ltb _ _ h₄, h₇)
+locate-accepts c y k v h₄ h₇ = passes (v .ranged) ∙ rw (lt-ltb _ _ h₄, h₇, v .is-lent)
 
 -- the same by the column
 pub locate-column : (c : Setup) (y column : ℕ) → Valid c → y < 512 * symbols c → column < c .size → locateOf c y (fromDc (c .size) column) ≡ accepted (contentOf c y column)
 unfolding isCarrier
 locate-column c y column v h₄ h =
-    let l = centred v .0 in
+    let l = centred (v .ranged) .0 in
     locate-accepts c y (fromDc (c .size) column) v h₄ (l .in-range column h) ∙ ap (λ (k : ℕ). accepted (contentOf c y k)) (l .back column)
 
 symbols-pos : {c : Setup} → Valid c → 0 < symbols c
-symbols-pos v = few v .symbols-pos
+symbols-pos v = few (v .ranged) .symbols-pos
 
 -- the place of a point holds that point
 module _ (c : Setup) (v : Valid c) (slot s m : ℕ) (hs : s < subchannels c) (hm : m < 48) where
@@ -96,7 +98,7 @@ module _ (c : Setup) (v : Valid c) (slot s m : ℕ) (hs : s < subchannels c) (hm
   unfolding contentOf dataAt
   content-placed =
       let h = l .lies s m hs hm in
-      let b = band-law v in
+      let b = band-law (v .ranged) in
       rw (
         carrier-no-guard (band c) (c .size) b (x .used) (h .used-lt),
         carrier-no-dc (band c) (c .size) b (x .used) (h .used-lt),
@@ -116,7 +118,7 @@ module _ (c : Setup) (v : Valid c) (y k : ℕ)
   a = addressOf c y u
 
   u-lt : u < band c .used
-  u-lt = used-lt (band c) (c .size) (band-law v) k g d
+  u-lt = used-lt (band c) (c .size) (band-law (v .ranged)) k g d
 
   -- symbol y is symbol y mod L of slot y div L
   in-slot : PointOf (subchannels c) a × (spotOf c (y / symbols c) (a .subchannel) (a .index) ≡ record { offset = y % symbols c; used = u })
@@ -136,7 +138,7 @@ module _ (c : Setup) (v : Valid c) (y k : ℕ)
   data-placed h =
       place-accepts c (y / symbols c) (a .subchannel) (a .index) v (div-lt-iff-lt-mul (symbols-pos v) .1 h) (in-slot .0 .subchannel-lt) (in-slot .0 .index-lt)
       ∙ ap (λ (t : Spot). accepted (placeAt c (y / symbols c) t)) (in-slot .1)
-      ∙ (λ i. accepted (record { symbol = div-add-mod' y (symbols c) i; carrier = fromDc (c .size) (carrier-used (band c) (c .size) (band-law v) k g d i) }))
+      ∙ (λ i. accepted (record { symbol = div-add-mod' y (symbols c) i; carrier = fromDc (c .size) (carrier-used (band c) (c .size) (band-law (v .ranged)) k g d i) }))
 
 -- LOCATE FINDS WHAT PLACE PLACED. Where a request to place is accepted, the carrier holds that point and no other.
 pub located-where-placed : (c : Setup) (slot s m : ℕ) {p : Place} → placeOf c slot s m ≡ accepted p
@@ -147,7 +149,7 @@ located-where-placed c slot s m {p} e =
     let h = slot-law (q .is-valid) slot .lies s m (q .subchannel-lt) (q .index-lt) in
     ap (λ (t : Place). locateOf c (t .symbol) (t .carrier)) (sym (q .place-is))
     ∙ locate-column c _ _ (q .is-valid) (digits-lt (q .slot-lt) (h .offset-lt))
-    (carrier-lt (band c) (c .size) (band-law (q .is-valid)) (spotOf c slot s m .used) (h .used-lt))
+    (carrier-lt (band c) (c .size) (band-law (q .is-valid .ranged)) (spotOf c slot s m .used) (h .used-lt))
     ∙ ap accepted (content-placed c (q .is-valid) slot s m (q .subchannel-lt) (q .index-lt))
 
 -- a column that holds a point is no guard, not DC and no pilot
@@ -192,25 +194,25 @@ in-own-slot c slot s m e =
 pub place-small : (c : Setup) (slot s m : ℕ) {p : Place} → placeOf c slot s m ≡ accepted p → (p .symbol < 3072) × (mag (p .carrier) < 1024)
 place-small c slot s m {p} e =
     let q = locating c _ _ (located-where-placed c slot s m e) in
-    omega (arith, q .symbol-lt, in-range-mag (c .size) (p .carrier) (q .in-range), few (q .is-valid))
+    omega (arith, q .symbol-lt, in-range-mag (c .size) (p .carrier) (q .in-range), few (q .is-valid .ranged))
 
 pub point-small : (c : Setup) (y : ℕ) (k : ℤ) (slot s m : ℕ) → locateOf c y k ≡ accepted (point slot s m) → (slot < 512) × (s < 192) × (m < 48)
 point-small c y k slot s m e =
     let q = placing c slot s m (placed-where-located c y k slot s m e) in
-    omega (arith, q .slot-lt, q .subchannel-lt, q .index-lt, few (q .is-valid))
+    omega (arith, q .slot-lt, q .subchannel-lt, q .index-lt, few (q .is-valid .ranged))
 
 -- DC holds DC
 pub dc-content : (c : Setup) → Valid c → (y : ℕ) → contentOf c y (band c .dc) ≡ dc
 unfolding contentOf isGuard isDc
 dc-content c v y =
-    let b = band-law v in
+    let b = band-law (v .ranged) in
     rw (le-ltb (band c .dc) (band c .left) (omega (arith, b)), lt-leb (c .size - band c .right) (band c .dc) (omega (arith, b)), eq-eqb (band c .dc) (band c .dc) refl)
 
 -- a pilot's carrier holds the pilot, and a carrier that holds a pilot is a pilot's
 pub pilot-content : (c : Setup) → Valid c → (y u : ℕ) → u < band c .used → isPilot c y u ≡ true → contentOf c y (carrierOf (band c) u) ≡ pilot
 unfolding contentOf
 pilot-content c v y u h e =
-    let b = band-law v in
+    let b = band-law (v .ranged) in
     rw (carrier-no-guard (band c) (c .size) b u h, carrier-no-dc (band c) (c .size) b u h, used-carrier (band c) (c .size) b u h, e)
 
 pub record PilotAt (c : Setup) (y k : ℕ) : Type 0 where
@@ -226,5 +228,5 @@ pilot-at c v y k e =
     (λ g. cases (isDc (band c) k)
     (λ d. absurd (let h = rw (g, d) at e in let z : _≡_ {A = ℕ} 0 1 = cc in omega arith))
     (λ d. cases (isPilot c y (usedOf (band c) k))
-    (λ p. record { used-below = used-lt (band c) (c .size) (band-law v) k g d; is-pilot = p; carrier-is = carrier-used (band c) (c .size) (band-law v) k g d })
+    (λ p. record { used-below = used-lt (band c) (c .size) (band-law (v .ranged)) k g d; is-pilot = p; carrier-is = carrier-used (band c) (c .size) (band-law (v .ranged)) k g d })
     (λ p. absurd (let h = rw (g, d, p) at e in let z : _≡_ {A = ℕ} 0 1 = cc in omega arith))))

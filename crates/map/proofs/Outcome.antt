@@ -1,17 +1,18 @@
 -- What placing and locating come to at each of their returns.
-use Rattle.base.proofs.Prelude.{_≡_, sym, ap, _∙_, subst, Bool, true, false, ℕ, _*_, _/_, _<_, _≤_}
+use Rattle.base.proofs.Prelude.{_≡_, sym, ap, _∙_, subst, Bool, true, false, ℕ, _*_, _/_, _<_, _≤_, lt-ltb}
+use Rattle.base.proofs.Test.{told-no}
 use mathlib.Core.Bool.{not}
 use lib.IntN.{ℤ}
 use mir.{Syntax.w32, Val.{SFits, toZ, ofZ}, ValLaws.toZ-ofZ}
-use Rattle.base.specs.Answer.{Answer, accepted}
+use Rattle.base.specs.Answer.{Answer, accepted, refused}
 use Rattle.carriers.specs.{declared.Address.Address, declared.Band.Band, Band.{usedOf, isGuard, isDc}, declared.Spot.Spot}
 use Rattle.carriers.proofs.Guards.{used-left, used-lt}
 use Rattle.centre.specs.Centre.{inRange, onRow}
-use Rattle.modes.specs.{Setup.Setup, Mode.{subchannels, symbols, band}}
+use Rattle.modes.specs.{Setup.{Setup, setupWith}, Mode.{subchannels, symbols, band}, Question.{isSlot, isSubchannel, isIndex, isLent}}
 use Rattle.map.specs.Formula.{isPilot, spotOf, addressOf}
-use Rattle.modes.specs.Model.{setupRefusal, Valid}
-use Rattle.map.specs.Place.{Place, Content, guard, dc, pilot, point, placeAt, placeOf, dataAt, contentOf, locateOf}
-use Rattle.modes.proofs.{Whole.band-law, Outcome.{now-valid, carrier-yes}}
+use Rattle.modes.specs.Model.{setupRefusal, Ranged, Valid}
+use Rattle.map.specs.Place.{Place, Content, guard, dc, pilot, point, usedCarrier, placeAt, placeOf, dataAt, contentOf, locateOf}
+use Rattle.modes.proofs.{ByMode.ranged-alone, Whole.band-law, Outcome.{now-valid, lets-pass, carrier-yes}}
 use Rattle.map.proofs.{Slot.slot-law, Law.{place-accepts, locate-accepts}}
 
 module _ (c : Setup) (slot s m : ℕ) where
@@ -20,8 +21,14 @@ module _ (c : Setup) (slot s m : ℕ) where
     pub subchannel-in : s < subchannels c
     subchannel-in = rw (← q) hs
 
-    pub place-done : slot < 512 → (x : Spot) → x ≡ spotOf c slot s m → (a : Answer Place) → a ≡ accepted (placeAt c slot x) → a ≡ placeOf c slot s m
-    place-done h x f a g = g ∙ ap (λ t. accepted (placeAt c slot t)) f ∙ sym (place-accepts c slot s m (now-valid c k e z) h subchannel-in hm)
+    pub place-not-lent : slot < 512 → (t : Bool) → t ≡ isLent c → not t ≡ true → refused 20 ≡ placeOf c slot s m
+    unfolding placeOf isSlot isSubchannel isIndex
+    place-not-lent h t j n = lets-pass c _ k e z (refused 20) (rw (lt-ltb _ _ h, lt-ltb _ _ subchannel-in, lt-ltb _ _ hm, told-no t j n))
+
+    pub place-done : slot < 512 → (t : Bool) → t ≡ isLent c → not t ≡ false → (x : Spot) → x ≡ spotOf c slot s m
+        → (a : Answer Place) → a ≡ accepted (placeAt (setupWith (c .mode) (c .size) (c .cell)) slot x) → a ≡ placeOf c slot s m
+    unfolding placeAt usedCarrier
+    place-done h t j y x f a g = g ∙ ap (λ x. accepted (placeAt c slot x)) f ∙ sym (place-accepts c slot s m (now-valid c k e z t j y) h subchannel-in hm)
 
 pub locate-done : (c : Setup) (k : ℤ) (fits : SFits w32 k) (t : Bool) → t ≡ inRange (c .size) (toZ w32 (ofZ w32 k)) → not t ≡ false
     → (column : ℕ) → column ≡ onRow (c .size) (toZ w32 (ofZ w32 k))
@@ -54,19 +61,19 @@ module _ (c : Setup) (y k : ℕ) (b : Band) (e : b ≡ band c) where
   -- what the inner functions ask there
   pub content-left : Valid c → (g : Bool) → g ≡ isGuard b (c .size) k → g ≡ false → (d : Bool) → d ≡ isDc b k → d ≡ false → b .left ≤ k
   content-left v g h t d h₁ t₁ =
-      rw e (used-left (band c) (c .size) (band-law v) k (rw e at (sym h ∙ t)) (rw e at (sym h₁ ∙ t₁)))
+      rw e (used-left (band c) (c .size) (band-law (v .ranged)) k (rw e at (sym h ∙ t)) (rw e at (sym h₁ ∙ t₁)))
 
   pub content-used : Valid c → (g : Bool) → g ≡ isGuard b (c .size) k → g ≡ false → (d : Bool) → d ≡ isDc b k → d ≡ false
       → (u : ℕ) → u ≡ usedOf b k → u < band c .used
   content-used v g h t d h₁ t₁ u h₂ =
-      rw (h₂, e) (used-lt (band c) (c .size) (band-law v) k (rw e at (sym h ∙ t)) (rw e at (sym h₁ ∙ t₁)))
+      rw (h₂, e) (used-lt (band c) (c .size) (band-law (v .ranged)) k (rw e at (sym h ∙ t)) (rw e at (sym h₁ ∙ t₁)))
 
 pub no-pilot : (c : Setup) (y u : ℕ) (p : Bool) → p ≡ isPilot c y u → p ≡ false → isPilot c y u ≡ false
 no-pilot c y u p h t = sym h ∙ t
 
 -- a spot that `spot` gives may be placed
 pub spot-asks : (c : Setup) (slot s m : ℕ) (x : Spot) → Valid c → slot < 512 → s < subchannels c → m < 48 → x ≡ spotOf c slot s m
-    → Valid c × ((slot < 512) × (x .offset < symbols c) × (x .used < band c .used))
+    → Ranged (setupWith (c .mode) (c .size) (c .cell)) × ((slot < 512) × (x .offset < symbols c) × (x .used < band c .used))
 spot-asks c slot s m x v h hs hm e =
     let l = slot-law v slot .lies s m hs hm in
-    (v, (h, rw e (l .offset-lt), rw e (l .used-lt)))
+    (ranged-alone v, (h, rw e (l .offset-lt), rw e (l .used-lt)))

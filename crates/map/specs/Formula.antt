@@ -6,14 +6,16 @@ use Rattle.carriers.specs.declared.Address.{Address}
 use Rattle.carriers.specs.Bin.{isBinPilot, dataOfUsed, binSpot, inOnlySymbol}
 use Rattle.clusters.specs.Cluster.{isClusterPilot}
 use Rattle.pusc_ul.specs.Tile.{isTilePilot}
+use Rattle.pilot_list.specs.List.{isIn}
 use Rattle.modes.specs.Setup.{Setup}
 use Rattle.modes.specs.Mode.{shapeOf, byMode, width, symbols}
 use Rattle.pusc_dl.specs.Map as pusc-dl
 use Rattle.pusc_ul.specs.Map as pusc-ul
 use Rattle.ofusc.specs.Map as ofusc
 use Rattle.amc.specs.Map as amc
+use Rattle.fusc.specs.Map as fusc
 
--- Is a used number a pilot in a symbol of the zone? (Tiles go by the symbol in the slot.)
+-- Is a used number a pilot in a symbol of the zone? (Tiles go by the symbol in the slot; FUSC's are lent.)
 unfoldable pub isPilot : (setup : Setup) (symbol used : ℕ) → Bool
 isPilot setup symbol used =
     byMode (setup .mode)
@@ -21,6 +23,7 @@ isPilot setup symbol used =
     (isTilePilot (symbol % 3) used)
     (isBinPilot symbol used)
     (isBinPilot symbol used)
+    (isIn (setup .pilots) used)
     false
 
 -- Where an index of a subchannel lies in a slot. Pilots of bins go by the symbol's number in the zone; `first` is that of the slot's first symbol.
@@ -32,6 +35,7 @@ spotOf setup slot subchannel index =
     (pusc-ul.spotOf (setup .cell) subchannel index)
     (binSpot first (inOnlySymbol (ofusc.dataNumber (width setup) (setup .cell) subchannel index)))
     (binSpot first (amc.dataNumber (shapeOf (setup .mode)) (setup .cell) subchannel index))
+    (fusc.spotOf (setup .pilots) (setup .cell) subchannel index)
     (record { offset = 0; used = 0 })
 
 -- The reverse: whose point a used number that is no pilot holds in a symbol of the zone.
@@ -43,4 +47,5 @@ addressOf setup symbol used =
     (pusc-ul.addressOf (setup .cell) (symbol % 3) used)
     (ofusc.addressOf (width setup) (setup .cell) (dataOfUsed symbol used))
     (amc.addressOf its (setup .cell) (symbol % its .symbols) (dataOfUsed symbol used))
+    (fusc.addressOf (setup .pilots) (setup .cell) used)
     (record { subchannel = 0; index = 0 })

@@ -1,21 +1,21 @@
--- What is claimed of the map: THE LAW OF THE MAP, for every setup that questions 1, 2 and 3 let pass. Its proof is `map-law`.
+-- What is claimed of the map: THE LAW OF THE MAP, for every setup that questions 1, 2, 3 and 20 let pass. Its proof is `map-law`.
 use mathlib.Core.Path.{_≡_}
 use mathlib.Core.Bool.{false, true}
 use mathlib.Core.Logic.{_↔_}
 use Prim.Native.Nat.{ℕ, _+_, _*_, _/_, _<_}
 use lib.IntN.{ℤ, pos}
 use lib.Signed.{_<ℤ_}
-use Rattle.base.specs.Answer.{accepted}
+use Rattle.base.specs.Answer.{accepted, ask}
 use Rattle.centre.specs.Centre.{fromDc}
 use Rattle.modes.specs.Setup.{Setup}
 use Rattle.modes.specs.Mode.{subchannels, symbols, band}
 use Rattle.map.specs.Formula.{isPilot}
-use Rattle.modes.specs.Question.{askSetup}
+use Rattle.modes.specs.Question.{isLent, askSetup}
 use Rattle.map.specs.Place.{Place, Content, dc, pilot, point, usedCarrier, placeOf, locateOf}
 
--- questions 1, 2 and 3 let the setup pass
+-- questions 1, 2, 3 and 20 let the setup pass
 abbrev pub Passes : (setup : Setup) → Type 0
-Passes setup = askSetup {A = Unit {0}} setup (accepted tt) ≡ accepted tt
+Passes setup = askSetup {A = Unit {0}} setup (ask (isLent setup) 20 (accepted tt)) ≡ accepted tt
 
 -- `place` puts the point of a slot there
 abbrev pub PlacedAt : (setup : Setup) (slot subchannel index symbol : ℕ) (carrier : ℤ) → Type 0

@@ -14,7 +14,7 @@ use Rattle.map.specs.declared.Located.{Located}
 use Rattle.map.specs.declared.Located.the-variants.{Guard, Dc, Pilot, Data, Refused as RefusedToLocate}
 use Rattle.modes.specs.Mode.{symbols, band}
 use Rattle.map.specs.Formula.{isPilot, spotOf, addressOf}
-use Rattle.modes.specs.Question.{askSetup, isSlot, isSubchannel, isIndex, askCarrier}
+use Rattle.modes.specs.Question.{askSetup, isSlot, isSubchannel, isIndex, isLent, askCarrier}
 
 -- a symbol of the zone and a carrier
 pub record Place : Type 0 where
@@ -29,14 +29,15 @@ usedCarrier setup used = fromDc (setup .size) (carrierOf (band setup) used)
 unfoldable pub placeAt : (setup : Setup) (slot : ℕ) (spot : Spot) → Place
 placeAt setup slot spot = record { symbol = slot * symbols setup + spot .offset; carrier = usedCarrier setup (spot .used) }
 
--- Document 01, "Grids": placing takes mode, size, cell, slot, subchannel and index and gives the zone's symbol and the carrier. Questions 1, 2, 3, 4, 5, 6.
+-- Document 01, "Grids": placing takes mode, size, cell, slot, subchannel and index and gives the zone's symbol and the carrier. Questions 1, 2, 3, 4, 5, 6, 20.
 unfoldable pub placeOf : (setup : Setup) (slot subchannel index : ℕ) → Answer Place
 placeOf setup slot subchannel index =
     askSetup setup
     (ask (isSlot slot) 4
     (ask (isSubchannel setup subchannel) 5
     (ask (isIndex index) 6
-    (accepted (placeAt setup slot (spotOf setup slot subchannel index))))))
+    (ask (isLent setup) 20
+    (accepted (placeAt setup slot (spotOf setup slot subchannel index)))))))
 
 -- What an answer of `place` says: document 01's values, or its number.
 abbrev pub placed : (answer : Placed) → Answer Place
@@ -61,12 +62,13 @@ contentOf setup symbol column =
     (pick (isPilot setup symbol used) pilot
     (dataAt setup symbol (addressOf setup symbol used))))
 
--- Document 01, "Grids": its reverse takes mode, size, cell, the zone's symbol and a carrier and gives guard, DC, pilot or the data address (slot, subchannel, index). Questions 1, 2, 3, 4, 7.
+-- Document 01, "Grids": its reverse takes mode, size, cell, the zone's symbol and a carrier and gives guard, DC, pilot or the data address (slot, subchannel, index). Questions 1, 2, 3, 4, 7, 20.
 unfoldable pub locateOf : (setup : Setup) (symbol : ℕ) (carrier : ℤ) → Answer Content
 locateOf setup symbol carrier =
     askSetup setup
     (askCarrier setup symbol carrier
-    (accepted (contentOf setup symbol (onRow (setup .size) carrier))))
+    (ask (isLent setup) 20
+    (accepted (contentOf setup symbol (onRow (setup .size) carrier)))))
 
 -- What an answer of `locate` says.
 abbrev pub located : (answer : Located) → Answer Content

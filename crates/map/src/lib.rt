@@ -9,10 +9,10 @@ ghost use Prim.Native.Nat.{_*_, _%_, _<_};
 ghost use Rattle.base.specs.Answer.{accepted};
 ghost use Rattle.carriers.specs.Bin.{binSpot, inOnlySymbol};
 ghost use Rattle.ofusc.specs.Map.{dataNumber as ofuscNumber};
-ghost use Rattle.modes.specs.Setup.{alone};
+ghost use Rattle.modes.specs.Setup.{alone, lent};
 ghost use Rattle.modes.specs.Mode.{width as WidthOf, subchannels as Subchannels, symbols as Symbols, band as BandOf};
 ghost use Rattle.map.specs.Formula.{isPilot, spotOf, addressOf};
-ghost use Rattle.modes.specs.Model.{Valid};
+ghost use Rattle.modes.specs.Model.{Ranged, Valid};
 ghost use Rattle.map.specs.Place.{placed, placeAt, placeOf, located, contentOf, locateOf};
 
 // Where a point is placed, or the first refusal.
@@ -47,7 +47,7 @@ fn bin_spot(first: usize, x: DataNumber) -> Spot
 
 // The data number of a point of optional FUSC, in its slot of one symbol.
 fn ofusc_number(setup: Setup, subchannel: usize, index: usize) -> DataNumber
-    requires { ⌜ Valid (alone setup) ⌝ }
+    requires { ⌜ Ranged (alone setup) ⌝ }
     requires { ⌜ (setup .mode ≡ 2) × (subchannel < Subchannels (alone setup)) × (index < 48) ⌝ }
     ensures { λ r. ⌜ r ≡ inOnlySymbol (ofuscNumber (WidthOf (alone setup)) (setup .cell) subchannel index) ⌝ }
 {
@@ -58,16 +58,19 @@ fn ofusc_number(setup: Setup, subchannel: usize, index: usize) -> DataNumber
 }
 
 // Where a point lies in its slot.
-fn spot(setup: Setup, slot: usize, subchannel: usize, index: usize) -> Spot
-    requires { ⌜ Valid (alone setup) ⌝ }
+fn spot(setup: Setup, slot: usize, subchannel: usize, index: usize, pilots: &[u32]) -> Spot
+    requires { ⌜ Valid (lent setup (now pilots)) ⌝ }
     requires { ⌜ (slot < 512) × (subchannel < Subchannels (alone setup)) × (index < 48) ⌝ }
-    ensures { λ r. ⌜ r ≡ spotOf (alone setup) slot subchannel index ⌝ }
+    ensures { λ r. ⌜ r ≡ spotOf (lent setup (now (pilots .entry))) slot subchannel index ⌝ }
 {
     if setup.mode == 0 {
         return pusc_dl::spot(setup.cell, subchannel, index);
     }
     if setup.mode == 1 {
         return pusc_ul::spot(setup.cell, subchannel, index);
+    }
+    if setup.mode == 7 {
+        return fusc::spot(setup.cell, subchannel, index, pilots);
     }
     let first = slot * modes::symbols(setup);
     if setup.mode == 2 {
@@ -80,9 +83,10 @@ fn spot(setup: Setup, slot: usize, subchannel: usize, index: usize) -> Spot
     Spot { offset: 0, used: 0 }
 }
 
-fn is_pilot(setup: Setup, symbol: usize, used: usize) -> bool
-    requires { ⌜ Valid (alone setup) ⌝ }
-    ensures { λ r. ⌜ r ≡ isPilot (alone setup) symbol used ⌝ }
+fn is_pilot(setup: Setup, symbol: usize, used: usize, pilots: &[u32]) -> bool
+    requires { ⌜ Valid (lent setup (now pilots)) ⌝ }
+    requires { ⌜ used < BandOf (alone setup) .used ⌝ }
+    ensures { λ r. ⌜ r ≡ isPilot (lent setup (now (pilots .entry))) symbol used ⌝ }
 {
     if setup.mode == 0 {
         return clusters::is_pilot(symbol, used);
@@ -93,21 +97,27 @@ fn is_pilot(setup: Setup, symbol: usize, used: usize) -> bool
     if modes::is_over_bins(setup.mode) {
         return carriers::is_bin_pilot(symbol, used);
     }
+    if setup.mode == 7 {
+        return pilot_list::is_pilot(pilots, used);
+    }
     false
 }
 
 // Whose point a used number holds that is no pilot.
-fn address(setup: Setup, symbol: usize, used: usize) -> Address
-    requires { ⌜ Valid (alone setup) ⌝ }
+fn address(setup: Setup, symbol: usize, used: usize, pilots: &[u32]) -> Address
+    requires { ⌜ Valid (lent setup (now pilots)) ⌝ }
     requires { ⌜ used < BandOf (alone setup) .used ⌝ }
-    requires { ⌜ isPilot (alone setup) symbol used ≡ false ⌝ }
-    ensures { λ r. ⌜ r ≡ addressOf (alone setup) symbol used ⌝ }
+    requires { ⌜ isPilot (lent setup (now pilots)) symbol used ≡ false ⌝ }
+    ensures { λ r. ⌜ r ≡ addressOf (lent setup (now (pilots .entry))) symbol used ⌝ }
 {
     if setup.mode == 0 {
         return pusc_dl::address(setup.cell, symbol % 2, used);
     }
     if setup.mode == 1 {
         return pusc_ul::address(setup.cell, symbol % 3, used);
+    }
+    if setup.mode == 7 {
+        return fusc::address(setup.cell, used, pilots);
     }
     let d = carriers::data_of_used(symbol, used);
     if setup.mode == 2 {
@@ -129,7 +139,7 @@ fn address(setup: Setup, symbol: usize, used: usize) -> Address
 
 // The place of a spot of a slot.
 fn at(setup: Setup, slot: usize, x: Spot) -> Placed
-    requires { ⌜ Valid (alone setup) ⌝ }
+    requires { ⌜ Ranged (alone setup) ⌝ }
     requires { ⌜ (slot < 512) × (x .offset < Symbols (alone setup)) × (x .used < BandOf (alone setup) .used) ⌝ }
     ensures { λ r. ⌜ placed r ≡ accepted (placeAt (alone setup) slot x) ⌝ }
 {
@@ -140,9 +150,9 @@ fn at(setup: Setup, slot: usize, x: Spot) -> Placed
     }
 }
 
-// The zone's symbol and the carrier of a point, or the first refusal of 1, 2, 3, 4, 5, 6.
-pub fn place(setup: Setup, slot: usize, subchannel: usize, index: usize) -> Placed
-    ensures { λ r. ⌜ placed r ≡ placeOf (alone setup) slot subchannel index ⌝ }
+// The zone's symbol and the carrier of a point, or the first refusal of 1, 2, 3, 4, 5, 6, 20.
+pub fn place(setup: Setup, slot: usize, subchannel: usize, index: usize, pilots: &[u32]) -> Placed
+    ensures { λ r. ⌜ placed r ≡ placeOf (lent setup (now (pilots .entry))) slot subchannel index ⌝ }
 {
     let k = modes::refusal(setup);
     if k != 0 {
@@ -157,14 +167,17 @@ pub fn place(setup: Setup, slot: usize, subchannel: usize, index: usize) -> Plac
     if 48 <= index {
         return Placed::Refused(6);
     }
-    at(setup, slot, spot(setup, slot, subchannel, index))
+    if !modes::is_lent(setup, pilots) {
+        return Placed::Refused(20);
+    }
+    at(setup, slot, spot(setup, slot, subchannel, index, pilots))
 }
 
 // What stands in a column of an accepted symbol's row.
-pub fn content(setup: Setup, symbol: usize, column: usize) -> Located
-    requires { ⌜ Valid (alone setup) ⌝ }
+pub fn content(setup: Setup, symbol: usize, column: usize, pilots: &[u32]) -> Located
+    requires { ⌜ Valid (lent setup (now pilots)) ⌝ }
     requires { ⌜ column < setup .size ⌝ }
-    ensures { λ r. ⌜ located r ≡ accepted (contentOf (alone setup) symbol column) ⌝ }
+    ensures { λ r. ⌜ located r ≡ accepted (contentOf (lent setup (now (pilots .entry))) symbol column) ⌝ }
 {
     let b = modes::band(setup);
     if carriers::is_guard(b, setup.size, column) {
@@ -174,10 +187,10 @@ pub fn content(setup: Setup, symbol: usize, column: usize) -> Located
         return Located::Dc;
     }
     let used = carriers::used(b, column);
-    if is_pilot(setup, symbol, used) {
+    if is_pilot(setup, symbol, used, pilots) {
         return Located::Pilot;
     }
-    let a = address(setup, symbol, used);
+    let a = address(setup, symbol, used, pilots);
     Located::Data {
         slot: modes::slot_of(setup, symbol),
         subchannel: a.subchannel,
@@ -185,9 +198,9 @@ pub fn content(setup: Setup, symbol: usize, column: usize) -> Located
     }
 }
 
-// What a carrier holds in a symbol of the zone, or the first refusal of 1, 2, 3, 4, 7.
-pub fn locate(setup: Setup, symbol: usize, carrier: i32) -> Located
-    ensures { λ r. ⌜ located r ≡ locateOf (alone setup) symbol carrier ⌝ }
+// What a carrier holds in a symbol of the zone, or the first refusal of 1, 2, 3, 4, 7, 20.
+pub fn locate(setup: Setup, symbol: usize, carrier: i32, pilots: &[u32]) -> Located
+    ensures { λ r. ⌜ located r ≡ locateOf (lent setup (now (pilots .entry))) symbol carrier ⌝ }
 {
     let k = modes::refusal(setup);
     if k != 0 {
@@ -199,5 +212,8 @@ pub fn locate(setup: Setup, symbol: usize, carrier: i32) -> Located
     if !centre::in_range(setup.size, carrier) {
         return Located::Refused(7);
     }
-    content(setup, symbol, centre::column(setup.size, carrier))
+    if !modes::is_lent(setup, pilots) {
+        return Located::Refused(20);
+    }
+    content(setup, symbol, centre::column(setup.size, carrier), pilots)
 }

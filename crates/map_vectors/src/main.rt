@@ -5,12 +5,14 @@
 //                                                 or slot.subchannel.index
 //     m mode size cell symbol carrier n           n carriers from minus this one on, as with l
 //
-// Each line is written back with its answers behind a colon. The input and what must come out are
-// made by tests/vectors.py.
+// Behind the numbers of a line stands the pilot list that is lent, its length first; a line that
+// ends before it has the empty list. Each line is written back with its answers behind a colon.
+// The input and what must come out are made by tests/vectors.py.
 use map::Located;
 use map::Placed;
 use modes::Setup;
 use vector_lines::fields;
+use vector_lines::least;
 use vector_lines::line_end;
 use vector_lines::print;
 use vector_lines::print_number;
@@ -43,18 +45,48 @@ fn answer_line(input: &[u8], at: usize) -> usize
     end + 1
 }
 
-fn answer(operation: u8, fields: [usize; 64]) {
+fn answer(operation: u8, f: [usize; 192]) {
+    let k = numbers_of(operation);
+    let pilots = list_behind(f, k);
+    let n = least(f[k], 176);
+    answer_lent(operation, f, &pilots[..n]);
+}
+
+fn answer_lent(operation: u8, f: [usize; 192], pilots: &[u32]) {
     let setup = Setup {
-        mode: fields[0],
-        size: fields[1],
-        cell: fields[2],
+        mode: f[0],
+        size: f[1],
+        cell: f[2],
     };
     if operation == b'p' {
-        points(setup, fields[3], fields[4], fields[5], fields[6]);
+        points(setup, f[3], f[4], f[5], f[6], pilots);
     } else {
-        let first = signed(operation == b'm', fields[4]);
-        carriers(setup, fields[3], first, fields[5]);
+        let first = signed(operation == b'm', f[4]);
+        carriers(setup, f[3], first, f[5], pilots);
     }
+}
+
+// How many numbers of a line stand before its pilot list.
+fn numbers_of(operation: u8) -> usize
+    ensures { λ r. ⌜ r < 8 ⌝ }
+{
+    if operation == b'p' {
+        return 7;
+    }
+    6
+}
+
+// The numbers of a line behind one of its first eight.
+fn list_behind(f: [usize; 192], k: usize) -> [u32; 176]
+    requires { ⌜ k < 8 ⌝ }
+{
+    let mut pilots = [0u32; 176];
+    let mut i = 0;
+    while i < 176 {
+        pilots[i] = (f[k + 1 + i] % 4294967296) as u32;
+        i += 1;
+    }
+    pilots
 }
 
 // A number with its sign; one that 32 bits do not hold is the nearest that they do.
@@ -72,21 +104,21 @@ fn signed(negative: bool, number: usize) -> i32 {
     2147483647
 }
 
-fn points(setup: Setup, slot: usize, subchannel: usize, first: usize, n: usize) {
+fn points(setup: Setup, slot: usize, subchannel: usize, first: usize, n: usize, pilots: &[u32]) {
     let mut i = 0;
     while i < n {
         let index = std::num::wrapping_add_usize(first, i);
-        print_placed(map::place(setup, slot, subchannel, index));
+        print_placed(map::place(setup, slot, subchannel, index, pilots));
         i += 1;
     }
 }
 
 // Answers n carriers from the first on, as far as 32 bits hold them.
-fn carriers(setup: Setup, symbol: usize, first: i32, n: usize) {
+fn carriers(setup: Setup, symbol: usize, first: i32, n: usize, pilots: &[u32]) {
     let mut carrier = first;
     let mut i = 0;
     while i < n {
-        print_located(map::locate(setup, symbol, carrier));
+        print_located(map::locate(setup, symbol, carrier, pilots));
         if carrier < 2147483647 {
             carrier += 1;
         } else {

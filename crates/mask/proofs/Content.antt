@@ -35,7 +35,7 @@ module _ {setup : Setup} (v : Valid setup) (mask symbol column : ℕ) (hy : symb
   content-lit a s m e =
       let carrier = fromDc (setup .size) column in
       let l = locate-column setup symbol column v hy hc in
-      ap (λ (k : ℕ). isUsedLit setup mask (usedOf (band setup) k)) (sym (centred v .0 .back column))
+      ap (λ (k : ℕ). isUsedLit setup mask (usedOf (band setup) k)) (sym (centred (v .ranged) .0 .back column))
       ∙ placed-lit setup mask a s m symbol carrier (placed-where-located setup symbol carrier a s m (l ∙ ap accepted e))
 
   lit-or-not : (w : Content) → accepted w ≡ accepted held → (t : Bool) → isUsedLit setup mask used ≡ t → accepted (pick t w guard) ≡ accepted (litContent setup mask symbol column)
@@ -64,7 +64,7 @@ module _ {setup : Setup} (v : Valid setup) (mask symbol column : ℕ) (hy : symb
   unfolding isDc
   has-used w ne e =
       let g = no-guard w ne (sym (same-accepted e)) in
-      let b = band-law v in
+      let b = band-law (v .ranged) in
       cases (isDc (band setup) column)
       (λ d. let k = eqb-true column (band setup .dc) d in
       (omega (arith, b .dc-is), rw (ap (usedOf (band setup)) k ∙ dc-used (band setup) (setup .size) b) (b .half-lt)))

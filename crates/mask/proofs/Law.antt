@@ -14,22 +14,23 @@ use Rattle.pusc_dl.proofs.Law.{point-group}
 use Rattle.pusc_dl_lit.proofs.Lit.{all-groups}
 use Rattle.modes.specs.{Setup.{Setup, setupWith}, Mode.{subchannels, subchannelsOf, band}}
 use Rattle.map.specs.{Formula.spotOf, Place.{Place, usedCarrier, placeAt, contentOf}, Law.PlacedAt}
-use Rattle.modes.specs.Model.{Valid, pusc-dl, pusc-ul, ofusc, amc}
+use Rattle.modes.specs.Model.{pusc-dl, pusc-ul, ofusc, amc, Ranged, own, fusc}
 use Rattle.modes.proofs.{Choice.amc-not-0, ByMode.few, Whole.{band-law, centred}}
 use Rattle.map.proofs.{Slot.slot-law, Law.placing}
-use Rattle.mask.specs.{Mask.{isMask, isLit, isUsedLit, litContent, litSubchannels, litRank, ofLitRank, allLit}, Law.MaskLaw}
+use Rattle.mask.specs.{Mask.{isMask, isLitOf, isLit, isUsedLitOf, isUsedLit, litContent, litSubchannels, litRank, ofLitRank, allLit}, Law.MaskLaw}
 
 -- A POINT'S USED NUMBER IS LIT EXACTLY WHEN ITS SUBCHANNEL IS, by its spot.
-pub point-lit : {setup : Setup} → Valid setup → (mask slot s m : ℕ) → s < subchannels setup → m < 48
+pub point-lit : {setup : Setup} → Ranged setup → (mask slot s m : ℕ) → s < subchannels setup → m < 48
     → isUsedLit setup mask (spotOf setup slot s m .used) ≡ isLit setup mask s
-unfolding isUsedLit isLit spotOf subchannelsOf
-point-lit (pusc-dl {cell = cell} h) mask slot s m hs hm = ap (hasGroup mask) (point-group cell s m hs hm)
-point-lit (pusc-ul h) mask slot s m hs hm = refl
-point-lit (ofusc w h) mask slot s m hs hm = refl
-point-lit (amc q w h) mask slot s m hs hm = rw (amc-not-0 q)
+unfolding isUsedLitOf isLitOf spotOf subchannelsOf
+point-lit (own (pusc-dl {cell = cell} h)) mask slot s m hs hm = ap (hasGroup mask) (point-group cell s m hs hm)
+point-lit (own (pusc-ul h)) mask slot s m hs hm = refl
+point-lit (own (ofusc w h)) mask slot s m hs hm = refl
+point-lit (own (amc q w h)) mask slot s m hs hm = rw (amc-not-0 q)
+point-lit (fusc h) mask slot s m hs hm = refl
 
 -- a used number's carrier is that number's
-pub used-on-row : {setup : Setup} → Valid setup → (used : ℕ) → used < band setup .used → usedOf (band setup) (onRow (setup .size) (usedCarrier setup used)) ≡ used
+pub used-on-row : {setup : Setup} → Ranged setup → (used : ℕ) → used < band setup .used → usedOf (band setup) (onRow (setup .size) (usedCarrier setup used)) ≡ used
 unfolding usedCarrier
 used-on-row {setup} v used h =
     ap (usedOf (band setup)) (centred v .0 .back (carrierOf (band setup) used)) ∙ used-carrier (band setup) (setup .size) (band-law v) used h
@@ -40,29 +41,29 @@ pub placed-lit : (setup : Setup) (mask slot s m symbol : ℕ) (carrier : ℤ) �
 unfolding placeAt
 placed-lit setup mask slot s m symbol carrier e =
     let q = placing setup slot s m e in
-    let own = slot-law (q .is-valid) slot .lies s m (q .subchannel-lt) (q .index-lt) .used-lt in
+    let lies = slot-law (q .is-valid) slot .lies s m (q .subchannel-lt) (q .index-lt) .used-lt in
     let there = ap (λ (p : Place). usedOf (band setup) (onRow (setup .size) (p .carrier))) (sym (q .place-is)) in
-    ap (isUsedLit setup mask) (there ∙ used-on-row (q .is-valid) (spotOf setup slot s m .used) own)
-    ∙ point-lit (q .is-valid) mask slot s m (q .subchannel-lt) (q .index-lt)
+    ap (isUsedLit setup mask) (there ∙ used-on-row (q .is-valid .ranged) (spotOf setup slot s m .used) lies)
+    ∙ point-lit (q .is-valid .ranged) mask slot s m (q .subchannel-lt) (q .index-lt)
 
 data-lit : (setup : Setup) (mask slot s m symbol used : ℕ) → used < band setup .used → PlacedAt setup slot s m symbol (usedCarrier setup used)
     → isUsedLit setup mask used ≡ isLit setup mask s
 data-lit setup mask slot s m symbol used h e =
-    ap (isUsedLit setup mask) (sym (used-on-row (placing setup slot s m e .is-valid) used h))
+    ap (isUsedLit setup mask) (sym (used-on-row (placing setup slot s m e .is-valid .ranged) used h))
     ∙ placed-lit setup mask slot s m symbol (usedCarrier setup used) e
 
 cluster-lit : (cell mask place : ℕ) (p : Physical) → place < 14
     → isUsedLit (setupWith 0 2048 cell) mask (p .0 * 14 + place) ≡ hasGroup mask (groupIn clusterStarts (renumber cell p .0))
-unfolding isUsedLit usedGroup logicalOf renumber
+unfolding isUsedLitOf usedGroup logicalOf renumber
 cluster-lit cell mask place p h = rw (digits-div (p .0) h)
 
 -- the mask that lights all
 all-lit : (setup : Setup) (s : ℕ) → isLit setup (allLit (setup .mode)) s ≡ true
-unfolding isLit allLit
+unfolding isLitOf allLit
 all-lit setup s = cases (eqb (setup .mode) 0) (λ e. rw e (all-groups subchannelStarts s)) (λ e. rw e)
 
 all-used-lit : (setup : Setup) (used : ℕ) → isUsedLit setup (allLit (setup .mode)) used ≡ true
-unfolding isUsedLit allLit usedGroup
+unfolding isUsedLitOf allLit usedGroup
 all-used-lit setup used = cases (eqb (setup .mode) 0) (λ e. rw e (all-groups clusterStarts (logicalOf (setup .cell) used .0))) (λ e. rw e)
 
 all-content : (setup : Setup) (symbol column : ℕ) → litContent setup (allLit (setup .mode)) symbol column ≡ contentOf setup symbol column
@@ -123,13 +124,13 @@ mask-small mode mask e =
 
 -- how many subchannels are lit: all, but in mode 0
 pub others-count : (setup : Setup) (mask : ℕ) → (setup .mode ≡ 0 → ⊥) → litSubchannels setup mask ≡ subchannels setup
-unfolding isLit
+unfolding isLitOf
 others-count setup mask ne = rank-all (isLit setup mask) (subchannels setup) (λ s h. rw (ne-eqb (setup .mode) 0 ne))
 
 pub groups-count : (setup : Setup) (mask : ℕ) → setup .mode ≡ 0 → (n : ℕ) → n ≡ rank (λ s. hasGroup mask (groupIn subchannelStarts s)) 60 → n ≡ litSubchannels setup mask
-unfolding isLit subchannelsOf
+unfolding isLitOf subchannelsOf
 groups-count setup mask e n q =
     rw (eq-eqb (setup .mode) 0 e) (q ∙ rank-as _ (isLit setup mask) 60 (λ s. rw (eq-eqb (setup .mode) 0 e)))
 
-pub lit-few : {setup : Setup} → Valid setup → (mask n : ℕ) → n ≡ litSubchannels setup mask → n ≤ 192
+pub lit-few : {setup : Setup} → Ranged setup → (mask n : ℕ) → n ≡ litSubchannels setup mask → n ≤ 192
 lit-few {setup} v mask n e = omega (arith, rank-most (isLit setup mask) (subchannels setup), few v .subchannels-few)

@@ -17,12 +17,18 @@ unfoldable pub isMask : (mode mask : ℕ) → Bool
 isMask mode mask = pick (eqb mode 0) (isUpTo 63 mask) (eqb mask 0)
 
 -- Is a subchannel lit? In mode 0 where the mask has its group; in the others all is lit.
-unfoldable pub isLit : (setup : Setup) (mask subchannel : ℕ) → Bool
-isLit setup mask subchannel = pick (eqb (setup .mode) 0) (hasGroup mask (groupIn subchannelStarts subchannel)) true
+unfoldable pub isLitOf : (mode mask subchannel : ℕ) → Bool
+isLitOf mode mask subchannel = pick (eqb mode 0) (hasGroup mask (groupIn subchannelStarts subchannel)) true
+
+abbrev pub isLit : (setup : Setup) (mask subchannel : ℕ) → Bool
+isLit setup mask subchannel = isLitOf (setup .mode) mask subchannel
 
 -- Is a used number lit, pilot or data? In mode 0 where the mask has the group of its cluster, by the cluster's logical number.
-unfoldable pub isUsedLit : (setup : Setup) (mask used : ℕ) → Bool
-isUsedLit setup mask used = pick (eqb (setup .mode) 0) (hasGroup mask (usedGroup (setup .cell) used)) true
+unfoldable pub isUsedLitOf : (mode cell mask used : ℕ) → Bool
+isUsedLitOf mode cell mask used = pick (eqb mode 0) (hasGroup mask (usedGroup cell used)) true
+
+abbrev pub isUsedLit : (setup : Setup) (mask used : ℕ) → Bool
+isUsedLit setup mask used = isUsedLitOf (setup .mode) (setup .cell) mask used
 
 -- Pilots and data of unlit groups hold zeros, and look answers nothing there: a column that is not lit holds what a guard does. (Guards and DC have no used number; they hold nothing either way.)
 unfoldable pub litContent : (setup : Setup) (mask symbol column : ℕ) → Content

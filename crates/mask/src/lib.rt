@@ -5,10 +5,10 @@ ghost use mathlib.Core.Path.{_≡_};
 ghost use Prim.Native.Nat.{_*_, _<_, _≤_};
 ghost use Rattle.base.specs.Answer.{accepted};
 ghost use Rattle.carriers.specs.Band.{usedOf};
-ghost use Rattle.modes.specs.Setup.{alone};
+ghost use Rattle.modes.specs.Setup.{alone, lent};
 ghost use Rattle.modes.specs.Mode.{symbols, band};
 ghost use Rattle.map.specs.Place.{located};
-ghost use Rattle.modes.specs.Model.{Valid};
+ghost use Rattle.modes.specs.Model.{Ranged, Valid};
 ghost use Rattle.mask.specs.Mask.{isMask, isLit, isUsedLit, litContent, litSubchannels};
 
 // Is the mask in its range?
@@ -33,7 +33,7 @@ pub fn is_lit(setup: Setup, mask: usize, subchannel: usize) -> bool
 
 // Is a used number lit?
 pub fn is_used_lit(setup: Setup, mask: usize, used: usize) -> bool
-    requires { ⌜ Valid (alone setup) ⌝ }
+    requires { ⌜ Ranged (alone setup) ⌝ }
     requires { ⌜ used < band (alone setup) .used ⌝ }
     ensures { λ r. ⌜ r ≡ isUsedLit (alone setup) mask used ⌝ }
 {
@@ -45,7 +45,7 @@ pub fn is_used_lit(setup: Setup, mask: usize, used: usize) -> bool
 
 // Is a column lit, by its used number? DC counts as the used number above it.
 fn is_column_lit(setup: Setup, mask: usize, column: usize) -> bool
-    requires { ⌜ Valid (alone setup) ⌝ }
+    requires { ⌜ Ranged (alone setup) ⌝ }
     requires { ⌜ (band (alone setup) .left ≤ column) × (usedOf (band (alone setup)) column < band (alone setup) .used) ⌝ }
     ensures { λ r. ⌜ r ≡ isUsedLit (alone setup) mask (usedOf (band (alone setup)) column) ⌝ }
 {
@@ -53,12 +53,18 @@ fn is_column_lit(setup: Setup, mask: usize, column: usize) -> bool
 }
 
 // What stands in a column of an accepted symbol's row, where what is not lit counts as a guard: data is lit by its subchannel.
-pub fn lit_content(setup: Setup, mask: usize, symbol: usize, column: usize) -> Located
-    requires { ⌜ Valid (alone setup) ⌝ }
+pub fn lit_content(
+    setup: Setup,
+    mask: usize,
+    symbol: usize,
+    column: usize,
+    pilots: &[u32],
+) -> Located
+    requires { ⌜ Valid (lent setup (now pilots)) ⌝ }
     requires { ⌜ (symbol < 512 * symbols (alone setup)) × (column < setup .size) ⌝ }
-    ensures { λ r. ⌜ located r ≡ accepted (litContent (alone setup) mask symbol column) ⌝ }
+    ensures { λ r. ⌜ located r ≡ accepted (litContent (lent setup (now (pilots .entry))) mask symbol column) ⌝ }
 {
-    match map::content(setup, symbol, column) {
+    match map::content(setup, symbol, column, pilots) {
         Located::Guard => Located::Guard,
         Located::Dc => {
             if is_column_lit(setup, mask, column) {

@@ -1,17 +1,23 @@
 -- What a valid setup says of its mode.
-use Rattle.base.proofs.Prelude.{_≡_, refl, sym, ap, _∙_, ℕ, _*_, _/_, _<_, _≤_, mul-le-mul, arith}
+use Rattle.base.proofs.Prelude.{_≡_, refl, sym, ap, _∙_, List, ℕ, _*_, _/_, _<_, _≤_, mul-le-mul, arith}
 use Rattle.ofusc.specs.Width.{Width}
 use Rattle.ofusc.proofs.Sequence.{size}
 use Rattle.amc.proofs.Parts.{symbols-pos, symbols-few, symbols-are}
-use Rattle.modes.specs.{Setup.Setup, Mode.{shapeOf, width, widthOf, cells, cellsOf, subchannels, subchannelsOf, symbols, symbolsOf, band, bandOf}}
-use Rattle.modes.specs.Model.{IsListed, OverBins, IsAmc, Valid, pusc-dl, pusc-ul, ofusc, amc}
+use Rattle.modes.specs.{Setup.{Setup, setupLent, setupWith}, Mode.{shapeOf, width, widthOf, cells, cellsOf, subchannels, subchannelsOf, symbols, symbolsOf, band, bandOf}}
+use Rattle.modes.specs.Model.{OverBins, IsAmc, pusc-dl, pusc-ul, ofusc, amc, Ranged, own, fusc, Valid}
 use Rattle.modes.proofs.{Choice.{amc-shape, at-amc, by-mode, amc-column}, Accept.width-is}
 
-pub listed-mode : {c : Setup} → Valid c → IsListed (c .mode)
-listed-mode (pusc-dl h) = omega arith
-listed-mode (pusc-ul h) = omega arith
-listed-mode (ofusc w h) = omega arith
-listed-mode (amc q w h) = omega arith
+-- what questions 1, 2 and 3 let pass does not go by what is lent
+pub ranged-with : {mode size cell : ℕ} {pilots other : List ℕ} → Ranged (setupLent mode size cell pilots) → Ranged (setupLent mode size cell other)
+ranged-with (own (pusc-dl h)) = own (pusc-dl h)
+ranged-with (own (pusc-ul h)) = own (pusc-ul h)
+ranged-with (own (ofusc w h)) = own (ofusc w h)
+ranged-with (own (amc q w h)) = own (amc q w h)
+ranged-with (fusc h) = fusc h
+
+-- so a function that takes no list may be called with a valid setup
+pub ranged-alone : {mode size cell : ℕ} {pilots : List ℕ} → Valid (setupLent mode size cell pilots) → Ranged (setupWith mode size cell)
+ranged-alone v = ranged-with (v .ranged)
 
 -- what AMC's shape gives
 module _ (c : Setup) (q : IsAmc (c .mode)) where
@@ -28,12 +34,13 @@ module _ (c : Setup) (q : IsAmc (c .mode)) where
   bin-used = simp amc-column
 
 -- a slot has 1, 2, 3 or 6 symbols
-pub six-symbols : {c : Setup} → Valid c → (symbols c ≡ 1 → ⊥) → (symbols c ≡ 2 → ⊥) → (symbols c ≡ 3 → ⊥) → symbols c ≡ 6
+pub six-symbols : {c : Setup} → Ranged c → (symbols c ≡ 1 → ⊥) → (symbols c ≡ 2 → ⊥) → (symbols c ≡ 3 → ⊥) → symbols c ≡ 6
 unfolding symbolsOf
-six-symbols (pusc-dl h) n₁ n₂ n₃ = absurd (n₂ refl)
-six-symbols (pusc-ul h) n₁ n₂ n₃ = absurd (n₃ refl)
-six-symbols (ofusc w h) n₁ n₂ n₃ = absurd (n₁ refl)
-six-symbols {c} (amc {mode = m} q w h) n₁ n₂ n₃ =
+six-symbols (own (pusc-dl h)) n₁ n₂ n₃ = absurd (n₂ refl)
+six-symbols (own (pusc-ul h)) n₁ n₂ n₃ = absurd (n₃ refl)
+six-symbols (own (ofusc w h)) n₁ n₂ n₃ = absurd (n₁ refl)
+six-symbols (fusc h) n₁ n₂ n₃ = absurd (n₁ refl)
+six-symbols {c} (own (amc {mode = m} q w h)) n₁ n₂ n₃ =
     let e = shape-symbols c q in
     sym e ∙ symbols-are (shapeOf m) (amc-shape m q) (λ z. n₁ (sym e ∙ z)) (λ z. n₂ (sym e ∙ z)) (λ z. n₃ (sym e ∙ z))
 
@@ -47,14 +54,15 @@ pub record Ranges (c : Setup) (cells subchannels′ used : ℕ) : Type 0 where
   pub subchannels-are : subchannels c ≡ subchannels′
   pub used-are : band c .used ≡ used
 
-pub cell-in : {c : Setup} → Valid c → c .cell < cells c
+pub cell-in : {c : Setup} → Ranged c → c .cell < cells c
 unfolding cellsOf widthOf
-cell-in (pusc-dl h) = h
-cell-in (pusc-ul h) = h
-cell-in (ofusc {n = n} w h) = rw (width-is n) h
-cell-in (amc q w h) = simp amc-column h
+cell-in (own (pusc-dl h)) = h
+cell-in (own (pusc-ul h)) = h
+cell-in (own (ofusc {n = n} w h)) = rw (width-is n) h
+cell-in (own (amc q w h)) = simp amc-column h
+cell-in (fusc h) = h
 
-module _ {c : Setup} (v : Valid c) where
+module _ {c : Setup} (v : Ranged c) where
   pub in-pusc-dl : c .mode ≡ 0 → Ranges c 32 60 1680
   unfolding cellsOf subchannelsOf bandOf
   in-pusc-dl e = record { cell-lt = rw e at (cell-in v); subchannels-are = rw e; used-are = rw e }
@@ -76,16 +84,21 @@ module _ {c : Setup} (v : Valid c) where
         used-are = bin-used c q;
       }
 
+  pub in-fusc : c .mode ≡ 7 → Ranges c 32 32 1702
+  unfolding cellsOf subchannelsOf bandOf
+  in-fusc e = record { cell-lt = rw e at (cell-in v); subchannels-are = rw e; used-are = rw e }
+
 -- the modes over bins have a width N
-pub bin-width : {c : Setup} → Valid c → OverBins (c .mode) → Width (width c)
+pub bin-width : {c : Setup} → Ranged c → OverBins (c .mode) → Width (width c)
 unfolding widthOf
-bin-width (pusc-dl h) o = absurd (omega arith)
-bin-width (pusc-ul h) o = absurd (omega arith)
-bin-width (ofusc {n = n} w h) o = rw (width-is n) w
-bin-width (amc {n = n} q w h) o = rw (width-is n) w
+bin-width (own (pusc-dl h)) o = absurd (omega arith)
+bin-width (own (pusc-ul h)) o = absurd (omega arith)
+bin-width (own (ofusc {n = n} w h)) o = rw (width-is n) w
+bin-width (own (amc {n = n} q w h)) o = rw (width-is n) w
+bin-width (fusc h) o = absurd (omega arith)
 
 -- what AMC asks
-module _ {c : Setup} (v : Valid c) (q : IsAmc (c .mode)) where
+module _ {c : Setup} (v : Ranged c) (q : IsAmc (c .mode)) where
   pub amc-width : Width (width c)
   amc-width = bin-width v (omega arith)
 
@@ -106,31 +119,32 @@ pub record Few (c : Setup) : Type 0 where
   pub half-few : band c .half ≤ 864
   pub used-few : band c .used ≤ 1728
 
-pub few : {c : Setup} → Valid c → Few c
+pub few : {c : Setup} → Ranged c → Few c
 unfolding symbolsOf subchannelsOf bandOf widthOf
-few (pusc-dl h) = omega arith
-few (pusc-ul h) = omega arith
-few (ofusc w h) = let b = size w .most in omega arith
-few {c} (amc {mode = m} {pilots = lent} q w h) =
+few (own (pusc-dl h)) = omega arith
+few (own (pusc-ul h)) = omega arith
+few (own (ofusc w h)) = let b = size w .most in omega arith
+few (fusc h) = omega arith
+few {c} (own (amc {mode = m} {pilots = lent} q w h)) =
     let shape = amc-shape m q in
     let n = size w .most in
     record {
       symbols-pos = simp amc-column (symbols-pos (shapeOf m) shape);
       symbols-few = simp amc-column (symbols-few (shapeOf m) shape);
       size-few = omega arith;
-      subchannels-few = few-subchannels (amc {pilots = lent} q w h) q;
+      subchannels-few = few-subchannels (own (amc {pilots = lent} q w h)) q;
       left-few = simp amc-column (omega arith);
       half-few = simp amc-column (omega arith);
       used-few = simp amc-column (omega arith);
     }
 
 -- a zone's symbols and a grid's rows are few
-pub slot-few : {c : Setup} → Valid c → (slot n : ℕ) → slot < 512 → n ≡ symbols c → slot * n ≤ 3072
+pub slot-few : {c : Setup} → Ranged c → (slot n : ℕ) → slot < 512 → n ≡ symbols c → slot * n ≤ 3072
 slot-few v slot n h e =
     let r = few v in
     mul-le-mul {n₁ = slot} {m₁ = n} {n₂ = 512} {m₂ = 6} (omega arith) (omega arith)
 
-pub row-few : {c : Setup} → Valid c → (row : ℕ) → row < symbols c → row * c .size ≤ 12288
+pub row-few : {c : Setup} → Ranged c → (row : ℕ) → row < symbols c → row * c .size ≤ 12288
 row-few {c} v row h =
     let r = few v in
     mul-le-mul {n₁ = row} {m₁ = c .size} {n₂ = 6} {m₂ = 2048} (omega arith) (r .size-few)

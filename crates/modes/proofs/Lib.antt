@@ -4,3 +4,4 @@ pub mod Accept
 pub mod ByMode
 pub mod Whole
 pub mod Outcome
+pub mod Lent

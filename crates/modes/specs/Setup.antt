@@ -3,8 +3,7 @@ use mathlib.Core.List.{List, []}
 use Prim.Native.Nat.{ℕ}
 use Rattle.modes.specs.declared.Setup as code
 
--- Document 01, "Grids": mode, size and cell. Document 02, wish 8: a symbol's pilots, lent as rising used numbers. No listed mode takes any:
--- no definition looks at the list, every call has an empty one, and what is claimed holds whatever it is.
+-- Document 01, "Grids": mode, size and cell. Document 02, wish 8: a symbol's pilots, lent as rising used numbers, in FUSC. In every other mode nothing is lent: question 20 asks it.
 pub record Setup : Type 0 where
   pub mode : ℕ
   pub size : ℕ
@@ -18,6 +17,10 @@ setupLent mode size cell pilots = record { mode = mode; size = size; cell = cell
 abbrev pub setupWith : (mode size cell : ℕ) → Setup
 setupWith mode size cell = setupLent mode size cell []
 
--- a setup of the code, which holds no list, with nothing lent
+-- a setup of the code, which holds no list, with a list that is lent beside it
+abbrev pub lent : (setup : code.Setup) (pilots : List ℕ) → Setup
+lent setup pilots = setupLent (setup .mode) (setup .size) (setup .cell) pilots
+
+-- a setup of the code with nothing lent
 abbrev pub alone : (setup : code.Setup) → Setup
 alone setup = setupWith (setup .mode) (setup .size) (setup .cell)

@@ -1,13 +1,13 @@
-// Modes and their ranges: the columns of the table and questions 1, 2 and 3.
+// Modes and their ranges: the columns of the table, and questions 1, 2, 3 and 20.
 use amc::Shape;
 use carriers::Band;
 ghost use mathlib.Core.Path.{_≡_};
 ghost use mathlib.Core.Bool.{false};
 ghost use Prim.Native.Nat.{_*_, _/_, _%_, _<_, _≤_};
-ghost use Rattle.modes.specs.Setup.{alone};
+ghost use Rattle.modes.specs.Setup.{alone, lent};
 ghost use Rattle.modes.specs.Mode.{isAmc, shapeOf, width as WidthOf, cells as Cells, subchannels as Subchannels, symbols as Symbols, band as BandOf};
-ghost use Rattle.modes.specs.Question.{isFourSizes, isSize};
-ghost use Rattle.modes.specs.Model.{isOverBins, setupRefusal, Valid};
+ghost use Rattle.modes.specs.Question.{isFourSizes, isSize, isLent};
+ghost use Rattle.modes.specs.Model.{isOverBins, setupRefusal, Ranged};
 
 // What a zone fixes: mode, FFT size and cell.
 pub struct Setup {
@@ -93,6 +93,9 @@ fn cells(setup: Setup) -> usize
     if is_amc(setup.mode) {
         return 2352;
     }
+    if setup.mode == 7 {
+        return 32;
+    }
     0
 }
 
@@ -110,6 +113,9 @@ pub fn subchannels(setup: Setup) -> usize
     }
     if is_amc(setup.mode) {
         return width(setup) * shape(setup.mode).symbols;
+    }
+    if setup.mode == 7 {
+        return 32;
     }
     0
 }
@@ -130,12 +136,15 @@ pub fn symbols(setup: Setup) -> usize
     if is_amc(setup.mode) {
         return shape(setup.mode).symbols;
     }
+    if setup.mode == 7 {
+        return 1;
+    }
     0
 }
 
 // The slot of a zone's symbol, by a constant for each number of symbols.
 pub fn slot_of(setup: Setup, symbol: usize) -> usize
-    requires { ⌜ Valid (alone setup) ⌝ }
+    requires { ⌜ Ranged (alone setup) ⌝ }
     ensures { λ r. ⌜ r ≡ symbol / Symbols (alone setup) ⌝ }
 {
     let n = symbols(setup);
@@ -153,14 +162,14 @@ pub fn slot_of(setup: Setup, symbol: usize) -> usize
 
 // The offset of a zone's symbol in its slot.
 pub fn offset_of(setup: Setup, symbol: usize) -> usize
-    requires { ⌜ Valid (alone setup) ⌝ }
+    requires { ⌜ Ranged (alone setup) ⌝ }
     ensures { λ r. ⌜ r ≡ symbol % Symbols (alone setup) ⌝ }
 {
     symbol - slot_of(setup, symbol) * symbols(setup)
 }
 
 pub fn band(setup: Setup) -> Band
-    requires { ⌜ Valid (alone setup) ⌝ }
+    requires { ⌜ Ranged (alone setup) ⌝ }
     ensures { λ r. ⌜ r ≡ BandOf (alone setup) ⌝ }
 {
     if setup.mode == 0 {
@@ -171,6 +180,9 @@ pub fn band(setup: Setup) -> Band
     }
     if is_over_bins(setup.mode) {
         return carriers::bin_band(width(setup));
+    }
+    if setup.mode == 7 {
+        return carriers::fusc_band();
     }
     Band {
         left: 0,
@@ -209,6 +221,9 @@ fn is_size(setup: Setup) -> bool
     if is_over_bins(setup.mode) {
         return is_four_sizes(setup.size);
     }
+    if setup.mode == 7 {
+        return setup.size == 2048;
+    }
     false
 }
 
@@ -216,7 +231,7 @@ fn is_size(setup: Setup) -> bool
 pub fn refusal(setup: Setup) -> u8
     ensures { λ r. ⌜ r ≡ setupRefusal (alone setup) ⌝ }
 {
-    if 7 <= setup.mode {
+    if 8 <= setup.mode {
         return 1;
     }
     if !is_size(setup) {
@@ -226,4 +241,14 @@ pub fn refusal(setup: Setup) -> u8
         return 3;
     }
     0
+}
+
+// Is the pilot list that is lent the mode's?
+pub fn is_lent(setup: Setup, pilots: &[u32]) -> bool
+    ensures { λ r. ⌜ r ≡ isLent (lent setup (now (pilots .entry))) ⌝ }
+{
+    if setup.mode == 7 {
+        return pilot_list::is_pilot_list(pilots);
+    }
+    pilots.len() == 0
 }

@@ -1,14 +1,14 @@
 -- THE LAW OF THE PLACES, from the questions of a row and from where a point stands in the grid.
 use Rattle.base.proofs.Prelude.{_≡_, refl, sym, ap, _∙_, List, [], _∷_, _++_, ℕ, _%_, _<_, length, lt-ltb, ltb-true, eq-eqb}
 use Rattle.base.proofs.{Chain.{Questions, all-numbered, all-yes, number-is}, Tabulate.{length-tabulate, getD-tabulate, tabulated, entry-of}}
-use mathlib.Core.Logic.{_⊎_, ⊎-elim}
+use mathlib.Core.Logic.{_⊎_, inl, inr, ⊎-elim}
 use lib.Ieee.{Float}
 use Rattle.base.specs.{Answer.{Answer, accepted, refused, refusalOf}, Steps.entry, Tabulate.tabulate}
 use Rattle.carriers.specs.Bin.{binPilotPlace, usedOfData}
-use Rattle.modes.specs.{Setup.Setup, Mode.{subchannels, symbols}, Question.{isSlot, isSubchannel, isIndex}}
+use Rattle.modes.specs.{Setup.Setup, Mode.{subchannels, symbols}, Question.{isSlot, isSubchannel, isIndex, isLent}}
 use Rattle.map.specs.{Formula.spotOf, Place.{placeAt, placeOf}}
 use Rattle.modes.specs.Model.{Valid}
-use Rattle.modes.proofs.Accept.{valid, setupQuestions}
+use Rattle.modes.proofs.Accept.{ranged-by, setupQuestions}
 use Rattle.map.proofs.{Alike.{Alike, alike-mod-3, alike-by-threes}, Law.placing}
 use Rattle.points.specs.Points.{pointAt}
 use Rattle.lengths.specs.Length.{gridPoints}
@@ -48,7 +48,7 @@ module _ (setup : Setup) (slot s : ℕ) where
   row-long = long-of (standsAt setup slot s) asked
 
   abbrev questions : Questions
-  questions = setupQuestions setup ++ ((isSlot slot, 4) ∷ (isSubchannel setup s, 5) ∷ [])
+  questions = setupQuestions setup ++ ((isSlot slot, 4) ∷ (isSubchannel setup s, 5) ∷ (isLent setup, 20) ∷ [])
 
   pub refused-alike : (index : ℕ) → index < 48 → placesOf setup slot s .refusal ≡ refusalOf (placeOf setup slot s index)
   unfolding placeOf isIndex
@@ -69,12 +69,15 @@ module _ (setup : Setup) (slot s : ℕ) where
     unfolding standsAt spotOf usedOfData binPilotPlace
     by-pilots e = same-places (λ m. simp e)
 
-    in-every-slot : setup .mode ≡ 0 → (m : ℕ) → standsAt setup slot s m ≡ standsAt setup other s m
+    -- or whose formula does not go by the slot
+    in-every-slot : (setup .mode ≡ 0) ⊎ (setup .mode ≡ 7) → (m : ℕ) → standsAt setup slot s m ≡ standsAt setup other s m
     unfolding standsAt spotOf
-    in-every-slot z m = rw z
+    in-every-slot h m = ⊎-elim (λ z. rw z) (λ z. rw z) h
 
-    same-always : (setup .mode ≡ 0) ⊎ (symbols setup % 3 ≡ 0) → placesOf setup slot s ≡ placesOf setup other s
-    same-always h = ⊎-elim (λ z. same-places (in-every-slot z)) (λ z. by-pilots (alike-by-threes setup slot other z)) h
+    same-always : (setup .mode ≡ 0) ⊎ ((setup .mode ≡ 7) ⊎ (symbols setup % 3 ≡ 0)) → placesOf setup slot s ≡ placesOf setup other s
+    same-always h =
+        ⊎-elim (λ z. same-places (in-every-slot (inl z)))
+        (λ o. ⊎-elim (λ z. same-places (in-every-slot (inr z))) (λ z. by-pilots (alike-by-threes setup slot other z)) o) h
 
   module _ (v : Valid setup) (hs : slot < 512) (l : s < subchannels setup) where
     at : (index : ℕ) → index < 48 → entry row index ≡ standsAt setup slot s index
@@ -84,7 +87,7 @@ module _ (setup : Setup) (slot s : ℕ) where
   unfolding isSlot isSubchannel
   in-grid index z h =
       let y = all-yes questions tt (sym row-number ∙ z) in
-      let v = valid setup (y .0) (y .1 .0) (y .1 .1 .0) in
+      let v : Valid setup = record { ranged = ranged-by setup (y .0) (y .1 .0) (y .1 .1 .0); is-lent = y .1 .1 .1 .1 .1 .0 } in
       let l = ltb-true s (subchannels setup) (y .1 .1 .1 .1 .0) in
       rw (at v (ltb-true slot 512 (y .1 .1 .1 .0)) l index h) (stands-lt setup v slot s index l h)
 

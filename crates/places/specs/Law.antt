@@ -27,9 +27,9 @@ pub record PlaceLaw (setup : Setup) (slot subchannel : ℕ) : Type 0 where
   pub in-grid : (index : ℕ) → placesOf setup slot subchannel .refusal ≡ 0 → index < 48 → entry (placesOf setup slot subchannel .places) index < gridPoints setup
   -- The row is refused where `place` is, with the same number.
   pub refused-alike : (index : ℕ) → index < 48 → placesOf setup slot subchannel .refusal ≡ refusalOf (placeOf setup slot subchannel index)
-  -- A row serves every slot that agrees with its own mod 3; and every slot at all in PUSC downlink, and where a slot has three or six symbols.
+  -- A row serves every slot that agrees with its own mod 3; and every slot at all in PUSC downlink, in FUSC (with the same list), and where a slot has three or six symbols.
   pub same-mod-3 : (other : ℕ) → slot < 512 → other < 512 → slot % 3 ≡ other % 3 → placesOf setup slot subchannel ≡ placesOf setup other subchannel
-  pub same-always : (other : ℕ) → slot < 512 → other < 512 → (setup .mode ≡ 0) ⊎ (symbols setup % 3 ≡ 0) → placesOf setup slot subchannel ≡ placesOf setup other subchannel
+  pub same-always : (other : ℕ) → slot < 512 → other < 512 → (setup .mode ≡ 0) ⊎ ((setup .mode ≡ 7) ⊎ (symbols setup % 3 ≡ 0)) → placesOf setup slot subchannel ≡ placesOf setup other subchannel
   -- After a lay, the point of each index stands at its entry.
   pub laid-there : (mask : ℕ) (points grid next : List Float) → Leaves (layOf setup mask slot subchannel points grid) next
       → (index : ℕ) → index < 48 → pointAt next (entry (placesOf setup slot subchannel .places) index) ≡ pointAt points index

@@ -3,16 +3,17 @@ use Prim.Native.Nat.{ℕ}
 use Rattle.base.specs.Answer.{Answer, accepted, refused, ask}
 use Rattle.base.specs.Tabulate.{tabulate}
 use Rattle.modes.specs.Setup.{Setup}
-use Rattle.modes.specs.Question.{askSetup, isSlot, isSubchannel}
+use Rattle.modes.specs.Question.{askSetup, isSlot, isSubchannel, isLent}
 use Rattle.grid.specs.Grid.{standsAt}
 use Rattle.places.specs.declared.PlaceRow.{PlaceRow}
 
--- The questions of `place` but that about the index: 1, 2, 3, 4, 5.
+-- The questions of `place` but that about the index: 1, 2, 3, 4, 5, 20.
 abbrev pub askPlaces : {A : Type 0} → (setup : Setup) (slot subchannel : ℕ) (rest : Answer A) → Answer A
 askPlaces setup slot subchannel rest =
     askSetup setup
     (ask (isSlot slot) 4
-    (ask (isSubchannel setup subchannel) 5 rest))
+    (ask (isSubchannel setup subchannel) 5
+    (ask (isLent setup) 20 rest)))
 
 -- Of each index the point's place in the grid; with a refusal all are 0.
 abbrev pub placeRow : (place : ℕ → ℕ) (answer : Answer (Unit {0})) → PlaceRow

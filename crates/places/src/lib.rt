@@ -4,7 +4,7 @@ use modes::Setup;
 ghost use mathlib.Core.Path.{_≡_};
 ghost use Prim.Native.Nat.{_<_};
 ghost use Rattle.base.specs.Tabulate.{tabulate};
-ghost use Rattle.modes.specs.Setup.{alone};
+ghost use Rattle.modes.specs.Setup.{lent};
 ghost use Rattle.points.specs.Model.{turned};
 ghost use Rattle.places.specs.Places.{placesOf};
 
@@ -43,9 +43,9 @@ fn refused(number: u8) -> PlaceRow
     }
 }
 
-// The places of a subchannel's points by index, or the first refusal of 1, 2, 3, 4, 5.
-pub fn row(setup: Setup, slot: usize, subchannel: usize) -> PlaceRow
-    ensures { λ r. ⌜ r ≡ placesOf (alone setup) slot subchannel ⌝ }
+// The places of a subchannel's points by index, or the first refusal of 1, 2, 3, 4, 5, 20.
+pub fn row(setup: Setup, slot: usize, subchannel: usize, pilots: &[u32]) -> PlaceRow
+    ensures { λ r. ⌜ r ≡ placesOf (lent setup (now (pilots .entry))) slot subchannel ⌝ }
 {
     let k = modes::refusal(setup);
     if k != 0 {
@@ -57,7 +57,10 @@ pub fn row(setup: Setup, slot: usize, subchannel: usize) -> PlaceRow
     if modes::subchannels(setup) <= subchannel {
         return refused(5);
     }
-    let row = rows::subchannel_row(setup, slot, subchannel);
+    if !modes::is_lent(setup, pilots) {
+        return refused(20);
+    }
+    let row = rows::subchannel_row(setup, slot, subchannel, pilots);
     PlaceRow {
         refusal: 0,
         places: in_order(&row.carriers, row.shift),

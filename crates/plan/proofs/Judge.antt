@@ -1,12 +1,12 @@
 -- The questions put to a plan as a list, what a yes to all of them says, and what they come to by the numbers that functions gave.
-use Rattle.base.proofs.Prelude.{_≡_, refl, sym, ap, _∙_, true, List, [], _∷_, _++_, ℕ, zero, suc, _+_, _<_, _≤_, T, length, take, drop, getD}
-use Rattle.base.proofs.{Chain.{Questions, askAll, firstNo, AllYes, counted, all-yes, yes-parts, all-accepted, all-pass, is-refused}, Test.up-to}
-use Rattle.base.specs.Answer.{Answer, accepted, refused, refusalOf}
+use Rattle.base.proofs.Prelude.{_≡_, refl, sym, ap, _∙_, true, List, [], _∷_, _++_, ℕ, zero, suc, _+_, _<_, _≤_, T, arith, length, take, drop, getD}
+use Rattle.base.proofs.{Chain.{Questions, askAll, firstNo, AllYes, counted, all-yes, yes-parts, all-accepted, all-pass, is-refused}, Test.{true-false, up-to}}
+use Rattle.base.specs.{Choice.isUpTo, Answer.{Answer, accepted, refused, refusalOf}}
 use Rattle.modes.specs.{Setup.setupWith, Question.{isFourSizes, isSize}}
 use Rattle.modes.proofs.Accept.{size-most}
 use Rattle.zone.specs.{declared.Zone.Zone, declared.Before.Before, declared.Before.the-variants.{First, After}, Zone.{askZone, unused}}
 use Rattle.zone.specs.Model.{zoneRefusal, Small}
-use Rattle.zone.proofs.{Number.{zoneQuestions, zone-no, zone-passed}, Judge.{small, small-unused}}
+use Rattle.zone.proofs.{Number.{zoneQuestions, zone-no, zone-passed}, Judge.{small, small-unused, fusc-not-first}}
 use Rattle.plan.specs.{declared.Plan.Plan, Plan.{isCount, inPlaces, areUnused, usedZones, askZones, askPlan}, Model.{zonesRefusal, planRefusal}}
 use Rattle.plan.proofs.Places.{used-next, used-none, places-of}
 
@@ -86,6 +86,17 @@ module _ (p : Plan) where
 
 pub count-most : (n : ℕ) → isCount n ≡ true → n ≤ 8
 count-most n e = up-to 8 n e
+
+-- Document 02, wish 8: mode 7 never opens a plan.
+first-zone : (size count : ℕ) (zones : List Zone) → isCount count ≡ true → AllYes (zonesQuestions size First (take count zones)) → getD zones 0 unused .mode ≡ 7 → ⊥
+unfolding isUpTo
+first-zone size count [] h y e = omega (arith, e)
+first-zone size zero (z ∷ zones) h y e = true-false (sym h)
+first-zone size (suc count) (z ∷ zones) h y e =
+    fusc-not-first size z (yes-parts (zoneQuestions size First z) (zonesQuestions size (After (z .mode)) (take count zones)) y .0) e
+
+pub fit-first : {p : Plan} → Fit p → getD (p .zones) 0 unused .mode ≡ 7 → ⊥
+fit-first {p} f = first-zone (p .size) (p .count) (p .zones) (f .count-is) (f .judged)
 
 pub size-small : (size : ℕ) → isFourSizes size ≡ true → size ≤ 2048
 unfolding isSize

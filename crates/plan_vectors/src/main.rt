@@ -12,12 +12,13 @@ use plan::Plan;
 use plan_read::ReadPlan;
 use plan_write::Written;
 use vector_lines::fields;
+use vector_lines::least;
 use vector_lines::line_end;
 use vector_lines::print;
 use vector_lines::print_number;
 use zone::UNUSED;
 use zone::Zone;
-ghost use Prim.Native.Nat.{_<_, _≤_};
+ghost use Prim.Native.Nat.{_<_};
 ghost use lib.ListN.{length};
 
 fn main() {
@@ -46,7 +47,7 @@ fn answer_line(input: &[u8], at: usize) -> usize
     end + 1
 }
 
-fn answer(operation: u8, f: [usize; 64]) {
+fn answer(operation: u8, f: [usize; 192]) {
     if operation == b'r' {
         answer_read(f);
     } else {
@@ -54,14 +55,14 @@ fn answer(operation: u8, f: [usize; 64]) {
     }
 }
 
-fn answer_read(f: [usize; 64]) {
+fn answer_read(f: [usize; 192]) {
     let bytes = bytes_of(f);
     let n = least(f[0], 63);
     print_read(plan_read::read(&bytes[..n]));
 }
 
 // The bytes behind the first number of a line.
-fn bytes_of(f: [usize; 64]) -> [u8; 63] {
+fn bytes_of(f: [usize; 192]) -> [u8; 63] {
     let mut bytes = [0u8; 63];
     let mut i = 0;
     while i < 63 {
@@ -71,7 +72,7 @@ fn bytes_of(f: [usize; 64]) -> [u8; 63] {
     bytes
 }
 
-fn answer_write(f: [usize; 64]) {
+fn answer_write(f: [usize; 192]) {
     let zones = zones_of(f);
     let plan = Plan {
         count: f[1],
@@ -86,7 +87,7 @@ fn answer_write(f: [usize; 64]) {
 }
 
 // The eight places behind the first three numbers of a line.
-fn zones_of(f: [usize; 64]) -> [Zone; 8] {
+fn zones_of(f: [usize; 192]) -> [Zone; 8] {
     let mut zones = [UNUSED; 8];
     let mut k = 0;
     while k < 8 {
@@ -99,15 +100,6 @@ fn zones_of(f: [usize; 64]) -> [Zone; 8] {
         k += 1;
     }
     zones
-}
-
-fn least(n: usize, most: usize) -> usize
-    ensures { λ r. ⌜ r ≤ most ⌝ }
-{
-    if n < most {
-        return n;
-    }
-    most
 }
 
 fn print_read(answer: ReadPlan) {

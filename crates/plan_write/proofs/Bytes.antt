@@ -31,11 +31,11 @@ value-small (suc k) (also x most h l w) = value-small k w
 
 -- A zone's values are within limits that take 6 bytes: 1 for the mode, 2 for the cell, 2 for the slots, 1 for the mask. The first three take 5.
 abbrev pub limits : List ℕ
-limits = 6 ∷ 2351 ∷ 512 ∷ 63 ∷ []
+limits = 7 ∷ 2351 ∷ 512 ∷ 63 ∷ []
 
 pub within : {z : Zone} → Small z → Within (valuesOf z) limits
 within {z} s =
-    also (z .mode) 6 (omega arith) (omega arith)
+    also (z .mode) 7 (omega arith) (omega arith)
     (also (z .cell) 2351 (omega arith) (omega arith)
     (also (z .slots) 512 (omega arith) (omega arith)
     (also (z .mask) 63 (omega arith) (omega arith) all)))

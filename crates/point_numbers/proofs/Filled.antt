@@ -4,7 +4,7 @@ use Rattle.base.proofs.Prelude.{length-replicate, eqb-true, eqb-false}
 use Rattle.base.proofs.{Test.cases, Tabulate.WrittenOver}
 use Rattle.base.specs.{Steps.entry, Model.Starts}
 use Rattle.ofusc.proofs.Sequence.{size}
-use Rattle.modes.specs.{Setup.Setup, Mode.width, Model.{OverBins, Valid, pusc-dl, pusc-ul, ofusc, amc}}
+use Rattle.modes.specs.{Setup.Setup, Mode.width, Model.{OverBins, Unlent, pusc-dl, pusc-ul, ofusc, amc, own}}
 use Rattle.modes.proofs.{Choice.{at-1, at-bins, by-mode}, ByMode.bin-width}
 use Rattle.mask.specs.Mask.{isUsedLit}
 use Rattle.clusters.specs.Cluster.{firstPilot, secondPilot}
@@ -39,7 +39,7 @@ bins-by-run c y o few =
       next-point = sym (by-mode (at-bins o));
     }
 
-pub by-run : {c : Setup} → Valid c → (y : ℕ) → (c .mode ≡ 1 → ⊥) → ByRun c y
+pub by-run : {c : Setup} → Unlent c → (y : ℕ) → (c .mode ≡ 1 → ⊥) → ByRun c y
 unfolding runCount runStride pointStride runFirst runSecond runStep
 by-run (pusc-dl h) y ne =
     let a = cluster-apart y in
@@ -49,8 +49,8 @@ by-run (pusc-dl h) y ne =
       next-point = refl;
     }
 by-run (pusc-ul h) y ne = absurd (ne refl)
-by-run {c} (ofusc {pilots = lent} w h) y ne = bins-by-run c y (omega arith) (size (bin-width (ofusc {pilots = lent} w h) (omega arith)) .most)
-by-run {c} (amc {pilots = lent} q w h) y ne = bins-by-run c y (omega arith) (size (bin-width (amc {pilots = lent} q w h) (omega arith)) .most)
+by-run {c} (ofusc {pilots = lent} w h) y ne = bins-by-run c y (omega arith) (size (bin-width (own (ofusc {pilots = lent} w h)) (omega arith)) .most)
+by-run {c} (amc {pilots = lent} q w h) y ne = bins-by-run c y (omega arith) (size (bin-width (own (amc {pilots = lent} q w h)) (omega arith)) .most)
 
 -- what holds before each turn of the loop over runs: the numbers of the first i are there
 pub record RunsTurn (c : Setup) (mask y : ℕ) (numbers : List ℕ) (i : ℕ) : Type 0 where
@@ -62,9 +62,9 @@ pub runs-none : (c : Setup) (mask y : ℕ) → RunsTurn c mask y (replicate {A =
 runs-none c mask y = record { within = omega arith; long = length-replicate {A = ℕ} 1680 0; below = λ i j h. absurd (omega arith) }
 
 module _ {c : Setup} {mask y : ℕ} {numbers : List ℕ} {i : ℕ} (t : RunsTurn c mask y numbers i) where
-  pub runs-next : Valid c → (c .mode ≡ 1 → ⊥) → i < runCount c → (own : List ℕ) → (isUsedLit c mask (i * runStep c) ≡ true → Starts (runPoints (runsOf c y)) (runNumber c mask y i) own)
-      → (stride : ℕ) → stride ≡ runStride c → (numbers′ : List ℕ) → RunPut numbers own (i * stride) numbers′ → RunsTurn c mask y numbers′ (i + 1)
-  runs-next v ne hi own starts stride e numbers′ p =
+  pub runs-next : Unlent c → (c .mode ≡ 1 → ⊥) → i < runCount c → (its : List ℕ) → (isUsedLit c mask (i * runStep c) ≡ true → Starts (runPoints (runsOf c y)) (runNumber c mask y i) its)
+      → (stride : ℕ) → stride ≡ runStride c → (numbers′ : List ℕ) → RunPut numbers its (i * stride) numbers′ → RunsTurn c mask y numbers′ (i + 1)
+  runs-next v ne hi its starts stride e numbers′ p =
       let law = by-run v y ne in
       let few = run-law v y .points-few in
       record {
@@ -85,21 +85,21 @@ module _ {c : Setup} {mask y : ℕ} {numbers : List ℕ} {i : ℕ} (t : RunsTurn
   runs-all h r j hr hj lit = t .below r j (omega arith) hj lit
 
 -- every point's number stands in the table
-tiles-in-table : {c : Setup} → Valid c → c .mode ≡ 1 → (y i j : ℕ) → i < runCount c → j < runPoints (runsOf c y) → i * runStride c + j * pointStride c < 1680
+tiles-in-table : {c : Setup} → Unlent c → c .mode ≡ 1 → (y i j : ℕ) → i < runCount c → j < runPoints (runsOf c y) → i * runStride c + j * pointStride c < 1680
 unfolding runCount runStride pointStride runFirst runSecond runStep
 tiles-in-table (pusc-dl h) e y i j hi hj = absurd (omega arith)
 tiles-in-table (pusc-ul h) e y i j hi hj = omega (arith, few-points (tileRuns y))
 tiles-in-table (ofusc w h) e y i j hi hj = absurd (omega arith)
 tiles-in-table (amc q w h) e y i j hi hj = absurd (omega arith)
 
-pub in-table : {c : Setup} → Valid c → (y i j : ℕ) → i < runCount c → j < runPoints (runsOf c y) → i * runStride c + j * pointStride c < 1680
+pub in-table : {c : Setup} → Unlent c → (y i j : ℕ) → i < runCount c → j < runPoints (runsOf c y) → i * runStride c + j * pointStride c < 1680
 in-table {c} v y i j hi hj =
     cases (eqb (c .mode) 1)
     (λ t. tiles-in-table v (eqb-true (c .mode) 1 t) y i j hi hj)
     (λ t. let law = by-run v y (eqb-false (c .mode) 1 t) in
     rw (law .next-point) (omega (arith, law .run-room i hi, run-law v y .points-few)))
 
-pub from-below : {c : Setup} → Valid c → (i : ℕ) → i < runCount c → i * runStride c < 1680
+pub from-below : {c : Setup} → Unlent c → (i : ℕ) → i < runCount c → i * runStride c < 1680
 unfolding runCount runStride
 from-below {c} v i h =
     cases (eqb (c .mode) 1)

@@ -9,9 +9,9 @@ use Rattle.ofusc.proofs.Sequence.{size}
 use Rattle.amc.specs.{declared.Shape.Shape, Model.IsShape}
 use Rattle.modes.specs.{Setup.{Setup, setupLent}, Mode.{shapeOf, width, symbols, symbolsOf}}
 use Rattle.map.specs.Formula.{addressOf}
-use Rattle.modes.specs.Model.{OverBins, IsAmc, Valid, pusc-dl, pusc-ul, ofusc, amc}
+use Rattle.modes.specs.Model.{OverBins, IsAmc, Unlent, pusc-dl, pusc-ul, ofusc, amc, own}
 use Rattle.modes.proofs.{Choice.{amc-shape, at-0, at-1, at-2, at-amc, at-bins, by-mode}, ByMode.{shape-symbols, in-pusc-ul, bin-width}}
-use Rattle.mask.specs.Mask.{isLit, isUsedLit}
+use Rattle.mask.specs.Mask.{isLitOf, isLit, isUsedLitOf, isUsedLit}
 use Rattle.clusters.specs.Cluster.{firstPilot, secondPilot, clusterPlace}
 use Rattle.pusc_dl_lit.specs.Lit.{hasGroup}
 use Rattle.pusc_dl.specs.Map.{usedGroup}
@@ -74,7 +74,7 @@ module _ (c : Setup) (table : List ℕ) where
 -- ---- where all is lit, a subchannel's rank is its number
 
 all-number : (c : Setup) (mask y u : ℕ) → (c .mode ≡ 0 → ⊥) → (a : Address) → addressOf c y u ≡ a → addressNumber a ≡ numberAt c mask y u
-unfolding numberAt isLit
+unfolding numberAt isLitOf
 all-number c mask y u ne a e =
     sym (rw e (ap (λ (r : ℕ). r * 48 + a .index) (rank-all (isLit c mask) (a .subchannel) (λ s h. rw (ne-eqb (c .mode) 0 ne)))))
 
@@ -85,9 +85,9 @@ unfolding clusterPlace firstPilot secondPilot
 cluster-place slot row j = let e : (slot * 2 + row) % 2 ≡ row % 2 = omega arith in rw e
 
 module _ (mask slot row i : ℕ) (r : List ℕ) where
-  pub numbers-0 : {c : Setup} → Valid c → c .mode ≡ 0 → row < symbols c → (hasGroup mask (usedGroup (c .cell) (i * 14)) ≡ true → Starts 12 (dl.clusterNumber (c .cell) mask row i) r)
+  pub numbers-0 : {c : Setup} → Unlent c → c .mode ≡ 0 → row < symbols c → (hasGroup mask (usedGroup (c .cell) (i * 14)) ≡ true → Starts 12 (dl.clusterNumber (c .cell) mask row i) r)
       → isUsedLit c mask (i * runStep c) ≡ true → Starts (runPoints (runsOf c (slot * symbols c + row))) (runNumber c mask (slot * symbols c + row) i) r
-  unfolding symbolsOf runFirst runSecond runStep runCount runPlace numberAt isLit isUsedLit addressOf dl.clusterNumber
+  unfolding symbolsOf runFirst runSecond runStep runCount runPlace numberAt isLitOf isUsedLitOf addressOf dl.clusterNumber
   numbers-0 (pusc-dl {cell = cell} h) q hr s lit =
       λ j hj.
       let y = slot * 2 + row in
@@ -134,7 +134,7 @@ module _ (n y i j : ℕ) (h : j < 8) where
 
 -- those of the tiles of a row, the first points of all tiles first
 module _ (mask slot row : ℕ) (r : List ℕ) where
-  pub numbers-1 : {c : Setup} → Valid c → c .mode ≡ 1 → row < symbols c
+  pub numbers-1 : {c : Setup} → Unlent c → c .mode ≡ 1 → row < symbols c
       → ((p j : ℕ) → p < 420 → j < ul.tilePoints row → entry r (j * 420 + p) ≡ addressNumber (ul-map.addressOf (c .cell) row (p * 4 + ul.tilePlace row j)))
       → RowNumbers c mask (slot * symbols c + row) r
   unfolding symbolsOf runFirst runSecond runStep runCount runStride pointStride addressOf
@@ -162,7 +162,7 @@ module _ (mask slot row i : ℕ) (r : List ℕ) where
       ∙ all-number c mask y (i * 9 + runPlace (bin-runs n y) j) ne (f (i * 8 + j)) (same j l)
       ∙ sym (ap (λ (b : Runs). numberAt c mask y (i * b .step + runPlace b j)) e)
 
-  pub numbers-2 : {c : Setup} → Valid c → c .mode ≡ 2 → row < symbols c → (n : ℕ) → n ≡ width c → Starts 8 (λ j. addressNumber (spread-map.addressOf n (c .cell) (i * 8 + j))) r
+  pub numbers-2 : {c : Setup} → Unlent c → c .mode ≡ 2 → row < symbols c → (n : ℕ) → n ≡ width c → Starts 8 (λ j. addressNumber (spread-map.addressOf n (c .cell) (i * 8 + j))) r
       → Starts (runPoints (runsOf c (slot * symbols c + row))) (runNumber c mask (slot * symbols c + row) i) r
   unfolding addressOf
   numbers-2 {c} v q hr n e s =
@@ -172,7 +172,7 @@ module _ (mask slot row i : ℕ) (r : List ℕ) where
       (λ j l. sym (by-mode (at-2 q)) ∙ ap (spread-map.addressOf (width c) (c .cell)) (bin-data (width c) y i j l))
       (rw e at s)
 
-  pub numbers-amc : {c : Setup} → Valid c → IsAmc (c .mode) → row < symbols c → (shape : Shape) → shape ≡ shapeOf (c .mode) → Starts 8 (λ j. addressNumber (adjacent.addressOf shape (c .cell) row (i * 8 + j))) r
+  pub numbers-amc : {c : Setup} → Unlent c → IsAmc (c .mode) → row < symbols c → (shape : Shape) → shape ≡ shapeOf (c .mode) → Starts 8 (λ j. addressNumber (adjacent.addressOf shape (c .cell) row (i * 8 + j))) r
       → Starts (runPoints (runsOf c (slot * symbols c + row))) (runNumber c mask (slot * symbols c + row) i) r
   unfolding addressOf
   numbers-amc {c} v q hr shape e s =
@@ -185,7 +185,7 @@ module _ (mask slot row i : ℕ) (r : List ℕ) where
 
 -- ---- what each mode's function asks
 
-module _ {c : Setup} (v : Valid c) (row i : ℕ) (hr : row < symbols c) (hi : i < runCount c) (mask : ℕ) (runs places : List ℕ) (tr : RunTable c mask runs) (tp : PlaceTable c places) where
+module _ {c : Setup} (v : Unlent c) (row i : ℕ) (hr : row < symbols c) (hi : i < runCount c) (mask : ℕ) (runs places : List ℕ) (tr : RunTable c mask runs) (tp : PlaceTable c places) where
   pub asks-0 : c .mode ≡ 0 → ((row < 2) × (i < 120)) × (Starts 120 (dl.clusterEntry (c .cell) mask) runs × Starts 48 (dl.inverseEntry (c .cell)) places)
   unfolding symbolsOf runCount
   asks-0 q = ((rw q at hr, rw q at hi), (from-table runs (clusters-as c mask q) tr, from-table places (inverses-as c q) tp))
@@ -196,15 +196,15 @@ module _ {c : Setup} (v : Valid c) (row i : ℕ) (hr : row < symbols c) (hi : i 
 
   pub asks-2 : c .mode ≡ 2 → (n : ℕ) → n ≡ width c → Width n × ((i < 6 * n) × Starts 48 (spread.cellNumber n (c .cell)) places)
   asks-2 q n e =
-      rw e (bin-width v (omega arith), (bin-lt (omega arith), from-table places (groups-as c q) tp))
+      rw e (bin-width (own v) (omega arith), (bin-lt (omega arith), from-table places (groups-as c q) tp))
 
   pub asks-amc : IsAmc (c .mode) → (shape : Shape) → shape ≡ shapeOf (c .mode) → (IsShape shape × (row < shape .symbols) × (i < 192)) × Starts 48 (adjacent.indexOf (c .cell)) places
   asks-amc q shape e =
-      let w = size (bin-width v (omega arith)) .most in
+      let w = size (bin-width (own v) (omega arith)) .most in
       let l = bin-lt (omega arith) in
       (rw e (amc-shape (c .mode) q, rw (shape-symbols c q) hr, omega arith), from-table places (indices-as c q) tp)
 
-pub asks-1 : {c : Setup} → Valid c → (row : ℕ) → row < symbols c → (mask : ℕ) (runs : List ℕ) → RunTable c mask runs → c .mode ≡ 1
+pub asks-1 : {c : Setup} → Unlent c → (row : ℕ) → row < symbols c → (mask : ℕ) (runs : List ℕ) → RunTable c mask runs → c .mode ≡ 1
     → ((c .cell < 70) × (row < 3)) × Starts 70 (tileSubchannel (c .cell)) runs
 unfolding symbolsOf
-asks-1 {c} v row hr mask runs tr q = ((in-pusc-ul v q .cell-lt, rw q at hr), from-table runs (tiles-as c mask q) tr)
+asks-1 {c} v row hr mask runs tr q = ((in-pusc-ul (own v) q .cell-lt, rw q at hr), from-table runs (tiles-as c mask q) tr)

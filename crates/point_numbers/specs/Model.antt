@@ -24,12 +24,12 @@ numberAt setup mask y used = let a = addressOf setup y used in litRank setup mas
 abbrev pub runNumber : (setup : Setup) (mask y i j : ℕ) → ℕ
 runNumber setup mask y i j = numberAt setup mask y (i * runStep setup + runPlace (runsOf setup y) j)
 
--- The numbers of a row's points in one table: how far apart those of two runs in a row are, and those of two points of a run. In PUSC uplink the first points of all tiles come first, in the others the points of the first run.
+-- The numbers of a row's points in one table: how far apart those of two runs in a row are, and those of two points of a run. In PUSC uplink the first points of all tiles come first, in PUSC downlink and over bins the points of the first run.
 unfoldable pub runStride : (setup : Setup) → ℕ
-runStride setup = byMode (setup .mode) 12 1 8 8 0
+runStride setup = byMode (setup .mode) 12 1 8 8 0 0
 
 unfoldable pub pointStride : (setup : Setup) → ℕ
-pointStride setup = byMode (setup .mode) 1 420 1 1 0
+pointStride setup = byMode (setup .mode) 1 420 1 1 0 0
 
 -- The table has the numbers of all points on the lit runs among the first n of a row.
 abbrev pub NumbersBelow : (setup : Setup) (mask y n : ℕ) (numbers : List ℕ) → Type 0
@@ -46,18 +46,18 @@ pub record RunPut (before own : List ℕ) (from : ℕ) (after : List ℕ) : Type
   pub kept : (k : ℕ) → k < from → entry after k ≡ entry before k
   pub put : (j : ℕ) → j < 12 → entry after (from + j) ≡ entry own j
 
--- What setup and mask fix for all runs, in two tables: of the clusters, or of the first seventy tiles, in PUSC; and of places, in all modes but PUSC uplink.
+-- What setup and mask fix for all runs, in two tables: of the clusters, or of the first seventy tiles, in PUSC; and of places, in PUSC downlink and over bins.
 unfoldable pub runEntries : (setup : Setup) → ℕ
-runEntries setup = byMode (setup .mode) 120 70 0 0 0
+runEntries setup = byMode (setup .mode) 120 70 0 0 0 0
 
 unfoldable pub runEntry : (setup : Setup) (mask i : ℕ) → ℕ
-runEntry setup mask i = byMode (setup .mode) (pusc-dl.clusterEntry (setup .cell) mask i) (tileSubchannel (setup .cell) i) 0 0 0
+runEntry setup mask i = byMode (setup .mode) (pusc-dl.clusterEntry (setup .cell) mask i) (tileSubchannel (setup .cell) i) 0 0 0 0
 
 abbrev pub RunTable : (setup : Setup) (mask : ℕ) (table : List ℕ) → Type 0
 RunTable setup mask table = Starts (runEntries setup) (runEntry setup mask) table
 
 unfoldable pub placeEntries : (setup : Setup) → ℕ
-placeEntries setup = byMode (setup .mode) 48 0 48 48 0
+placeEntries setup = byMode (setup .mode) 48 0 48 48 0 0
 
 unfoldable pub placeEntry : (setup : Setup) (k : ℕ) → ℕ
 placeEntry setup k =
@@ -66,6 +66,7 @@ placeEntry setup k =
     0
     (ofusc.cellNumber (width setup) (setup .cell) k)
     (amc-map.indexOf (setup .cell) k)
+    0
     0
 
 abbrev pub PlaceTable : (setup : Setup) (table : List ℕ) → Type 0

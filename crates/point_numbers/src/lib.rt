@@ -7,14 +7,14 @@ ghost use lib.ListN.{length};
 ghost use Rattle.base.specs.Model.{Starts};
 ghost use Rattle.modes.specs.Setup.{alone};
 ghost use Rattle.modes.specs.Mode.{symbols};
-ghost use Rattle.modes.specs.Model.{Valid};
+ghost use Rattle.modes.specs.Model.{Unlent};
 ghost use Rattle.mask.specs.Mask.{isUsedLit};
 ghost use Rattle.runs.specs.Model.{runStep, runCount, runsOf, runPoints};
 ghost use Rattle.point_numbers.specs.Model.{runNumber, runStride, pointStride, RowNumbers, RunPut, RunTable, PlaceTable};
 
 // What setup and mask fix of the clusters or of the first seventy tiles, in PUSC; no other mode reads it.
 pub fn run_table(setup: Setup, mask: usize) -> [u16; 120]
-    requires { ⌜ Valid (alone setup) ⌝ }
+    requires { ⌜ Unlent (alone setup) ⌝ }
     requires { ⌜ mask < 64 ⌝ }
     ensures { λ r. ⌜ RunTable (alone setup) mask r ⌝ }
 {
@@ -29,7 +29,7 @@ pub fn run_table(setup: Setup, mask: usize) -> [u16; 120]
 
 // What the setup fixes of the places of all runs; nothing in PUSC uplink.
 pub fn place_table(setup: Setup) -> [u16; 48]
-    requires { ⌜ Valid (alone setup) ⌝ }
+    requires { ⌜ Unlent (alone setup) ⌝ }
     ensures { λ r. ⌜ PlaceTable (alone setup) r ⌝ }
 {
     if setup.mode == 0 {
@@ -54,7 +54,7 @@ pub struct Strides {
 }
 
 pub fn row_strides(setup: Setup) -> Strides
-    requires { ⌜ Valid (alone setup) ⌝ }
+    requires { ⌜ Unlent (alone setup) ⌝ }
     ensures { λ r. ⌜ (r .run ≡ runStride (alone setup)) × (r .point ≡ pointStride (alone setup)) ⌝ }
 {
     if setup.mode == 0 {
@@ -79,7 +79,7 @@ fn run_numbers(
     runs: &[u16; 120],
     places: &[u16; 48],
 ) -> [u16; 12]
-    requires { ⌜ Valid (alone setup) ⌝ }
+    requires { ⌜ Unlent (alone setup) ⌝ }
     requires { ⌜ (setup .mode ≡ 1 → ⊥) × (row < symbols (alone setup)) × (i < runCount (alone setup)) ⌝ }
     requires { ⌜ RunTable (alone setup) mask (now runs) × PlaceTable (alone setup) (now places) ⌝ }
     ensures { λ r. ⌜ (isUsedLit (alone setup) mask (i * runStep (alone setup)) ≡ true → Starts (runPoints (runsOf (alone setup) (slot * symbols (alone setup) + row))) (runNumber (alone setup) mask (slot * symbols (alone setup) + row) i) r) ⌝ }
@@ -118,7 +118,7 @@ fn numbers_by_run(
     runs: &[u16; 120],
     places: &[u16; 48],
 ) -> [u16; 1680]
-    requires { ⌜ Valid (alone setup) ⌝ }
+    requires { ⌜ Unlent (alone setup) ⌝ }
     requires { ⌜ (setup .mode ≡ 1 → ⊥) × (row < symbols (alone setup)) × (count ≡ runCount (alone setup)) ⌝ }
     requires { ⌜ RunTable (alone setup) mask (now runs) × PlaceTable (alone setup) (now places) ⌝ }
     ensures { λ r. ⌜ RowNumbers (alone setup) mask (slot * symbols (alone setup) + row) r ⌝ }
@@ -144,7 +144,7 @@ pub fn row_numbers(
     runs: &[u16; 120],
     places: &[u16; 48],
 ) -> [u16; 1680]
-    requires { ⌜ Valid (alone setup) ⌝ }
+    requires { ⌜ Unlent (alone setup) ⌝ }
     requires { ⌜ (row < symbols (alone setup)) × (count ≡ runCount (alone setup)) ⌝ }
     requires { ⌜ RunTable (alone setup) mask (now runs) × PlaceTable (alone setup) (now places) ⌝ }
     ensures { λ r. ⌜ RowNumbers (alone setup) mask (slot * symbols (alone setup) + row) r ⌝ }

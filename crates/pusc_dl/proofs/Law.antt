@@ -7,7 +7,7 @@ use Rattle.clusters.specs.{Cluster.{unrenumber, isClusterPilot, clusterPlace}, 
 use Rattle.clusters.specs.{declared.Physical.Physical, declared.Logical.Logical}
 use Rattle.pusc_dl.specs.{Inner.{groupData, groupSubchannel}, Map.{spotOf, addressOf, groupUsed, logicalOf, usedGroup, usedData}}
 use Rattle.clusters.proofs.{Cluster.{OnPlace, on-place, OnData, on-data, pilot-place}, Group.{subchannel-runs, cluster-runs}, Law.renumbering}
-use Rattle.pusc_dl.proofs.Inner as inner
+use Rattle.pusc_dl.proofs.Inner.{group-inner}
 
 module _ (cell : ℕ) where
   -- data number d of group g, on its used number in symbol y of the slot
@@ -88,14 +88,14 @@ module _ (cell : ℕ) where
     its-subchannel = groupSubchannel (groupSize its-group) cell its-data
 
     subchannel-lt : its-subchannel < 1 * groupSize its-group
-    subchannel-lt = omega (arith, inner.subchannel-lt its-group cell its-data)
+    subchannel-lt = omega (arith, group-inner its-group cell .subchannel-lt its-data)
 
     names : PointOf 60 (addressOf cell y u)
     unfolding addressOf
     names =
         record {
           subchannel-lt = subchannel-runs .number-lt its-group its-subchannel group-lt subchannel-lt;
-          index-lt = omega (arith, inner.index-lt its-group cell its-data);
+          index-lt = omega (arith, group-inner its-group cell .index-lt its-data);
         }
 
     placed : spotOf cell (addressOf cell y u .subchannel) (addressOf cell y u .index) ≡ record { offset = y; used = u }
@@ -104,9 +104,9 @@ module _ (cell : ℕ) where
         rw (
           subchannel-runs .group-of its-group its-subchannel group-lt subchannel-lt,
           add-sub-cancel-left (entry subchannelStarts its-group) its-subchannel,
-          digits-div y (inner.index-lt its-group cell its-data),
-          digits-mod y (inner.index-lt its-group cell its-data),
-          inner.data-forth its-group cell its-data data-lt,
+          digits-div y (group-inner its-group cell .index-lt its-data),
+          digits-mod y (group-inner its-group cell .index-lt its-data),
+          group-inner its-group cell .forth its-data data-lt,
           used-forth,
         )
 
@@ -134,7 +134,7 @@ module _ (cell : ℕ) where
     r-lt = omega (arith, subchannel-runs .run-lt s hs)
 
     d-lt : d < 24 * groupSize g
-    d-lt = inner.data-lt g cell r (i % 24) r-lt k-lt
+    d-lt = group-inner g cell .number-lt r (i % 24) r-lt k-lt
 
     s-back : entry subchannelStarts g + r ≡ s
     s-back = omega (arith, subchannel-runs .start-le s hs)
@@ -155,8 +155,8 @@ module _ (cell : ℕ) where
         rw (
           used-group (i / 24) g d y-lt g-lt d-lt,
           used-data (i / 24) g d y-lt g-lt d-lt,
-          inner.subchannel-back g cell r (i % 24) r-lt k-lt,
-          inner.index-back g cell r (i % 24) r-lt k-lt,
+          group-inner g cell .subchannel-back r (i % 24) r-lt k-lt,
+          group-inner g cell .index-back r (i % 24) r-lt k-lt,
           s-back,
           div-add-mod' i 24,
         )

@@ -12,7 +12,7 @@ use Rattle.pusc_dl_points.specs.Model.{turnedInverse, inverseEntry, poin
 use Rattle.pusc_dl_points.specs.Model.{clusterNumber}
 use Rattle.clusters.proofs.{Tables.{b12-perm, b8-perm, all-pairs}, Cluster.{OnPlace, on-place}, Group.{size-most, cluster-runs, subchannel-runs}}
 use Rattle.clusters.proofs.Law.{renumbering}
-use Rattle.pusc_dl.proofs.Inner.{subchannel-lt}
+use Rattle.pusc_dl.proofs.Inner.{group-inner}
 
 -- ---- the inverses of the bases
 
@@ -136,7 +136,7 @@ module _ (cell mask offset p : ℕ) (ho : offset < 2) (hp : p < 120) where
     s = groupSubchannel (groupSize group) cell (place * 12 + r)
 
     s-lt : s < groupSize group
-    s-lt = subchannel-lt group cell (place * 12 + r)
+    s-lt = group-inner group cell .subchannel-lt (place * 12 + r)
 
     its-rank-on : subchannelRank mask (entry subchannelStarts group + s) ≡ groupRank mask group + s
     its-rank-on =

@@ -4,7 +4,7 @@ use Rattle.base.specs.{Steps.{rotate, entry}, Tabulate.tabulate, Model.Starts}
 use Rattle.clusters.specs.{Cluster.clusterPlace, Group.{clusterStarts, groupSize}, Model.turnedBase}
 use Rattle.pusc_dl.specs.{Inner.groupData, Map.groupUsed}
 use Rattle.pusc_dl_rows.specs.Model.{groupCluster, groupSpot}
-use Rattle.pusc_dl.proofs.Inner.{data-lt}
+use Rattle.pusc_dl.proofs.Inner.{group-inner}
 use Rattle.clusters.proofs.{Group.cluster-runs, Law.renumbering}
 
 -- a turn of the loop over k: what is known of subchannel s, counted in group g, of the group's clusters, and of the bases
@@ -26,7 +26,7 @@ module _ {cell : ℕ} {clusters bases : List ℕ} {g s k n : ℕ} (t : Turn cell
 
   -- the cluster of the data number
   pub run-lt : d / 12 < 2 * groupSize g
-  run-lt = omega (arith, data-lt g cell s k (t .s-lt) (t .k-lt))
+  run-lt = omega (arith, group-inner g cell .number-lt s k (t .s-lt) (t .k-lt))
 
   cluster-is : entry clusters (d / 12) ≡ groupCluster cell g (d / 12)
   cluster-is = t .starts (d / 12) run-lt

@@ -4,7 +4,7 @@ use mir.{Syntax.w64, Val.Fits}
 use lib.Ieee.{Float}
 use Rattle.base.specs.{Steps.entry, Tabulate.tabulate}
 use Rattle.carriers.specs.Band.{carrierOf}
-use Rattle.modes.specs.{Setup.Setup, Mode.{symbols, band}, Model.Valid}
+use Rattle.modes.specs.{Setup.Setup, Mode.{symbols, band}, Model.{Unlent, Valid}}
 use Rattle.mask.specs.Mask.{isUsedLit, litSubchannels}
 use Rattle.points.specs.{Points.pointAt, Model.{puts, RunWithin}}
 use Rattle.points.proofs.Points.{puts-as}
@@ -20,23 +20,23 @@ use Rattle.row_walk.specs.Model.{Took, runStart}
 use Rattle.row_walk.proofs.Taken.{run-used, point-lt, stands-below, lit-run}
 
 -- a run starts on a used number, in the grid
-module _ (setup : Setup) (v : Valid setup) (row i : ℕ) (hr : row < symbols setup) (hi : i < runCount setup) where
+module _ (setup : Setup) (v : Valid setup) (its : Unlent setup) (row i : ℕ) (hr : row < symbols setup) (hi : i < runCount setup) where
   pub start-used : i * runStep setup < band setup .used
-  start-used = omega (arith, run-used setup v 0 0 row i hr hi 0 (run-law v 0 .step-pos))
+  start-used = omega (arith, run-used setup v 0 0 its row i hr hi 0 (run-law its 0 .step-pos))
 
   pub start-small : runStart setup row i < 65536
-  start-small = omega (arith, grid-few v, used-position-lt setup v row (i * runStep setup) start-used hr)
+  start-small = omega (arith, grid-few (v .ranged), used-position-lt setup (v .ranged) row (i * runStep setup) start-used hr)
 
 -- where a run's numbers start is small
-pub from-small : {setup : Setup} → Valid setup → (i : ℕ) → i < runCount setup → (run : ℕ) → run ≡ runStride setup → Fits w64 (i * run)
-from-small v i h run e = rw e (omega (arith, from-below v i h))
+pub from-small : {setup : Setup} → Unlent setup → (i : ℕ) → i < runCount setup → (run : ℕ) → run ≡ runStride setup → Fits w64 (i * run)
+from-small its i h run e = rw e (omega (arith, from-below its i h))
 
 -- what is worked out is where it starts
 pub start-is : (setup : Setup) (row i first step k : ℕ) → first ≡ row * setup .size → step ≡ runStep setup → k ≡ carrierOf (band setup) (i * step) → first + k ≡ runStart setup row i
 unfolding usedPosition columnPosition
 start-is setup row i first step k e q f = rw (e, f, q)
 
-module _ (setup : Setup) (v : Valid setup) (mask slot row i : ℕ) (hr : row < symbols setup) (hi : i < runCount setup) (grid points : List Float) (lit : isUsedLit setup mask (i * runStep setup) ≡ true)
+module _ (setup : Setup) (v : Valid setup) (its : Unlent setup) (mask slot row i : ℕ) (hr : row < symbols setup) (hi : i < runCount setup) (grid points : List Float) (lit : isUsedLit setup mask (i * runStep setup) ≡ true)
     (start carriers : ℕ) (es : start ≡ runStart setup row i) (shape : Runs) (eb : shape ≡ runsOf setup (slot * symbols setup + row))
     (places : List ℕ) (ep : places ≡ tabulate 12 (runPlace shape)) (run point : ℕ) (er : run ≡ runStride setup) (et : point ≡ pointStride setup)
     (numbers : List ℕ) (en : RowNumbers setup mask (slot * symbols setup + row) numbers) (n : ℕ) (ek : n ≡ pointsWithin shape (carriers - start)) where
@@ -50,7 +50,7 @@ module _ (setup : Setup) (v : Valid setup) (mask slot row i : ℕ) (hr : row < s
   n-is = ek ∙ ap₂ (λ (z : Runs) (x : ℕ). pointsWithin z (carriers - x)) eb es
 
   few-points : n ≤ 12
-  few-points = omega (arith, n-is, within-few b (carriers - runStart setup row i), run-law v y .points-few)
+  few-points = omega (arith, n-is, within-few b (carriers - runStart setup row i), run-law its y .points-few)
 
   point-of : (j : ℕ) → j < n → j < runPoints b
   point-of j h = within-place b j (carriers - runStart setup row i) (rw n-is at h) .0
@@ -65,11 +65,11 @@ module _ (setup : Setup) (v : Valid setup) (mask slot row i : ℕ) (hr : row < s
       → (n ≤ 12) × (start < 65536) × RunWithin numbers (i * run) point places start n floats long
   run-asks floats long ef el = (
     few-points,
-    rw es (start-small setup v row i hr hi),
+    rw es (start-small setup v its row i hr hi),
     λ j h. (
-      rw (er, et) (in-table v y i j hi (point-of j h)),
-      omega (arith, place-at j h, stands-below setup v mask slot row i hr hi lit j (point-of j h)),
-      omega (arith, number-at j h, point-lt setup v mask slot row i hr hi lit j (point-of j h)),
+      rw (er, et) (in-table its y i j hi (point-of j h)),
+      omega (arith, place-at j h, stands-below setup v mask slot its row i hr hi lit j (point-of j h)),
+      omega (arith, number-at j h, point-lt setup v mask slot its row i hr hi lit j (point-of j h)),
     ),
   )
 
@@ -80,4 +80,4 @@ module _ (setup : Setup) (v : Valid setup) (mask slot row i : ℕ) (hr : row < s
       rw
       (e ∙ puts-as _ (runNumber setup mask y i) _ (λ j. pointAt grid (runStart setup row i + runPlace b j)) n points number-at (λ j h. ap (pointAt grid) (place-at j h))
       ∙ ap (λ (m : ℕ). puts (runNumber setup mask y i) (λ j. pointAt grid (runStart setup row i + runPlace b j)) m points) n-is)
-      (lit-run setup v mask slot row i hr hi lit carriers grid points long)
+      (lit-run setup v mask slot its row i hr hi lit carriers grid points long)

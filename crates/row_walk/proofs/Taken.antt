@@ -7,7 +7,7 @@ use lib.Ieee.{Float}
 use Rattle.base.specs.Steps.{skip}
 use Rattle.carriers.specs.{declared.Spot.Spot, declared.Address.Address, Band.carrierOf, Law.{DataSpot, PointOf}}
 use Rattle.carriers.proofs.Guards.{carrier-lt}
-use Rattle.modes.specs.{Setup.Setup, Mode.{subchannels, symbols, band}, Model.Valid}
+use Rattle.modes.specs.{Setup.Setup, Mode.{subchannels, symbols, band}, Model.{Unlent, Valid}}
 use Rattle.map.specs.Formula.{isPilot, spotOf, addressOf}
 use Rattle.map.proofs.Slot.{slot-law}
 use Rattle.modes.proofs.Whole.{band-law}
@@ -80,7 +80,7 @@ module _ (setup : Setup) (v : Valid setup) (mask slot : ℕ) where
     lies = slot-law v slot .lies s (n % 48) s-lt (omega arith)
 
     spot-lit : isUsedLit setup mask (spot n .used) ≡ true
-    spot-lit = point-lit v mask slot s (n % 48) s-lt (omega arith) ∙ s-lit
+    spot-lit = point-lit (v .ranged) mask slot s (n % 48) s-lt (omega arith) ∙ s-lit
 
     number-back : numberAt setup mask (slot * symbols setup + spot n .offset) (spot n .used) ≡ n
     unfolding numberAt
@@ -103,7 +103,7 @@ module _ (setup : Setup) (v : Valid setup) (mask slot : ℕ) where
     a-spot = slot-law v slot .forth row used hr hu np
 
     a-lit : isLit setup mask (a .subchannel) ≡ true
-    a-lit = sym (point-lit v mask slot (a .subchannel) (a .index) (a-of .subchannel-lt) (a-of .index-lt)) ∙ ap (λ (x : Spot). isUsedLit setup mask (x .used)) a-spot ∙ l
+    a-lit = sym (point-lit (v .ranged) mask slot (a .subchannel) (a .index) (a-of .subchannel-lt) (a-of .index-lt)) ∙ ap (λ (x : Spot). isUsedLit setup mask (x .used)) a-spot ∙ l
 
     abbrev n : ℕ
     n = numberAt setup mask (slot * symbols setup + row) used
@@ -140,7 +140,7 @@ module _ (setup : Setup) (v : Valid setup) (mask slot : ℕ) where
 
     row-to : (u : ℕ) → u ≤ band setup .used → usedPosition setup row u ≤ (row + 1) * setup .size
     unfolding usedPosition columnPosition carrierOf
-    row-to u l = omega (arith, band-law v .size-is, skip-le (band setup .half) u)
+    row-to u l = omega (arith, band-law (v .ranged) .size-is, skip-le (band setup .half) u)
 
     -- a point that stands among them is on the row
     module _ (n : ℕ) (h : n < 48 * lit) (low : row * setup .size ≤ at n) (high : at n < (row + 1) * setup .size) where
@@ -149,7 +149,7 @@ module _ (setup : Setup) (v : Valid setup) (mask slot : ℕ) where
       same-row =
           let rest = at n - row * setup .size in
           let here : row * setup .size + rest ≡ at n = omega arith in
-          sym (digits-div (spot n .offset) (carrier-lt (band setup) (setup .size) (band-law v) (spot n .used) (lies n h .used-lt)))
+          sym (digits-div (spot n .offset) (carrier-lt (band setup) (setup .size) (band-law (v .ranged)) (spot n .used) (lies n h .used-lt)))
           ∙ ap (λ (x : ℕ). x / setup .size) (sym here) ∙ digits-div row (omega arith)
 
       stands-here : at n ≡ usedPosition setup row (spot n .used)
@@ -171,22 +171,22 @@ module _ (setup : Setup) (v : Valid setup) (mask slot : ℕ) where
           took-none (row * setup .size) (runStart setup row 0) points (row-from (0 * step))
           (λ n h l low c. let u = before-used n h l (omega (arith, row-to (0 * step) (omega arith))) (0 * step) low in omega arith)
 
-      pub row-done : (i : ℕ) → i ≤ count → count ≤ i → Took setup mask slot carriers grid (runStart setup row i) ((row + 1) * setup .size) points points
-      row-done i most least =
-          let all : i * step ≡ band setup .used = ap (λ (x : ℕ). x * step) (omega arith) ∙ run-law v 0 .used-is in
+      pub row-done : Unlent setup → (i : ℕ) → i ≤ count → count ≤ i → Took setup mask slot carriers grid (runStart setup row i) ((row + 1) * setup .size) points points
+      row-done its i most least =
+          let all : i * step ≡ band setup .used = ap (λ (x : ℕ). x * step) (omega arith) ∙ run-law its 0 .used-is in
           took-none (runStart setup row i) ((row + 1) * setup .size) points (row-to (i * step) (omega arith))
           (λ n h l high c. let e = stands-here n h (omega (arith, row-from (i * step))) high in
           omega (arith, rises (spot n .used) (i * step) (omega (arith, lies n h .used-lt))))
 
       -- nothing counts from a run on that starts past the count
-      pub row-over : (i : ℕ) → i < count → carriers ≤ runStart setup row i → Took setup mask slot carriers grid (runStart setup row i) ((row + 1) * setup .size) points points
-      row-over i h past =
+      pub row-over : Unlent setup → (i : ℕ) → i < count → carriers ≤ runStart setup row i → Took setup mask slot carriers grid (runStart setup row i) ((row + 1) * setup .size) points points
+      row-over its i h past =
           let l = mul-le-mul-right step h in
-          took-past (runStart setup row i) ((row + 1) * setup .size) points (row-to (i * step) (omega (arith, run-law v 0 .used-is))) past
+          took-past (runStart setup row i) ((row + 1) * setup .size) points (row-to (i * step) (omega (arith, run-law its 0 .used-is))) past
 
   -- ---- run i of a row
 
-  module _ (row i : ℕ) (hr : row < symbols setup) (hi : i < count) where
+  module _ (its : Unlent setup) (row i : ℕ) (hr : row < symbols setup) (hi : i < count) where
     abbrev y : ℕ
     y = slot * symbols setup + row
 
@@ -200,7 +200,7 @@ module _ (setup : Setup) (v : Valid setup) (mask slot : ℕ) where
     next = runStart setup row (i + 1)
 
     law : RunLaw setup y
-    law = run-law v y
+    law = run-law its y
 
     next-is : (i + 1) * step ≡ i * step + step
     next-is = omega arith

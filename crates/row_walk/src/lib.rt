@@ -8,7 +8,7 @@ ghost use lib.ListN.{length};
 ghost use Rattle.base.specs.Tabulate.{tabulate};
 ghost use Rattle.modes.specs.Setup.{alone};
 ghost use Rattle.modes.specs.Mode.{symbols};
-ghost use Rattle.modes.specs.Model.{Valid};
+ghost use Rattle.modes.specs.Model.{Unlent};
 ghost use Rattle.mask.specs.Mask.{litSubchannels};
 ghost use Rattle.runs.specs.Model.{LitRuns, runCount, runsOf, runPlace, runPoints};
 ghost use Rattle.point_numbers.specs.Model.{runStride, pointStride, RowNumbers, RunTable, PlaceTable};
@@ -34,7 +34,7 @@ fn drop_run(
     grid: &[f32],
     points: &mut [f32],
 )
-    requires { ⌜ Valid (alone setup) ⌝ }
+    requires { ⌜ Unlent (alone setup) ⌝ }
     requires { ⌜ (row < symbols (alone setup)) × (i < runCount (alone setup)) × (start ≡ runStart (alone setup) row i) × (start ≤ carriers) × (length (now points) ≡ 96 * litSubchannels (alone setup) mask) × (length (now grid) ≡ 2 * gridPoints (alone setup)) ⌝ }
     requires { ⌜ (shape ≡ runsOf (alone setup) (slot * symbols (alone setup) + row)) × (all ≡ runPoints shape) × (now «its_places» ≡ tabulate 12 (runPlace shape)) × LitRuns (alone setup) mask (now lit) ⌝ }
     requires { ⌜ (strides .run ≡ runStride (alone setup)) × (strides .point ≡ pointStride (alone setup)) × RowNumbers (alone setup) mask (slot * symbols (alone setup) + row) (now numbers) ⌝ }
@@ -69,7 +69,7 @@ pub fn empty_row(
     grid: &[f32],
     points: &mut [f32],
 )
-    requires { ⌜ Valid (alone setup) ⌝ }
+    requires { ⌜ Unlent (alone setup) ⌝ }
     requires { ⌜ (slot < 512) × (row < symbols (alone setup)) × (length (now points) ≡ 96 * litSubchannels (alone setup) mask) × (length (now grid) ≡ 2 * gridPoints (alone setup)) ⌝ }
     requires { ⌜ LitRuns (alone setup) mask (now lit) × RunTable (alone setup) mask (now runs) × PlaceTable (alone setup) (now places) ⌝ }
     ensures { λ _. ⌜ Took (alone setup) mask slot carriers (now (grid .entry)) (row * setup .size) ((row + 1) * setup .size) (now (points .entry)) (now (points .exit)) ⌝ }

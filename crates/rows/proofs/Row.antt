@@ -2,7 +2,7 @@
 use Rattle.base.proofs.{Prelude.{_≡_, refl, sym, ap, ap₂, _∙_, List, ℕ, _+_, _*_, _%_, _<_, _≤_, digits-lt, lit<, eqb, arith}, Test.cases}
 use Rattle.base.proofs.Tabulate.{entry-of, turned-row, turned-by, turned-below}
 use Rattle.base.specs.{Steps.entry, Tabulate.tabulate, Model.{Starts, Below, Turned}}
-use Rattle.carriers.specs.{declared.Spot.Spot, Band.{binBand, carrierOf}, Bin.usedOfData, Law.DataSpot}
+use Rattle.carriers.specs.{declared.Spot.Spot, Band.{binBand, fuscBand, carrierOf}, Bin.usedOfData, Law.DataSpot}
 use Rattle.carriers.specs.Model.{spotNumber, carrierNumber, carrierStep}
 use Rattle.ofusc.specs.Width.{Width, n4, n8, n16, n32}
 use Rattle.ofusc.proofs.Sequence.{size, sum-lt, cell-term-lt}
@@ -14,14 +14,15 @@ use Rattle.pusc_ul_rows.proofs.Row.{number-on-place}
 use Rattle.carriers.proofs.Row.{step-carrier}
 use Rattle.modes.specs.{Setup.Setup, Mode.{isAmc, shapeOf, width, widthOf, subchannels, symbols, symbolsOf, band, bandOf}}
 use Rattle.map.specs.Formula.{isPilot, spotOf}
-use Rattle.modes.specs.Model.{IsAmc, Valid, pusc-dl, pusc-ul, ofusc, amc}
+use Rattle.modes.specs.Model.{IsAmc, pusc-dl, pusc-ul, ofusc, amc, Ranged, own, fusc, Valid}
 use Rattle.rows.specs.Model.{shiftOf, pointPlace}
 use Rattle.modes.proofs.Choice.{amc-shape, at-0, at-1, at-2, at-amc, by-mode}
-use Rattle.modes.proofs.ByMode.{in-pusc-dl, in-pusc-ul, in-ofusc, in-amc, bin-width, amc-width, shape-symbols, few}
+use Rattle.modes.proofs.{ByMode.{in-pusc-dl, in-pusc-ul, in-ofusc, in-amc, bin-width, amc-width, shape-symbols, few}, Lent.own-mode}
 use Rattle.map.proofs.{Asks.amc-spot, Slot.slot-law}
 use Rattle.pusc_ul_rows.specs.Model as pusc-ul
 use Rattle.ofusc_rows.specs.Model as ofusc
 use Rattle.amc_rows.specs.Model as amc
+use Rattle.fusc.specs.Map as fusc-map
 use Rattle.pusc_dl.specs.Map as pusc-dl-map
 use Rattle.ofusc.specs.Map as ofusc-map
 use Rattle.amc.specs.Map as amc-map
@@ -44,7 +45,7 @@ even-width n16 = omega arith
 even-width n32 = omega arith
 
 -- what each mode's row asks, and its table
-module _ {c : Setup} (v : Valid c) (s : ℕ) (hs : s < subchannels c) where
+module _ {c : Setup} (v : Ranged c) (s : ℕ) (hs : s < subchannels c) where
   pub asks-0 : c .mode ≡ 0 → (c .cell < 32) × (s < 60)
   asks-0 e = let r = in-pusc-dl v e in (r .cell-lt, rw (r .subchannels-are) at hs)
 
@@ -59,12 +60,13 @@ module _ {c : Setup} (v : Valid c) (s : ℕ) (hs : s < subchannels c) where
   asks-amc q shape e n f = let r = in-amc v q in rw (e, f) (amc-shape (c .mode) q, even-width (amc-width v q), r .cell-lt, rw (r .subchannels-are) at hs)
 
 -- the size is 64N
-bin-size : {c : Setup} → Valid c → IsAmc (c .mode) → c .size ≡ 64 * width c
+bin-size : {c : Setup} → Ranged c → IsAmc (c .mode) → c .size ≡ 64 * width c
 unfolding widthOf
-bin-size (pusc-dl h) q = absurd (omega arith)
-bin-size (pusc-ul h) q = absurd (omega arith)
-bin-size (ofusc w h) q = absurd (omega arith)
-bin-size (amc {n = n} q′ w h) q = omega arith
+bin-size (own (pusc-dl h)) q = absurd (omega arith)
+bin-size (own (pusc-ul h)) q = absurd (omega arith)
+bin-size (own (ofusc w h)) q = absurd (omega arith)
+bin-size (own (amc {n = n} q′ w h)) q = omega arith
+bin-size (fusc h) q = absurd (omega arith)
 
 module _ (c : Setup) (slot s : ℕ) where
   shift-none : (m : ℕ) → m < 48 → shiftOf c s ≡ 0 → (m + shiftOf c s) % 48 ≡ m
@@ -90,7 +92,7 @@ module _ (c : Setup) (slot s : ℕ) where
       at y d = record { offset = 0; used = usedOfData y d }
 
   -- AMC's row, the carriers of P's entries
-  pub row-amc : Valid c → IsAmc (c .mode) → (shape : Shape) → shape ≡ shapeOf (c .mode) → (n : ℕ) → n ≡ width c
+  pub row-amc : Ranged c → IsAmc (c .mode) → (shape : Shape) → shape ≡ shapeOf (c .mode) → (n : ℕ) → n ≡ width c
       → (row : List ℕ) → Starts 48 (amc.sequenceCarrier shape n (slot * shape .symbols) (c .cell) s) row
       → Turned (shiftOf c s) (pointPlace c slot s) row
   unfolding shiftOf bandOf amc.trafficCarrier amc-map.dataNumber
@@ -118,29 +120,32 @@ shift-lt c s =
     cases (eqb (c .mode) 0) (λ e. rw e (lit< tt))
     (λ e. rw e (cases (eqb (c .mode) 1) (λ e₁. rw e₁ (omega arith))
     (λ e₁. rw e₁ (cases (eqb (c .mode) 2) (λ e₂. rw e₂ (omega arith))
-    (λ e₂. rw e₂ (cases (isAmc (c .mode)) (λ e₃. rw e₃ (omega arith)) (λ e₃. rw e₃ (lit< tt))))))))
+    (λ e₂. rw e₂ (cases (isAmc (c .mode)) (λ e₃. rw e₃ (omega arith))
+    (λ e₃. rw e₃ (cases (eqb (c .mode) 7) (λ e₇. rw e₇ (omega arith)) (λ e₇. rw e₇ (lit< tt))))))))))
 
 -- in the modes before AMC a row starts at the same number in the grid as in the numbers of spots: either the size is 2048 or there is one row
-row-start : {c : Setup} → Valid c → c .mode < 3 → (row : ℕ) → row < symbols c → row * 2048 ≡ row * c .size
+row-start : {c : Setup} → Ranged c → c .mode < 3 → (row : ℕ) → row < symbols c → row * 2048 ≡ row * c .size
 unfolding symbolsOf
-row-start (pusc-dl h) l row r = omega arith
-row-start (pusc-ul h) l row r = omega arith
-row-start (ofusc {n = n} w h) l row r = let z : row ≡ 0 = omega arith in rw z (omega arith)
-row-start (amc q w h) l row r = absurd (omega arith)
+row-start (own (pusc-dl h)) l row r = omega arith
+row-start (own (pusc-ul h)) l row r = omega arith
+row-start (own (ofusc {n = n} w h)) l row r = let z : row ≡ 0 = omega arith in rw z (omega arith)
+row-start (own (amc q w h)) l row r = absurd (omega arith)
+row-start (fusc h) l row r = absurd (omega arith)
 
-early-symbols : {c : Setup} → Valid c → c .mode < 3 → symbols c ≤ 3
+early-symbols : {c : Setup} → Ranged c → c .mode < 3 → symbols c ≤ 3
 unfolding symbolsOf
-early-symbols (pusc-dl h) l = omega arith
-early-symbols (pusc-ul h) l = omega arith
-early-symbols (ofusc w h) l = omega arith
-early-symbols (amc q w h) l = absurd (omega arith)
+early-symbols (own (pusc-dl h)) l = omega arith
+early-symbols (own (pusc-ul h)) l = omega arith
+early-symbols (own (ofusc w h)) l = omega arith
+early-symbols (own (amc q w h)) l = absurd (omega arith)
+early-symbols (fusc h) l = absurd (omega arith)
 
 module _ {c : Setup} (v : Valid c) (early : c .mode < 3) (slot s : ℕ) (hs : s < subchannels c) where
   lies : (m : ℕ) → m < 48 → DataSpot (symbols c) (band c .used) (λ o u. isPilot c (slot * symbols c + o) u) (spotOf c slot s m)
   lies m h = slot-law v slot .lies s m hs h
 
   by-size : (m : ℕ) → m < 48 → carrierNumber 2048 (band c) (spotOf c slot s m) ≡ carrierNumber (c .size) (band c) (spotOf c slot s m)
-  by-size m h = ap (λ (x : ℕ). x + carrierOf (band c) (spotOf c slot s m .used)) (row-start v early (spotOf c slot s m .offset) (lies m h .offset-lt))
+  by-size m h = ap (λ (x : ℕ). x + carrierOf (band c) (spotOf c slot s m .used)) (row-start (v .ranged) early (spotOf c slot s m .offset) (lies m h .offset-lt))
 
   pub row-1 : c .mode ≡ 1 → (row : List ℕ) → row ≡ tabulate 48 (pusc-ul.placeNumber (c .cell) s)
       → Turned (shiftOf c s) (pointPlace c slot s) row
@@ -155,10 +160,17 @@ module _ {c : Setup} (v : Valid c) (early : c .mode < 3) (slot s : ℕ) (hs : s 
     pub spots-below : Below 48 8192 row
     spots-below =
         turned-below (shiftOf c s) 8192 _ row (shift-lt c s) t
-        (λ m h. omega (arith, few v, early-symbols v early, lies m h .offset-lt, lies m h .used-lt))
+        (λ m h. omega (arith, few (v .ranged), early-symbols (v .ranged) early, lies m h .offset-lt, lies m h .used-lt))
 
     pub carriers-of : (row′ : List ℕ) → row′ ≡ tabulate 48 (λ k. carrierStep (band c) (entry row k)) → Turned (shiftOf c s) (pointPlace c slot s) row′
     carriers-of row′ e m h =
         turned-by (shiftOf c s) (λ m. spotNumber (spotOf c slot s m)) (carrierStep (band c)) row row′ t e m h
-        ∙ step-carrier (band c) (spotOf c slot s m) (omega (arith, few v, lies m h .used-lt))
+        ∙ step-carrier (band c) (spotOf c slot s m) (omega (arith, few (v .ranged), lies m h .used-lt))
         ∙ by-size m h
+
+-- a row of FUSC, whose slot has one symbol
+pub row-7 : {c : Setup} → Ranged c → c .mode ≡ 7 → (slot s : ℕ) (row : List ℕ)
+    → Turned (13 * s % 48) (λ m. carrierOf fuscBand (fusc-map.spotOf (c .pilots) (c .cell) s m .used)) row → Turned (shiftOf c s) (pointPlace c slot s) row
+unfolding spotOf shiftOf bandOf fusc-map.spotOf
+row-7 (own u) e slot s row t m h = absurd (omega (arith, own-mode u))
+row-7 (fusc l) e slot s row t m h = t m h ∙ omega arith

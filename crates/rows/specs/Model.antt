@@ -7,9 +7,9 @@ use Rattle.modes.specs.Mode.{byMode, band}
 use Rattle.map.specs.Formula.{spotOf}
 use Rattle.rows.specs.declared.CarrierRow.{CarrierRow}
 
--- how far a subchannel's row is shifted round: by data place in PUSC uplink, by group in optional FUSC, by the places of P in AMC
+-- how far a subchannel's row is shifted round: by data place in PUSC uplink, by group in optional FUSC, by the places of P in AMC, by turn in FUSC
 unfoldable pub shiftOf : (setup : Setup) (s : ℕ) → ℕ
-shiftOf setup s = byMode (setup .mode) 0 (13 * s % 48) (23 * s % 48) (setup .cell % 48) 0
+shiftOf setup s = byMode (setup .mode) 0 (13 * s % 48) (23 * s % 48) (setup .cell % 48) (13 * s % 48) 0
 
 -- the carrier of a point as a number, the size for each symbol of the slot
 abbrev pub pointPlace : (setup : Setup) (slot s m : ℕ) → ℕ

@@ -5,10 +5,10 @@ ghost use mathlib.Core.Path.{_≡_};
 ghost use Prim.Native.Nat.{_<_};
 ghost use Rattle.base.specs.Model.{Turned};
 ghost use Rattle.carriers.specs.Model.{spotNumber};
-ghost use Rattle.modes.specs.Setup.{alone};
+ghost use Rattle.modes.specs.Setup.{alone, lent};
 ghost use Rattle.modes.specs.Mode.{subchannels};
 ghost use Rattle.map.specs.Formula.{spotOf};
-ghost use Rattle.modes.specs.Model.{Valid};
+ghost use Rattle.modes.specs.Model.{Unlent, Valid};
 ghost use Rattle.rows.specs.Model.{shiftOf, pointPlace, RowOf};
 
 // The carriers of a subchannel's points as numbers, the size for each symbol of the slot: index 0 at place `shift`, the others
@@ -32,15 +32,18 @@ fn shift(setup: Setup, subchannel: usize) -> usize
     if setup.mode == 2 {
         return 23 * subchannel % 48;
     }
-    if setup.mode < 7 {
+    if modes::is_amc(setup.mode) {
         return setup.cell % 48;
+    }
+    if setup.mode == 7 {
+        return 13 * subchannel % 48;
     }
     0
 }
 
 // Where the points of a subchannel of PUSC downlink or optional FUSC lie in its slot, as numbers, index 0 at place `shift`.
 fn spots(setup: Setup, slot: usize, subchannel: usize) -> [u16; 48]
-    requires { ⌜ Valid (alone setup) ⌝ }
+    requires { ⌜ Unlent (alone setup) ⌝ }
     requires { ⌜ (setup .mode < 3) × (setup .mode ≡ 1 → ⊥) × (subchannel < subchannels (alone setup)) ⌝ }
     ensures { λ r. ⌜ Turned (shiftOf (alone setup) subchannel) (λ m. spotNumber (spotOf (alone setup) slot subchannel m)) r ⌝ }
 {
@@ -55,9 +58,9 @@ fn spots(setup: Setup, slot: usize, subchannel: usize) -> [u16; 48]
     )
 }
 
-// The carriers of a subchannel's points, index 0 at place `shift`.
+// The carriers of a subchannel's points in the modes whose pilots are their own, index 0 at place `shift`.
 fn carrier_row(setup: Setup, slot: usize, subchannel: usize) -> [u16; 48]
-    requires { ⌜ Valid (alone setup) ⌝ }
+    requires { ⌜ Unlent (alone setup) ⌝ }
     requires { ⌜ subchannel < subchannels (alone setup) ⌝ }
     ensures { λ r. ⌜ Turned (shiftOf (alone setup) subchannel) (pointPlace (alone setup) slot subchannel) r ⌝ }
 {
@@ -75,12 +78,18 @@ fn carrier_row(setup: Setup, slot: usize, subchannel: usize) -> [u16; 48]
 }
 
 // The row of a subchannel.
-pub fn subchannel_row(setup: Setup, slot: usize, subchannel: usize) -> CarrierRow
-    requires { ⌜ Valid (alone setup) ⌝ }
+pub fn subchannel_row(setup: Setup, slot: usize, subchannel: usize, pilots: &[u32]) -> CarrierRow
+    requires { ⌜ Valid (lent setup (now pilots)) ⌝ }
     requires { ⌜ subchannel < subchannels (alone setup) ⌝ }
-    ensures { λ r. ⌜ RowOf (alone setup) slot subchannel r ⌝ }
+    ensures { λ r. ⌜ RowOf (lent setup (now (pilots .entry))) slot subchannel r ⌝ }
 {
     let shift = shift(setup, subchannel);
+    if setup.mode == 7 {
+        return CarrierRow {
+            shift: shift,
+            carriers: fusc_rows::carrier_row(setup.cell, subchannel, pilots),
+        };
+    }
     CarrierRow {
         shift: shift,
         carriers: carrier_row(setup, slot, subchannel),

@@ -14,9 +14,9 @@ use Rattle.pusc_dl_lit.specs.Model.{clusterLit}
 use Rattle.pusc_ul.specs.Tile.{isTilePilot}
 use Rattle.modes.specs.{Setup.{Setup, setupLent, setupWith}, Mode.{width, widthOf, band, bandOf}}
 use Rattle.map.specs.Formula.{isPilot}
-use Rattle.modes.specs.Model.{IsListed, OverBins, Valid, pusc-dl, pusc-ul, ofusc, amc}
-use Rattle.modes.proofs.{Choice.{amc-not-0, amc-column, bins-column, none-column}, Accept.width-is}
-use Rattle.mask.specs.Mask.{isUsedLit}
+use Rattle.modes.specs.Model.{OverBins, Unlent, pusc-dl, pusc-ul, ofusc, amc}
+use Rattle.modes.proofs.{Choice.{amc-not-0, amc-column, bins-column, past-column}, Accept.width-is}
+use Rattle.mask.specs.Mask.{isUsedLitOf, isUsedLit}
 use Rattle.runs.specs.Model.{runStep, runCount, tileRuns, runFirst, runSecond, runsOf, runPlace, pointsBelow, runPoints, pointsWithin, LitRuns}
 use Rattle.runs.specs.Model.{IsRun, runLit}
 use Rattle.runs.specs.declared.Runs.{Runs}
@@ -35,9 +35,9 @@ module _ (c : Setup) (y : ℕ) where
   unfolding runFirst runSecond runStep runCount
   runs-bins o = simp bins-column
 
-  pub runs-none : (IsListed (c .mode) → ⊥) → record { first = 0; second = 0; step = 1; count = 0 } ≡ runsOf c y
+  pub runs-none : 7 ≤ c .mode → record { first = 0; second = 0; step = 1; count = 0 } ≡ runsOf c y
   unfolding runFirst runSecond runStep runCount
-  runs-none n = simp none-column
+  runs-none h = simp past-column
 
 -- a point of a run lies below a place exactly when it is one of those that are counted there
 module _ (b : Runs) (j place : ℕ) where
@@ -152,7 +152,7 @@ unfolding isClusterPilot
 cluster-test y i p h = rw (digits-mod i h)
 
 cluster-run : (cell mask i p : ℕ) → p < 14 → isUsedLit (setupWith 0 2048 cell) mask (i * 14 + p) ≡ isUsedLit (setupWith 0 2048 cell) mask (i * 14)
-unfolding isUsedLit usedGroup logicalOf
+unfolding isUsedLitOf usedGroup logicalOf
 cluster-run cell mask i p h =
     let z : i * 14 / 14 ≡ i = omega arith in
     rw (digits-div i h, z)
@@ -224,8 +224,8 @@ module _ (n y : ℕ) where
       }
 
 -- each kind of run
-pub run-law : {c : Setup} → Valid c → (y : ℕ) → RunLaw c y
-unfolding runStep runCount runFirst runSecond bandOf isPilot isUsedLit widthOf
+pub run-law : {c : Setup} → Unlent c → (y : ℕ) → RunLaw c y
+unfolding runStep runCount runFirst runSecond bandOf isPilot isUsedLitOf widthOf
 run-law (pusc-dl {cell = cell} h) y =
     let b : Runs = record { first = firstPilot y; second = secondPilot y; step = 14; count = 120 } in
     let a = cluster-apart y in
@@ -261,7 +261,7 @@ run-law (amc {mode = mode} {n = n} {cell = cell} {pilots = lent} q w h) y =
     (λ u. simp amc-column) (λ mask u. rw (amc-not-0 q))
 
 -- a run is one of PUSC downlink's 120 clusters, where it has these
-pub run-is : {c : Setup} → Valid c → (i : ℕ) → i < runCount c → IsRun c i
+pub run-is : {c : Setup} → Unlent c → (i : ℕ) → i < runCount c → IsRun c i
 unfolding runCount
 run-is (pusc-dl h) i l e = l
 run-is (pusc-ul h) i l e = absurd (omega arith)
@@ -269,14 +269,14 @@ run-is (ofusc w h) i l e = absurd (omega arith)
 run-is (amc q w h) i l e = absurd (omega arith)
 
 -- and the table of lit runs tells whether it is lit
-pub run-light : {c : Setup} → Valid c → (mask : ℕ) (lit : List ℕ) → LitRuns c mask lit → (i : ℕ) → i < runCount c → runLit c lit i ≡ pick (isUsedLit c mask (i * runStep c)) 1 0
-unfolding runLit runCount runStep isUsedLit clusterLit
+pub run-light : {c : Setup} → Unlent c → (mask : ℕ) (lit : List ℕ) → LitRuns c mask lit → (i : ℕ) → i < runCount c → runLit c lit i ≡ pick (isUsedLit c mask (i * runStep c)) 1 0
+unfolding runLit runCount runStep isUsedLitOf clusterLit
 run-light (pusc-dl {cell = cell} h) mask lit t i l = entry-of lit 120 (clusterLit cell mask) (t refl) i l
 run-light (pusc-ul h) mask lit t i l = refl
 run-light (ofusc w h) mask lit t i l = refl
 run-light (amc q w h) mask lit t i l = rw (amc-not-0 q)
 
-module _ {c : Setup} (v : Valid c) (mask : ℕ) (lit : List ℕ) (t : LitRuns c mask lit) (i : ℕ) (h : i < runCount c) (x : ℕ) (e : x ≡ runLit c lit i) where
+module _ {c : Setup} (v : Unlent c) (mask : ℕ) (lit : List ℕ) (t : LitRuns c mask lit) (i : ℕ) (h : i < runCount c) (x : ℕ) (e : x ≡ runLit c lit i) where
   pub run-dark : x ≡ 0 → isUsedLit c mask (i * runStep c) ≡ false
   run-dark z =
       cases (isUsedLit c mask (i * runStep c))

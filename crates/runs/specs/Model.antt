@@ -26,20 +26,20 @@ runLit setup lit i = pick (eqb (setup .mode) 0) (entry lit i) 1
 
 -- A symbol's used numbers as runs: clusters, tiles, bins. How many used numbers a run has, and how many runs there are.
 unfoldable pub runStep : (setup : Setup) → ℕ
-runStep setup = byMode (setup .mode) 14 4 9 9 1
+runStep setup = byMode (setup .mode) 14 4 9 9 1 1
 
 unfoldable pub runCount : (setup : Setup) → ℕ
-runCount setup = byMode (setup .mode) 120 420 (6 * width setup) (6 * width setup) 0
+runCount setup = byMode (setup .mode) 120 420 (6 * width setup) (6 * width setup) 0 0
 
 -- The places of a run's pilots in symbol y. One that is not there stands past the run's end: both in the middle symbol of a tile, the second in a bin. Where there are runs, the first stands before the second.
 abbrev pub tileRuns : (y : ℕ) → Runs
 tileRuns y = record { first = pick (eqb (y % 3) 1) 4 0; second = pick (eqb (y % 3) 1) 5 3; step = 4; count = 420 }
 
 unfoldable pub runFirst : (setup : Setup) (y : ℕ) → ℕ
-runFirst setup y = byMode (setup .mode) (firstPilot y) (tileRuns y .first) (binPilotPlace y) (binPilotPlace y) 0
+runFirst setup y = byMode (setup .mode) (firstPilot y) (tileRuns y .first) (binPilotPlace y) (binPilotPlace y) 0 0
 
 unfoldable pub runSecond : (setup : Setup) (y : ℕ) → ℕ
-runSecond setup y = byMode (setup .mode) (secondPilot y) (tileRuns y .second) 9 9 0
+runSecond setup y = byMode (setup .mode) (secondPilot y) (tileRuns y .second) 9 9 0 0
 
 abbrev pub runsOf : (setup : Setup) (y : ℕ) → Runs
 runsOf setup y = record { first = runFirst setup y; second = runSecond setup y; step = runStep setup; count = runCount setup }

@@ -5,7 +5,7 @@ ghost use mathlib.Core.Path.{_≡_};
 ghost use Prim.Native.Nat.{_<_};
 ghost use Rattle.base.specs.Tabulate.{tabulate};
 ghost use Rattle.modes.specs.Setup.{alone};
-ghost use Rattle.modes.specs.Model.{Valid};
+ghost use Rattle.modes.specs.Model.{Unlent, Ranged};
 ghost use Rattle.runs.specs.Model.{LitRuns, IsRun, runLit, tileRuns, runsOf, runPlace, pointsBelow, runPoints, pointsWithin};
 
 // The runs of a symbol's used numbers: `count` runs of `step` numbers, and in each the places of its two pilots, rising. One that
@@ -19,7 +19,7 @@ pub struct Runs {
 
 // The runs of a symbol of the zone.
 pub fn symbol_runs(setup: Setup, symbol: usize) -> Runs
-    requires { ⌜ Valid (alone setup) ⌝ }
+    requires { ⌜ Unlent (alone setup) ⌝ }
     ensures { λ r. ⌜ r ≡ runsOf (alone setup) symbol ⌝ }
 {
     if setup.mode == 0 {
@@ -72,7 +72,7 @@ fn tile_runs(symbol: usize) -> Runs
 
 // Which runs a mask lights: the clusters of PUSC downlink, 1 for each; no other mode reads it.
 pub fn lit_runs(setup: Setup, mask: usize) -> [u8; 120]
-    requires { ⌜ Valid (alone setup) ⌝ }
+    requires { ⌜ Ranged (alone setup) ⌝ }
     requires { ⌜ mask < 64 ⌝ }
     ensures { λ r. ⌜ LitRuns (alone setup) mask r ⌝ }
 {

@@ -81,18 +81,27 @@ pub fn line_end(src: &[u8], at: usize) -> usize
     end
 }
 
-// The numbers of a line from a place on, 64 at most; those that it does not have are 0.
-pub fn fields(input: &[u8], from: usize) -> [usize; 64] {
-    let mut fields = [0usize; 64];
+// The numbers of a line from a place on, 192 at most; those that it does not have are 0.
+pub fn fields(input: &[u8], from: usize) -> [usize; 192] {
+    let mut fields = [0usize; 192];
     let mut at = from;
     let mut i = 0;
-    while i < 64 {
+    while i < 192 {
         let number = read_number(input, at);
         fields[i] = number.value;
         at = number.next;
         i += 1;
     }
     fields
+}
+
+pub fn least(n: usize, most: usize) -> usize
+    ensures { λ r. ⌜ r ≤ most ⌝ }
+{
+    if n < most {
+        return n;
+    }
+    most
 }
 
 pub fn print(bytes: &[u8]) {

@@ -11,7 +11,7 @@ zoneRefusal size before zone = refusalOf (askZone {A = Unit {0}} size before zon
 
 -- A zone whose values are in range at some size.
 pub record Small (zone : Zone) : Type 0 where
-  pub mode-most : zone .mode < 7
+  pub mode-most : zone .mode < 8
   pub cell-most : zone .cell < 2352
   pub slots-most : zone .slots ≤ 512
   pub mask-most : zone .mask ≤ 63

@@ -2,11 +2,12 @@
 use mathlib.Core.Bool.{Bool, true, false}
 use mathlib.Core.List.{List, [], _∷_}
 use Prim.Native.Nat.{ℕ}
-use lib.Dec.{eqb, ltb, leb}
+use lib.Dec.{eqb, ltb}
 use lib.ListN.{getD}
 use Rattle.base.specs.Choice.{pick, isUpTo}
 use Rattle.base.specs.Answer.{Answer, accepted, ask, refusalOf}
 use Rattle.modes.specs.Setup.{Setup, setupWith}
+use Rattle.modes.specs.Mode.{isAmc}
 use Rattle.modes.specs.Question.{isSize, isCell}
 use Rattle.mask.specs.Mask.{isMask}
 use Rattle.zone.specs.declared.Zone.{Zone}
@@ -21,9 +22,9 @@ valuesOf zone = zone .mode ∷ zone .cell ∷ zone .slots ∷ zone .mask ∷ []
 abbrev pub zoneOf : (values : List ℕ) → Zone
 zoneOf values = record { mode = getD values 0 0; cell = getD values 1 0; slots = getD values 2 0; mask = getD values 3 0 }
 
--- 1 Is the mode 0, 2 or one of AMC's, 3 to 6 (document 02, wish 2)? That is every listed mode but 1.
+-- 1 Is the mode 0, 2, one of AMC's, 3 to 6 (document 02, wish 2), or FUSC's, 7 (document 02, wish 8: a plan's question 1 takes it)? That is every listed mode but 1.
 unfoldable pub isZoneMode : (mode : ℕ) → Bool
-isZoneMode mode = pick (eqb mode 1) false (ltb mode 7)
+isZoneMode mode = pick (eqb mode 1) false (ltb mode 8)
 
 -- Questions 2 and 3 are the map's, of the zone's mode and cell and the plan's size.
 abbrev pub setupOf : (size : ℕ) (zone : Zone) → Setup
@@ -33,13 +34,9 @@ setupOf size zone = setupWith (zone .mode) size (zone .cell)
 abbrev pub isSlots : (slots : ℕ) → Bool
 isSlots slots = isUpTo 512 slots
 
--- 14 At 2048, is the first zone mode 0? Its cell is the preamble's, any of mode 0's (document 02, wish 1).
+-- 14 At 2048, is the first zone mode 0? Its cell is the preamble's, any of mode 0's (document 02, wish 1). Mode 7 never opens a plan, since it has no other size (wish 8).
 unfoldable pub isOpening : (size : ℕ) (zone : Zone) → Bool
 isOpening size zone = pick (eqb size 2048) (eqb (zone .mode) 0) true
-
--- Is the mode one of AMC's, 3 to 6?
-unfoldable pub isAmc : (mode : ℕ) → Bool
-isAmc mode = pick (leb 3 mode) (ltb mode 7) false
 
 -- 14 At every size, does nothing but AMC follow AMC (document 01: mode 3; document 02, wish 2: any of 3 to 6)?
 unfoldable pub isFollowing : (mode : ℕ) (zone : Zone) → Bool

@@ -1,7 +1,7 @@
 // A zone of a plan, and the questions put to it: to its own values, and where it stands.
 use modes::Setup;
 ghost use mathlib.Core.Path.{_≡_};
-ghost use Rattle.zone.specs.Zone.{isAmc, isOrder, fieldsRefusal, isUnused};
+ghost use Rattle.zone.specs.Zone.{isOrder, fieldsRefusal, isUnused};
 ghost use Rattle.zone.specs.Model.{zoneRefusal};
 
 // One zone: mode, cell, how many slots, and the mask, bit g for major group g (document 02, wish 5).
@@ -26,16 +26,6 @@ pub enum Before {
     After(usize),
 }
 
-// Is a mode one of AMC's?
-fn is_amc(mode: usize) -> bool
-    ensures { λ r. ⌜ r ≡ isAmc mode ⌝ }
-{
-    if mode < 3 {
-        return false;
-    }
-    mode < 7
-}
-
 // Does a zone stand in its place, the first or after one of a mode?
 fn is_order(size: usize, prior: Before, zone: Zone) -> bool
     ensures { λ r. ⌜ r ≡ isOrder prior size zone ⌝ }
@@ -48,10 +38,10 @@ fn is_order(size: usize, prior: Before, zone: Zone) -> bool
             zone.mode == 0
         }
         Before::After(mode) => {
-            if !is_amc(mode) {
+            if !modes::is_amc(mode) {
                 return true;
             }
-            is_amc(zone.mode)
+            modes::is_amc(zone.mode)
         }
     }
 }

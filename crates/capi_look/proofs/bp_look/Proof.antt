@@ -1,7 +1,7 @@
 -- `capi_look::bp_look` meets its contract.
 use Rattle.base.proofs.Prelude.{_≡_, arith, needs}
 use denote.Ref.{now}
-use Rattle.modes.specs.Setup.{setupWith}
+use Rattle.modes.specs.Setup.{setupLent}
 use Rattle.look.specs.Look.{lookOf, seen}
 use Rattle.capi_look.specs.Look.{lookOut}
 use Rattle.capi_look.proofs.{Look.{seen-small, seen-out}, bp_look.Statement.statement}
@@ -18,10 +18,10 @@ cast-index : tie.Need-cast-index
 cast-index c = omega (arith, seen-small _ _ _ _ _ _ (c .before .before .before .before .look .ensures) _ _ _ _ (c .before .before .answer2 .given .1))
 
 -- what `look` says of the fields as C has them
-answered : (c : tie.After-look) → let a = c .before .before .before .args in
-    seen (c .look .result) ≡ lookOf (setupWith (a .mode) (a .size) (a .cell)) (a .mask) (a .symbol) (now (a .grid)) (a .carrier)
+answered : (c : tie.After-look) → let a = c .before .before .before .before .args in
+    seen (c .look .result) ≡ lookOf (setupLent (a .mode) (a .size) (a .cell) (now (a .pilots))) (a .mask) (a .symbol) (now (a .grid)) (a .carrier)
 answered c =
-    rw (c .before .setup .ensures, toZ-ofZ w32 (c .before .before .before .args .carrier) (c .before .before .before .fits .carrier)) at (c .look .ensures)
+    rw (c .before .setup .ensures, toZ-ofZ w32 (c .before .before .before .before .args .carrier) (c .before .before .before .before .fits .carrier)) at (c .look .ensures)
 
 returns : tie.Need-returns
 unfolding lookOut

@@ -10,8 +10,8 @@ returns : tie.Need-returns
 unfolding emptyFirstOf
 returns c = refused-leaves _ _ _ (empty-numbered _ _ _ _ _ _) _ _ (c .before .empty-refusal .ensures) (c .if1 .taken)
 
-empty-rows-requires : tie.Need-empty-rows-requires
-empty-rows-requires c κs =
+take-off-requires : tie.Need-take-off-requires
+take-off-requires c κs =
     let a = empty-accepted _ _ _ _ _ _ (c .before .before .empty-refusal .ensures) (c .before .if1 .left) in
     (a .fits .lit .valid, (mask-few (a .fits .lit), a .fits .slot-lt, a .points-long, a .fits .grid-long))
 
@@ -19,7 +19,7 @@ returns-2 : tie.Need-returns-2
 unfolding emptyFirstOf
 returns-2 c =
     let else = c .before .before .before .before in
-    accepted-anew _ _ _ (empty-numbered _ _ _ _ _ _) _ (sym (else .before .empty-refusal .ensures) ∙ else .if1 .left) _ (c .before .before .empty-rows .ensures)
+    accepted-anew _ _ _ (empty-numbered _ _ _ _ _ _) _ (sym (else .before .empty-refusal .ensures) ∙ else .if1 .left) _ (c .before .before .take-off .ensures)
 
 pub empty-first-spec : {M : Type 1} → statement M
-empty-first-spec = tie.close (tie.spec (λ c κs. search needs) returns empty-rows-requires (λ c. search needs) returns-2)
+empty-first-spec = tie.close (tie.spec (λ c κs. search needs) returns take-off-requires (λ c. search needs) returns-2)

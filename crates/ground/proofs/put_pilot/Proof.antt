@@ -1,6 +1,6 @@
 -- `ground::put_pilot` meets its contract.
 use Rattle.base.proofs.Prelude.{_≡_, ap, _∙_, ℕ, _+_, _*_, _<_, arith, needs}
-use Rattle.modes.specs.{Setup.alone, Mode.band}
+use Rattle.modes.specs.{Setup.alone, Mode.band, Model.own}
 use Rattle.modes.proofs.ByMode.{row-few, few}
 use Rattle.points.specs.Model.{putPoint}
 use Rattle.lengths.specs.Length.{gridPoints}
@@ -18,11 +18,11 @@ stands : (c : tie.After-carrier) → let a = c .before .before .before .before .
     (a .row * a .setup .size + c .carrier .result ≡ usedPosition (alone (a .setup)) (a .row) (a .i * a .step + a .place)) × (a .row * a .setup .size + c .carrier .result < gridPoints (alone (a .setup)))
 stands c =
     let start = c .before .before .before .before in
-    used-position-is (start .pre .0) _ _ (start .pre .1 .0) (used-lt (c .before .before .before)) _ (c .before .band .ensures) _ (c .carrier .ensures)
+    used-position-is (own (start .pre .0)) _ _ (start .pre .1 .0) (used-lt (c .before .before .before)) _ (c .before .band .ensures) _ (c .carrier .ensures)
 
 carrier-requires : tie.Need-carrier-requires
 carrier-requires c κs =
-    let f = few (c .before .before .before .pre .0) in
+    let f = few (own (c .before .before .before .pre .0)) in
     (rw (c .band .ensures) (omega arith), omega (arith, used-lt (c .before .before)))
 
 returns : tie.Need-returns
@@ -37,9 +37,9 @@ pub put-pilot-spec : {M : Type 1} → statement M
 put-pilot-spec =
     tie.close
     (tie.spec
-    (λ c. omega (arith, used-lt c, few (c .before .pre .0))) (λ c. omega (arith, used-lt c, few (c .before .pre .0)))
-    (λ c. let start = c .before .before in omega (arith, row-few (start .pre .0) (start .args .row) (start .pre .1 .0)))
-    (λ c κs. search needs) carrier-requires
-    (λ c. omega (arith, stands c, grid-few (c .before .before .before .before .pre .0)))
+    (λ c. omega (arith, used-lt c, few (own (c .before .pre .0)))) (λ c. omega (arith, used-lt c, few (own (c .before .pre .0))))
+    (λ c. let start = c .before .before in omega (arith, row-few (own (start .pre .0)) (start .args .row) (start .pre .1 .0)))
+    (λ c κs. search (own, needs)) carrier-requires
+    (λ c. omega (arith, stands c, grid-few (own (c .before .before .before .before .pre .0))))
     (λ c κs. omega (arith, stands (c .before), c .before .before .before .before .before .pre .1 .4))
     (λ c. search needs) returns)

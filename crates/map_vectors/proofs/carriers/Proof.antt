@@ -4,10 +4,10 @@ use Rattle.map_vectors.proofs.{Sign.next-fits, carriers.Statement.state
 use Rattle.map_vectors.proofs.carriers.Tie as tie
 
 abbrev Inv-loop : tie.InvT-loop
-Inv-loop setup symbol first n carrier₀ i₀ carrier i = Unit {0}
+Inv-loop setup symbol first n pilots carrier₀ i₀ carrier i = Unit {0}
 
 abbrev μ-loop : tie.MeasureT-loop
-μ-loop setup symbol first n carrier₀ i₀ carrier i = n - i
+μ-loop setup symbol first n pilots carrier₀ i₀ carrier i = n - i
 
 add-carrier : tie.Need-add-carrier Inv-loop μ-loop
 add-carrier c = next-fits (c .before .before .before .before .loop .carrier) (c .if1 .taken)

@@ -4,10 +4,10 @@ use Rattle.map_vectors.proofs.points.Statement.{statement}
 use Rattle.map_vectors.proofs.points.Tie as tie
 
 abbrev Inv-loop : tie.InvT-loop
-Inv-loop setup slot subchannel first n i₀ i = Unit {0}
+Inv-loop setup slot subchannel first n pilots i₀ i = Unit {0}
 
 abbrev μ-loop : tie.MeasureT-loop
-μ-loop setup slot subchannel first n i₀ i = n - i
+μ-loop setup slot subchannel first n pilots i₀ i = n - i
 
 pub points-spec : {M : Type 1} → statement M
 points-spec =

@@ -1,11 +1,11 @@
 -- `mask::is_lit` meets its contract.
 use Rattle.base.proofs.Prelude.{needs, eq-eqb, ne-eqb}
-use Rattle.mask.specs.Mask.{isLit}
+use Rattle.mask.specs.Mask.{isLitOf}
 use Rattle.mask.proofs.is_lit.Statement.{statement}
 use Rattle.mask.proofs.is_lit.Tie as tie
 
 pub is-lit-spec : {M : Type 1} → statement M
-unfolding isLit
+unfolding isLitOf
 is-lit-spec =
     tie.close
     (tie.spec

@@ -1,7 +1,7 @@
 -- `mask::is_used_lit` meets its contract.
 use Rattle.base.proofs.Prelude.{eq-eqb, ne-eqb}
 use Rattle.modes.proofs.ByMode.{in-pusc-dl}
-use Rattle.mask.specs.Mask.{isUsedLit}
+use Rattle.mask.specs.Mask.{isUsedLitOf}
 use Rattle.mask.proofs.is_used_lit.Statement.{statement}
 use Rattle.mask.proofs.is_used_lit.Tie as tie
 
@@ -11,7 +11,7 @@ requires c κs =
     (q .cell-lt, rw (q .used-are) at (c .before .before .pre .1))
 
 pub is-used-lit-spec : {M : Type 1} → statement M
-unfolding isUsedLit
+unfolding isUsedLitOf
 is-used-lit-spec =
     tie.close
     (tie.spec

@@ -14,4 +14,4 @@ band-spec =
     tie.close
     (tie.spec
     (λ c κs. search needs) (λ c. search (choosing, needs)) (λ c κs. search needs) (λ c. search (choosing, needs)) (λ c κs. search needs) (λ c κs. search needs) bin-band-requires
-    (λ c. rw (c .bin-band .ensures, c .before .width .ensures) (search (choosing, needs))) (λ c. search (choosing, needs)))
+    (λ c. rw (c .bin-band .ensures, c .before .width .ensures) (search (choosing, needs))) (λ c κs. search needs) (λ c. search (choosing, needs)) (λ c. search (choosing, needs)))

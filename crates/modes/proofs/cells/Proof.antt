@@ -14,4 +14,4 @@ cells-spec =
     tie.close
     (tie.spec
     (λ c. search (choosing, needs)) (λ c. search (choosing, needs)) (λ c κs. search needs) (λ c κs. search needs) mul-result
-    (λ c. rw (c .before .width .ensures, c .width2 .ensures) (search (choosing, needs))) (λ c κs. search needs) (λ c. search (choosing, needs)) (λ c. search (choosing, needs)))
+    (λ c. rw (c .before .width .ensures, c .width2 .ensures) (search (choosing, needs))) (λ c κs. search needs) (λ c. search (choosing, needs)) (λ c. search (choosing, needs)) (λ c. search (choosing, needs)))

@@ -9,4 +9,4 @@ unfolding isSize
 is-size-spec =
     tie.close
     (tie.spec
-    (λ c. search (choosing, needs)) (λ c. search (choosing, needs)) (λ c κs. search needs) (λ c κs. search needs) (λ c. search (choosing, needs)) (λ c. search (choosing, needs)))
+    (λ c. search (choosing, needs)) (λ c. search (choosing, needs)) (λ c κs. search needs) (λ c κs. search needs) (λ c. search (choosing, needs)) (λ c. search (choosing, needs)) (λ c. search (choosing, needs)))

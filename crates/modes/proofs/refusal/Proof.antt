@@ -1,6 +1,6 @@
 -- `modes::refusal` meets its contract.
 use Rattle.base.proofs.{Prelude.needs, Test.told-yes, Chain.by-number}
-use Rattle.modes.specs.{Question.{isMode, isCell}, Model.setupRefusal}
+use Rattle.modes.specs.{Question.{isMode, isCell}, Model.refusalAt}
 use Rattle.modes.proofs.{Accept.size-most, refusal.Statement.statement}
 use Rattle.modes.proofs.refusal.Tie as tie
 
@@ -8,7 +8,7 @@ cells-requires : tie.Need-cells-requires
 cells-requires c κs = size-most _ (told-yes _ (c .before .is-size .ensures) (c .if2 .left))
 
 pub refusal-spec : {M : Type 1} → statement M
-unfolding setupRefusal isMode isCell
+unfolding refusalAt isMode isCell
 refusal-spec =
     tie.close
     (tie.spec

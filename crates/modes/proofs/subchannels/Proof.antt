@@ -21,4 +21,4 @@ subchannels-spec =
     tie.close
     (tie.spec
     (λ c. search (choosing, needs)) (λ c. search (choosing, needs)) (λ c κs. search needs) (λ c. search (choosing, needs)) (λ c κs. search needs) (λ c κs. search needs) (λ c κs. search needs) mul-result
-    (λ c. rw (c .before .before .width2 .ensures, c .before .shape .ensures) (search (choosing, needs))) (λ c. search (choosing, needs)))
+    (λ c. rw (c .before .before .width2 .ensures, c .before .shape .ensures) (search (choosing, needs))) (λ c. search (choosing, needs)) (λ c. search (choosing, needs)))

@@ -10,4 +10,4 @@ symbols-spec =
     tie.close
     (tie.spec
     (λ c. search (choosing, needs)) (λ c. search (choosing, needs)) (λ c. search (choosing, needs)) (λ c κs. search needs) (λ c κs. search needs)
-    (λ c. rw (c .shape .ensures) (search (choosing, needs))) (λ c. search (choosing, needs)))
+    (λ c. rw (c .shape .ensures) (search (choosing, needs))) (λ c. search (choosing, needs)) (λ c. search (choosing, needs)))

@@ -2,7 +2,8 @@
 use Rattle.base.proofs.Prelude.{_≡_, refl, ap, _∙_, ℕ, _+_, _-_, _*_, _<_, _≤_, arith, needs}
 use Rattle.carriers.specs.{declared.Band.Band, Band.carrierOf}
 use Rattle.modes.specs.{Setup.alone, Mode.symbols}
-use Rattle.modes.proofs.ByMode.{few, slot-few, row-few}
+use Rattle.modes.specs.Model.{own}
+use Rattle.modes.proofs.{ByMode.{few, slot-few, row-few}, Lent.valid-alone}
 use Rattle.runs.specs.{declared.Runs.Runs, Model.{runStep, runCount, runsOf}}
 use Rattle.row_walk.specs.Model.{Took, runStart}
 use Rattle.row_walk.proofs.{Taken.{took-then, took-past, row-start, row-done, row-over}, Dropped.{start-used, start-small, start-is}}
@@ -43,8 +44,8 @@ run-lt c = omega (arith, ap (λ (b : Runs). b .count) (shape-is (c .before .befo
 used-lt : (c : tie.Then2 Inv-loop μ-loop) → c .before .before .loop .i * c .before .before .before .before .before .before .before .before .symbol-runs .result .step < 1729
 used-lt c =
     let start = c .before .before .before .before .before .before .before .before .before .before .before .before .before .before in
-    let f = few (start .pre .0) in
-    rw (step-is (c .before .before)) (omega (arith, start-used _ (start .pre .0) (start .args .row) _ (start .pre .1 .0 .1) (run-lt c), f .used-few))
+    let f = few (own (start .pre .0)) in
+    rw (step-is (c .before .before)) (omega (arith, start-used _ (valid-alone (start .pre .0)) (start .pre .0) (start .args .row) _ (start .pre .1 .0 .1) (run-lt c), f .used-few))
 
 -- and starts where it is worked out to
 run-start : (c : tie.After-carrier Inv-loop μ-loop) → let start = c .before .before .before .before .before .before .before .before .before .before .before .before .before .before .before .before in start .args .row * start .args .setup .size + c .carrier .result ≡ runStart (alone (start .args .setup)) (start .args .row) (c .before .before .before .before .loop .i)
@@ -55,18 +56,18 @@ run-start c =
 small : (c : tie.After-carrier Inv-loop μ-loop) → let start = c .before .before .before .before .before .before .before .before .before .before .before .before .before .before .before .before in start .args .row * start .args .setup .size + c .carrier .result < 65536
 small c =
     let start = c .before .before .before .before .before .before .before .before .before .before .before .before .before .before .before .before in
-    rw (run-start c) (start-small _ (start .pre .0) _ _ (start .pre .1 .0 .1) (run-lt (c .before .before)))
+    rw (run-start c) (start-small _ (valid-alone (start .pre .0)) (start .pre .0) _ _ (start .pre .1 .0 .1) (run-lt (c .before .before)))
 
 carrier-requires : tie.Need-carrier-requires Inv-loop μ-loop
 carrier-requires c κs =
     let start = c .before .before .before .before .before .before .before .before .before .before .before .before .before .before .before in
-    let f = few (start .pre .0) in
+    let f = few (own (start .pre .0)) in
     (rw (c .before .before .before .before .band .ensures) (omega arith), omega (arith, used-lt (c .before)))
 
 returns-2 : tie.Need-returns-2 Inv-loop μ-loop
 returns-2 c =
     let start = c .before .before .before .before .before .before .before .before .before .before .before .before .before .before .before .before .before in
-    took-then (c .before .before .before .before .before .loop .inv .1) (row-over _ (start .pre .0) _ _ _ _ _ _ _ (run-lt (c .before .before .before)) (omega (arith, run-start (c .before), c .if3 .taken)))
+    took-then (c .before .before .before .before .before .loop .inv .1) (row-over _ (valid-alone (start .pre .0)) _ _ _ _ _ _ (start .pre .0) _ (run-lt (c .before .before .before)) (omega (arith, run-start (c .before), c .if3 .taken)))
 
 drop-run-requires : tie.Need-drop-run-requires Inv-loop μ-loop
 drop-run-requires c κs =
@@ -88,12 +89,12 @@ pub empty-row-spec : {M : Type 1} → statement M
 empty-row-spec =
     tie.close
     (tie.spec
-    Inv-loop μ-loop (λ c. omega (arith, row-few (c .before .before .before .pre .0) (c .before .before .before .args .row) (c .before .before .before .pre .1 .0 .1))) returns (λ c κs. search needs)
-    (λ c. omega (arith, slot-few (c .before .before .before .before .before .pre .0) _ _ (c .before .before .before .before .before .pre .1 .0 .0) (c .symbols .ensures)))
-    (λ c. omega (arith, slot-few (c .before .before .before .before .before .pre .0) _ _ (c .before .before .before .before .before .pre .1 .0 .0) (c .symbols .ensures), few (c .before .before .before .before .before .pre .0) .symbols-few, c .before .before .before .before .before .pre .1 .0 .1))
-    (λ c κs. search needs) (λ c κs. search needs) (λ c κs. search needs) (λ c κs. search needs) row-numbers-requires (λ c κs. search needs)
-    (λ c. (omega arith, row-start _ (c .before .before .before .before .before .before .before .before .before .before .before .pre .0) _ _ _ _ _ _)) (λ c. omega (arith, used-lt (c .before))) carrier-requires (λ c. omega (arith, small c))
+    Inv-loop μ-loop (λ c. omega (arith, row-few (own (c .before .before .before .pre .0)) (c .before .before .before .args .row) (c .before .before .before .pre .1 .0 .1))) returns (λ c κs. search needs)
+    (λ c. omega (arith, slot-few (own (c .before .before .before .before .before .pre .0)) _ _ (c .before .before .before .before .before .pre .1 .0 .0) (c .symbols .ensures)))
+    (λ c. omega (arith, slot-few (own (c .before .before .before .before .before .pre .0)) _ _ (c .before .before .before .before .before .pre .1 .0 .0) (c .symbols .ensures), few (own (c .before .before .before .before .before .pre .0)) .symbols-few, c .before .before .before .before .before .pre .1 .0 .1))
+    (λ c κs. search needs) (λ c κs. search needs) (λ c κs. search needs) (λ c κs. search needs) row-numbers-requires (λ c κs. search (own, needs))
+    (λ c. (omega arith, row-start _ (valid-alone (c .before .before .before .before .before .before .before .before .before .before .before .pre .0)) _ _ _ _ _ _)) (λ c. omega (arith, used-lt (c .before))) carrier-requires (λ c. omega (arith, small c))
     (λ c. c .before .before .before .before .before .loop .inv .1 .long) returns-2 drop-run-requires (λ c. omega (arith, run-lt (c .before .before .before .before .before .before .before .before .before)))
     (λ c. omega (arith, c .before .before .before .before .before .before .before .before .before .if2 .taken)) loop-again
     (λ c. c .before .before .loop .inv .1 .long)
-    (λ c. took-then (c .before .before .loop .inv .1) (row-done _ (c .before .before .before .before .before .before .before .before .before .before .before .before .before .before .pre .0) _ _ _ _ _ _ _ (c .before .before .loop .inv .0) (omega (arith, ap (λ (b : Runs). b .count) (shape-is (c .before .before)), c .if2 .left)))))
+    (λ c. took-then (c .before .before .loop .inv .1) (row-done _ (valid-alone (c .before .before .before .before .before .before .before .before .before .before .before .before .before .before .pre .0)) _ _ _ _ _ _ (c .before .before .before .before .before .before .before .before .before .before .before .before .before .before .pre .0) _ (c .before .before .loop .inv .0) (omega (arith, ap (λ (b : Runs). b .count) (shape-is (c .before .before)), c .if2 .left)))))

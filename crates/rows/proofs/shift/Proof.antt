@@ -11,4 +11,4 @@ shift-spec =
     tie.close
     (tie.spec
     (λ c. (search (choosing, needs), omega arith)) (λ c. search needs) (λ c. (search (choosing, needs), omega arith)) (λ c. search needs) (λ c. (search (choosing, needs), omega arith))
-    (λ c. (search (choosing, needs), omega arith)) (λ c. (search (choosing, needs), omega arith)))
+    (λ c κs. search needs) (λ c. (search (choosing, needs), omega arith)) (λ c. search needs) (λ c. (search (choosing, needs), omega arith)) (λ c. (search (choosing, needs), omega arith)))

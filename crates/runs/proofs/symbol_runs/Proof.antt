@@ -1,7 +1,8 @@
 -- `runs::symbol_runs` meets its contract.
 use Rattle.base.proofs.Prelude.{_∙_, arith, needs}
 use Rattle.ofusc.proofs.Sequence.{size}
-use Rattle.modes.proofs.{ByMode.bin-width, Choice.{told-bins, unlisted-bins}}
+use Rattle.modes.specs.Model.{own}
+use Rattle.modes.proofs.{ByMode.bin-width, Choice.{told-bins, past-bins}}
 use Rattle.runs.proofs.{Law.{runs-0, runs-1, runs-bins, runs-none}, symbol_runs.Statement.statement}
 use Rattle.runs.proofs.symbol_runs.Tie as tie
 
@@ -19,5 +20,5 @@ symbol-runs-spec =
     tie.close
     (tie.spec
     (λ c κs. search needs) returns (λ c κs. search needs) returns-2 (λ c κs. search needs) (λ c κs. search needs) (λ c κs. search needs)
-    (λ c. omega (arith, size (bin-width (c .before .before .before .before .before .before .before .before .pre) (search (told-bins, needs)))))
-    returns-3 (λ c. search (runs-none, unlisted-bins, needs)))
+    (λ c. omega (arith, size (bin-width (own (c .before .before .before .before .before .before .before .before .pre)) (search (told-bins, needs)))))
+    returns-3 (λ c. search (runs-none, past-bins, needs)))

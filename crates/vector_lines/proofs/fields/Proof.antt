@@ -7,10 +7,10 @@ use Prim.Native.Nat.{_-_}
 use Rattle.vector_lines.proofs.fields.Tie as tie
 
 abbrev Inv-loop : tie.InvT-loop
-Inv-loop input from fields₀ at₀ i₀ fields at i = length fields ≡ 64
+Inv-loop input from fields₀ at₀ i₀ fields at i = length fields ≡ 192
 
 abbrev μ-loop : tie.MeasureT-loop
-μ-loop input from fields₀ at₀ i₀ fields at i = 64 - i
+μ-loop input from fields₀ at₀ i₀ fields at i = 192 - i
 
 pub fields-spec : {M : Type 1} → statement M
 fields-spec =

@@ -1,0 +1,3 @@
+pub mod Table
+pub mod Map
+pub mod Law

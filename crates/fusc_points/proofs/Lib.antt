@@ -1,0 +1,2 @@
+-- The points of a symbol.
+mod Points
