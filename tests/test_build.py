@@ -304,7 +304,7 @@ class Versions(Case):
         self.assertEqual(self.run_in_tree(*command).stderr, "")
         done = self.run_in_tree("./point", *ASKED[1:], LD_LIBRARY_PATH="build")
         self.assertEqual((done.stdout.splitlines()[0] + "\n", done.returncode), (ANSWER, 0), done.stderr)
-        self.header_with("#define BP_VERSION 5\n")
+        self.header_with("#define BP_VERSION 13\n")
         self.is_made_anew()
         os.remove(self.path("build", SHARED))
         done = self.run_in_tree("./point", *ASKED[1:], LD_LIBRARY_PATH="build")
