@@ -1,0 +1,8 @@
+-- `capi_grid::bp_ground` meets its contract.
+use Rattle.base.proofs.Prelude.{rules}
+use Rattle.points.specs.Points.{point_at}
+use Rattle.capi_grid.proofs.bp_ground.Goals as goal
+
+pub returns : goal.returns
+unfolding point_at
+returns c = rw c.setup-of.ensures at c.ground-number.ensures

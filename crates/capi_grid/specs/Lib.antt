@@ -1,0 +1,2 @@
+-- What a C call lends the engine.
+pub mod Grid

@@ -1,2 +1,0 @@
--- What a C call lends the engine.
-pub mod Ground

@@ -1,2 +1,0 @@
--- The pilots of FUSC, by the lent list.
-pub mod Lent

@@ -1,2 +1,0 @@
--- The pilots of a slot, by its runs.
-pub mod Pilots
