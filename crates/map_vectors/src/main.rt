@@ -8,56 +8,60 @@
 // Behind the numbers of a line stands the pilot list that is lent, its length first; a line that
 // ends before it has the empty list. Each line is written back with its answers behind a colon.
 // The input and what must come out are made by tests/vectors.py.
-ghost use Rattle.std.specs.Prelude.{◌<◌, length};
+#![tactic(auto)]
+
+ghost use Rattle.std.specs.Prelude.{◌<◌, length, IfOk};
 
 use map::{Located, Placed};
 use modes::Setup;
+use std::io;
 use vector_lines::{fields, least, line_end, print, print_number};
 
-fn main() {
+fn main(rt: HostRuntime) -> io::Result<()> {
     let mut input = [0u8; 262144];
-    let n = io::read_full(0, &mut input);
-    answer_all(&input[..n]);
+    let n = reading::read_full(&mut rt.stdin(), &mut input)?;
+    answer_all(&rt, &input[..n])
 }
 
-fn answer_all(input: &[u8]) {
+fn answer_all(rt: &impl Print, input: &[u8]) -> io::Result<()> {
     let mut at = 0;
     while at < input.len() {
-        at = answer_line(input, at);
+        at = answer_line(rt, input, at)?;
     }
+    Ok(())
 }
 
 // Answers the line at a place of the input, and gives the place of the next one.
-fn answer_line(input: &[u8], at: usize) -> usize
+fn answer_line(rt: &impl Print, input: &[u8], at: usize) -> io::Result<usize>
     requires { at < length input.now }
-    ensures { at < result }
+    ensures { IfOk result (λ next. at < next) }
 {
     let end = line_end(input, at);
-    print(&input[at..end]);
-    print(b":");
-    answer(input[at], fields(input, at + 1));
-    print(b"\n");
-    end + 1
+    print(rt, &input[at..end])?;
+    print(rt, b":")?;
+    answer(rt, input[at], fields(input, at + 1))?;
+    print(rt, b"\n")?;
+    Ok(end + 1)
 }
 
-fn answer(operation: u8, f: [usize; 192]) {
+fn answer(rt: &impl Print, operation: u8, f: [usize; 192]) -> io::Result<()> {
     let k = numbers_of(operation);
     let pilots = list_behind(f, k);
     let n = least(f[k], 176);
-    answer_lent(operation, f, &pilots[..n]);
+    answer_lent(rt, operation, f, &pilots[..n])
 }
 
-fn answer_lent(operation: u8, f: [usize; 192], pilots: &[u32]) {
+fn answer_lent(rt: &impl Print, operation: u8, f: [usize; 192], pilots: &[u32]) -> io::Result<()> {
     let setup = Setup {
         mode: f[0],
         size: f[1],
         cell: f[2],
     };
     if operation == b'p' {
-        points(setup, f[3], f[4], f[5], f[6], pilots);
+        points(rt, setup, f[3], f[4], f[5], f[6], pilots)
     } else {
         let first = signed(operation == b'm', f[4]);
-        carriers(setup, f[3], first, f[5], pilots);
+        carriers(rt, setup, f[3], first, f[5], pilots)
     }
 }
 
@@ -99,69 +103,86 @@ fn signed(negative: bool, number: usize) -> i32 {
     2147483647
 }
 
-fn points(setup: Setup, slot: usize, subchannel: usize, first: usize, n: usize, pilots: &[u32]) {
+fn points(
+    rt: &impl Print,
+    setup: Setup,
+    slot: usize,
+    subchannel: usize,
+    first: usize,
+    n: usize,
+    pilots: &[u32],
+) -> io::Result<()> {
     let mut i = 0;
     while i < n {
         let index = std::num::wrapping_add_usize(first, i);
-        print_placed(map::place(setup, slot, subchannel, index, pilots));
+        print_placed(rt, map::place(setup, slot, subchannel, index, pilots))?;
         i += 1;
     }
+    Ok(())
 }
 
 // Answers n carriers from the first on, as far as 32 bits hold them.
-fn carriers(setup: Setup, symbol: usize, first: i32, n: usize, pilots: &[u32]) {
+fn carriers(
+    rt: &impl Print,
+    setup: Setup,
+    symbol: usize,
+    first: i32,
+    n: usize,
+    pilots: &[u32],
+) -> io::Result<()> {
     let mut carrier = first;
     let mut i = 0;
     while i < n {
-        print_located(map::locate(setup, symbol, carrier, pilots));
+        print_located(rt, map::locate(setup, symbol, carrier, pilots))?;
         if carrier < 2147483647 {
             carrier += 1;
         } else {
-            return;
+            return Ok(());
         }
         i += 1;
     }
+    Ok(())
 }
 
-fn print_placed(placed: Placed) {
+fn print_placed(rt: &impl Print, placed: Placed) -> io::Result<()> {
     match placed {
-        Placed::At { symbol, carrier } => print_point(symbol, carrier),
-        Placed::Refused(number) => print_refusal(number),
+        Placed::At { symbol, carrier } => print_point(rt, symbol, carrier),
+        Placed::Refused(number) => print_refusal(rt, number),
     }
 }
 
-fn print_located(located: Located) {
+fn print_located(rt: &impl Print, located: Located) -> io::Result<()> {
     match located {
-        Located::Guard => print(b" guard"),
-        Located::Dc => print(b" dc"),
-        Located::Pilot => print(b" pilot"),
+        Located::Guard => print(rt, b" guard"),
+        Located::Dc => print(rt, b" dc"),
+        Located::Pilot => print(rt, b" pilot"),
         Located::Data {
             slot,
             subchannel,
             index,
-        } => print_address(slot, subchannel, index),
-        Located::Refused(number) => print_refusal(number),
+        } => print_address(rt, slot, subchannel, index),
+        Located::Refused(number) => print_refusal(rt, number),
     }
 }
 
-fn print_point(symbol: usize, carrier: i32) {
-    print_number(b' ', symbol);
+fn print_point(rt: &impl Print, symbol: usize, carrier: i32) -> io::Result<()> {
+    print_number(rt, b' ', symbol)?;
     let k = carrier as i64;
     if k < 0 {
-        print(b".");
-        print_number(b'-', (-k) as usize);
+        print(rt, b".")?;
+        print_number(rt, b'-', (-k) as usize)
     } else {
-        print_number(b'.', k as usize);
+        print_number(rt, b'.', k as usize)
     }
 }
 
-fn print_address(slot: usize, subchannel: usize, index: usize) {
-    print_number(b' ', slot);
-    print_number(b'.', subchannel);
-    print_number(b'.', index);
+fn print_address(rt: &impl Print, slot: usize, subchannel: usize, index: usize) -> io::Result<()> {
+    print_number(rt, b' ', slot)?;
+    print_number(rt, b'.', subchannel)?;
+    print_number(rt, b'.', index)
 }
 
-fn print_refusal(number: u8) {
-    print(b" refused");
-    print_number(b' ', number as usize);
+fn print_refusal(rt: &impl Print, number: u8) -> io::Result<()> {
+    print(rt, b" refused")?;
+    print_number(rt, b' ', number as usize)
 }

@@ -8,52 +8,56 @@
 //
 // Each line is written back with its answer behind a colon. The input and what must come out are
 // made by tests/vectors.py.
-ghost use Rattle.std.specs.Prelude.{◌<◌, length};
+#![tactic(auto)]
+
+ghost use Rattle.std.specs.Prelude.{◌<◌, length, IfOk};
 
 use plan::Plan;
 use plan_read::ReadPlan;
 use plan_write::Written;
+use std::io;
 use vector_lines::{fields, least, line_end, print, print_number};
 use zone::{UNUSED, Zone};
 
-fn main() {
+fn main(rt: HostRuntime) -> io::Result<()> {
     let mut input = [0u8; 262144];
-    let n = io::read_full(0, &mut input);
-    answer_all(&input[..n]);
+    let n = reading::read_full(&mut rt.stdin(), &mut input)?;
+    answer_all(&rt, &input[..n])
 }
 
-fn answer_all(input: &[u8]) {
+fn answer_all(rt: &impl Print, input: &[u8]) -> io::Result<()> {
     let mut at = 0;
     while at < input.len() {
-        at = answer_line(input, at);
+        at = answer_line(rt, input, at)?;
     }
+    Ok(())
 }
 
 // Answers the line at a place of the input, and gives the place of the next one.
-fn answer_line(input: &[u8], at: usize) -> usize
+fn answer_line(rt: &impl Print, input: &[u8], at: usize) -> io::Result<usize>
     requires { at < length input.now }
-    ensures { at < result }
+    ensures { IfOk result (λ next. at < next) }
 {
     let end = line_end(input, at);
-    print(&input[at..end]);
-    print(b":");
-    answer(input[at], fields(input, at + 1));
-    print(b"\n");
-    end + 1
+    print(rt, &input[at..end])?;
+    print(rt, b":")?;
+    answer(rt, input[at], fields(input, at + 1))?;
+    print(rt, b"\n")?;
+    Ok(end + 1)
 }
 
-fn answer(operation: u8, f: [usize; 192]) {
+fn answer(rt: &impl Print, operation: u8, f: [usize; 192]) -> io::Result<()> {
     if operation == b'r' {
-        answer_read(f);
+        answer_read(rt, f)
     } else {
-        answer_write(f);
+        answer_write(rt, f)
     }
 }
 
-fn answer_read(f: [usize; 192]) {
+fn answer_read(rt: &impl Print, f: [usize; 192]) -> io::Result<()> {
     let bytes = bytes_of(f);
     let n = least(f[0], 63);
-    print_read(plan_read::read(&bytes[..n]));
+    print_read(rt, plan_read::read(&bytes[..n]))
 }
 
 // The bytes behind the first number of a line.
@@ -67,7 +71,7 @@ fn bytes_of(f: [usize; 192]) -> [u8; 63] {
     bytes
 }
 
-fn answer_write(f: [usize; 192]) {
+fn answer_write(rt: &impl Print, f: [usize; 192]) -> io::Result<()> {
     let zones = zones_of(f);
     let plan = Plan {
         count: f[1],
@@ -77,8 +81,8 @@ fn answer_write(f: [usize; 192]) {
     let mut dest = [238u8; 56];
     let n = least(f[0], 56);
     let answer = plan_write::write(plan, &mut dest[..n]);
-    print_written(answer);
-    print_bytes(dest);
+    print_written(rt, answer)?;
+    print_bytes(rt, dest)
 }
 
 // The eight places behind the first three numbers of a line.
@@ -97,47 +101,49 @@ fn zones_of(f: [usize; 192]) -> [Zone; 8] {
     zones
 }
 
-fn print_read(answer: ReadPlan) {
+fn print_read(rt: &impl Print, answer: ReadPlan) -> io::Result<()> {
     let plan = answer.plan;
-    print_number(b' ', answer.refusal as usize);
-    print_number(b' ', plan.count);
-    print_number(b' ', plan.size);
+    print_number(rt, b' ', answer.refusal as usize)?;
+    print_number(rt, b' ', plan.count)?;
+    print_number(rt, b' ', plan.size)?;
     let zones = plan.zones;
-    print_zones(zones);
+    print_zones(rt, zones)
 }
 
-fn print_zones(zones: [Zone; 8]) {
+fn print_zones(rt: &impl Print, zones: [Zone; 8]) -> io::Result<()> {
     let mut k = 0;
     while k < 8 {
-        print_zone(zones[k]);
+        print_zone(rt, zones[k])?;
         k += 1;
     }
+    Ok(())
 }
 
-fn print_zone(zone: Zone) {
-    print_number(b' ', zone.mode);
-    print_number(b' ', zone.cell);
-    print_number(b' ', zone.slots);
-    print_number(b' ', zone.mask);
+fn print_zone(rt: &impl Print, zone: Zone) -> io::Result<()> {
+    print_number(rt, b' ', zone.mode)?;
+    print_number(rt, b' ', zone.cell)?;
+    print_number(rt, b' ', zone.slots)?;
+    print_number(rt, b' ', zone.mask)
 }
 
-fn print_written(answer: Written) {
+fn print_written(rt: &impl Print, answer: Written) -> io::Result<()> {
     match answer {
         Written::Bytes(n) => {
-            print_number(b' ', 0);
-            print_number(b' ', n);
+            print_number(rt, b' ', 0)?;
+            print_number(rt, b' ', n)
         }
         Written::Refused(number) => {
-            print_number(b' ', number as usize);
-            print_number(b' ', 0);
+            print_number(rt, b' ', number as usize)?;
+            print_number(rt, b' ', 0)
         }
     }
 }
 
-fn print_bytes(bytes: [u8; 56]) {
+fn print_bytes(rt: &impl Print, bytes: [u8; 56]) -> io::Result<()> {
     let mut i = 0;
     while i < 56 {
-        print_number(b' ', bytes[i] as usize);
+        print_number(rt, b' ', bytes[i] as usize)?;
         i += 1;
     }
+    Ok(())
 }

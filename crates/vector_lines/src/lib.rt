@@ -1,11 +1,13 @@
 // What the programs that answer the stored vectors have in common: the lines of the input, the numbers of a line, and printing.
+#![tactic(auto)]
+
 ghost use Rattle.std.specs.Prelude.{◌≡◌, ◌≤◌, ◌<◌, length, get_or, drop};
 ghost use Rattle.vector_lines.specs.Model.{numeral, digit_of, with_digit, past_spaces, parsed_at};
 
-use libc::STDOUT_FILENO;
+use std::io;
 
 // A number read from text, and the place after its last digit.
-#[derive(Drop)]
+#[derive(Clone, Copy)]
 pub struct Number {
     pub value: usize,
     pub next: usize,
@@ -104,14 +106,14 @@ pub fn least(n: usize, most: usize) -> usize
     most
 }
 
-pub fn print(bytes: &[u8]) {
-    io::write_all(STDOUT_FILENO, bytes);
+pub fn print(rt: &impl Print, bytes: &[u8]) -> io::Result<()> {
+    rt.write_all(bytes)
 }
 
 // Prints a mark and a number behind it.
-pub fn print_number(mark: u8, x: usize) {
+pub fn print_number(rt: &impl Print, mark: u8, x: usize) -> io::Result<()> {
     let mut out = [0u8; 21];
     let at = text::put_byte(&mut out, 0, mark);
     let end = text::put_number(&mut out, at, x);
-    print(&out[..end]);
+    print(rt, &out[..end])
 }
