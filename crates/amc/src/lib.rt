@@ -1,4 +1,6 @@
 // AMC: pairs of base-seven digits, the sequence P, the zero rule; the slot's shape.
+#![tactic(auto)]
+
 ghost use Rattle.std.specs.Prelude.{◌≡◌, ◌+◌, ◌*◌, ◌/◌, ◌%◌, ◌<◌};
 ghost use Rattle.amc.specs.Table.{sequence_digits};
 ghost use Rattle.amc.specs.Element.{element, base_seven, two_digits, subtract};
@@ -9,7 +11,7 @@ use base::{unrotate, wide, wide16};
 use carriers::{Address, DataNumber};
 
 // A slot's shape: bins of a subchannel by symbols.
-#[derive(Drop)]
+#[derive(Clone, Copy)]
 pub struct Shape {
     pub bins: usize,
     pub symbols: usize,

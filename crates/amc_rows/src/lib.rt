@@ -1,4 +1,6 @@
 // AMC's rows: the carriers of a subchannel, and the points of a bin, by tables that are worked out once for a cell.
+#![tactic(auto)]
+
 ghost use Rattle.std.specs.Prelude.{◌≡◌, ◌+◌, ◌*◌, ◌<◌};
 ghost use Rattle.base.specs.Model.{Starts};
 ghost use Rattle.carriers.specs.Model.{address_number};

@@ -1,4 +1,6 @@
 // The steps that the permutations are made of.
+#![tactic(auto)]
+
 ghost use Rattle.std.specs.Prelude.{◌≡◌, ◌+◌, ◌%◌, ◌≤◌, ◌<◌};
 ghost use Rattle.base.specs.Choice.{is_up_to};
 ghost use Rattle.base.specs.Steps.{rotate as Rotate, unrotate as Unrotate, skip as Skip, unskip as Unskip};

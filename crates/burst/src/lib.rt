@@ -1,10 +1,12 @@
 // A burst, a rectangle of subchannels by slots: the one at a position of a list, what it covers, whether it lies in its zone,
 // and whether two runs of numbers have one in common.
+#![tactic(auto)]
+
 ghost use Rattle.std.specs.Prelude.{◌≡◌, ◌+◌, ◌*◌, ◌<◌, length};
 ghost use Rattle.burst.specs.Burst.{burst_at, is_of, is_covering, is_within, is_inside, is_shared};
 
 // A rectangle: the first subchannel and how many, the first slot and how many.
-#[derive(Drop)]
+#[derive(Clone, Copy)]
 pub struct Burst {
     pub subchannel: u32,
     pub subchannels: u32,
@@ -14,7 +16,7 @@ pub struct Burst {
 
 // The same by where it starts and where it ends: the first subchannel, the number after the last, and so for slots. Those of a
 // burst that lies in its zone fit in 16 bits.
-#[derive(Drop)]
+#[derive(Clone, Copy)]
 pub struct Edges {
     pub start: u16,
     pub end: u16,

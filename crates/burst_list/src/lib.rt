@@ -1,4 +1,6 @@
 // A list of bursts: the questions that are put to it, its length first and then each burst in turn.
+#![tactic(auto)]
+
 ghost use Rattle.std.specs.Prelude.{◌≡◌, ◌<◌};
 ghost use Rattle.base.specs.First.{is_none};
 ghost use Rattle.burst.specs.Model.{edges_overlap};

@@ -1,4 +1,6 @@
 // The owner of a subchannel in a slot, among the bursts of a list that was accepted; and the owners of a slot's subchannels.
+#![tactic(auto)]
+
 ghost use Rattle.std.specs.Prelude.{◌≡◌, ◌+◌, ◌≤◌, length};
 ghost use Rattle.base.specs.Tabulate.{tabulate};
 ghost use Rattle.burst_owner.specs.Owner.{position as Position, owner_at, looked_at};
@@ -7,7 +9,7 @@ ghost use Rattle.burst_owner.specs.Model.{Accepted, marked, marked_by};
 use burst::Burst;
 
 // What asking for an owner answers: the first refusal, or 0; the owner's position in the list, or 64; how many bursts were looked at.
-#[derive(Drop)]
+#[derive(Clone, Copy)]
 pub struct Owned {
     pub refusal: u8,
     pub owner: usize,

@@ -1,4 +1,6 @@
 // Bursts in a zone: the check of a list of them, and which owns a subchannel in a slot.
+#![tactic(auto)]
+
 ghost use Rattle.std.specs.Prelude.{◌≡◌};
 ghost use Rattle.base.specs.Tabulate.{tabulate};
 ghost use Rattle.modes.specs.Mode.{subchannels as Subchannels};
@@ -12,7 +14,7 @@ use modes::Setup;
 use zone::Zone;
 
 // What asking for a slot's owners answers: the first refusal, or 0; for each subchannel the owner's position, or 64.
-#[derive(Drop)]
+#[derive(Clone, Copy)]
 pub struct OwnerRow {
     pub refusal: u8,
     pub owners: [u8; 192],

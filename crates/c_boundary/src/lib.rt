@@ -1,4 +1,6 @@
 // What the C calls of several crates share.
+#![tactic(auto)]
+
 ghost use Rattle.std.specs.Prelude.{◌≡◌};
 ghost use Rattle.modes.specs.declared.Setup.{Setup};
 

@@ -1,4 +1,6 @@
 // The C calls over lists of bursts. Each returns 0, or document 01's refusal number; on a refusal nothing is written.
+#![tactic(auto)]
+
 ghost use Rattle.std.specs.Prelude.{◌≡◌};
 ghost use Rattle.bursts.specs.Burst.{check_of};
 ghost use Rattle.bursts.specs.Owner.{owner_of, owners_of};

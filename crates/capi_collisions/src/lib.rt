@@ -1,4 +1,6 @@
 // The C calls over collisions. Each returns 0, or document 01's refusal number; on a refusal nothing is written.
+#![tactic(auto)]
+
 ghost use Rattle.std.specs.Prelude.{◌≡◌, ℕ, ◌≤◌, length};
 ghost use Rattle.collision.specs.Collision.{ofusc_of, amc_of};
 ghost use Rattle.capi_collisions.specs.Collision.{CollisionOut, collision_out};

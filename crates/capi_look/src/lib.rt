@@ -1,4 +1,6 @@
 // The C call that looks at a grid. It returns 0, or document 01's refusal number; on a refusal nothing is written.
+#![tactic(auto)]
+
 ghost use Rattle.std.specs.Prelude.{◌≡◌};
 ghost use Rattle.modes.specs.Setup.{setup_lent};
 ghost use Rattle.look.specs.Look.{look_of};

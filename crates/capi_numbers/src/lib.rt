@@ -1,4 +1,6 @@
 // The C calls that are never refused: the number that each returns is its answer.
+#![tactic(auto)]
+
 ghost use Rattle.std.specs.Prelude.{◌≡◌};
 ghost use Rattle.lengths.specs.Length.{points_length, lit_points_length, grid_length};
 ghost use Rattle.capi_numbers.specs.Version.{version};

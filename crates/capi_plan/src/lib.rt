@@ -1,4 +1,6 @@
 // The C calls over zone plans. Each returns 0, or document 01's refusal number; on a refusal nothing is written.
+#![tactic(auto)]
+
 ghost use Rattle.std.specs.Prelude.{◌≡◌};
 ghost use Rattle.plan_read.specs.Read.{plan_of, answered};
 ghost use Rattle.plan_write.specs.Write.{write_of};

@@ -1,5 +1,7 @@
 // The C calls over one subchannel of a slot: that which lays its points on the slot's grid, and that which tells where they
 // stand in it. Each returns 0, or document 01's refusal number; on a refusal nothing is written.
+#![tactic(auto)]
+
 ghost use Rattle.std.specs.Prelude.{◌≡◌};
 ghost use Rattle.modes.specs.Setup.{setup_lent};
 ghost use Rattle.lay.specs.Lay.{lay_of};

@@ -1,4 +1,6 @@
 // The carriers of a symbol: guards, DC, used numbers; bins with their pilots.
+#![tactic(auto)]
+
 ghost use Rattle.std.specs.Prelude.{◌≡◌, false, ◌+◌, ◌≤◌, ◌<◌};
 ghost use Rattle.base.specs.Steps.{entry};
 ghost use Rattle.base.specs.Tabulate.{tabulate};
@@ -10,7 +12,7 @@ ghost use Rattle.carriers.specs.Bin.{bin_pilot_place, is_bin_pilot, used_of_data
 use base::{skip, unskip};
 
 // A symbol's carriers, rising: left guards, the used carriers with DC among them, right guards.
-#[derive(Drop)]
+#[derive(Clone, Copy)]
 pub struct Band {
     pub left: usize,
     pub right: usize,
@@ -22,21 +24,21 @@ pub struct Band {
 }
 
 // Where a point of a slot lies: the symbol, counted in the slot, and the used number.
-#[derive(Drop)]
+#[derive(Clone, Copy)]
 pub struct Spot {
     pub offset: usize,
     pub used: usize,
 }
 
 // Where a point lies in a mode over bins, pilots not counted: the symbol, counted in the slot, and the data number.
-#[derive(Drop)]
+#[derive(Clone, Copy)]
 pub struct DataNumber {
     pub offset: usize,
     pub number: usize,
 }
 
 // Which point of a slot it is.
-#[derive(Drop)]
+#[derive(Clone, Copy)]
 pub struct Address {
     pub subchannel: usize,
     pub index: usize,

@@ -1,4 +1,6 @@
 // Carriers counted from the centre: a carrier's signed number, and its column on a symbol's row.
+#![tactic(auto)]
+
 ghost use Rattle.std.specs.Prelude.{◌≡◌, true, ◌≤◌, ◌<◌};
 ghost use Rattle.centre.specs.Centre.{from_dc, in_range, on_row};
 

@@ -1,4 +1,6 @@
 // The clusters of PUSC downlink: their renumbering, their pilots and the major groups that they make up; and the tables.
+#![tactic(auto)]
+
 ghost use Rattle.std.specs.Prelude.{◌≡◌, false, ◌+◌, ◌<◌};
 ghost use Rattle.base.specs.Steps.{entry};
 ghost use Rattle.clusters.specs.Table.{renumbering, renumbering_inverse};
@@ -11,10 +13,10 @@ use base::{reduce, reduce16, skip, unskip, wide, wide16};
 
 // A cluster's number in the order of the carriers, and its number after the renumbering. They are never added or compared, and
 // `renumber` and `unrenumber` are the only passage between them.
-#[derive(Drop)]
+#[derive(Clone, Copy)]
 pub struct Physical(pub usize);
 
-#[derive(Drop)]
+#[derive(Clone, Copy)]
 pub struct Logical(pub usize);
 
 // R of document 01, as document 003 prints it, and its inverse.
@@ -74,7 +76,7 @@ pub fn unrenumber(inverse: &[u8; 120], cell: usize, l: Logical) -> Physical
 }
 
 // The two pilots of a cluster.
-#[derive(Drop)]
+#[derive(Clone, Copy)]
 pub struct PilotPlaces {
     pub first: usize,
     pub second: usize,

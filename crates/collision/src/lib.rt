@@ -1,12 +1,14 @@
 // Collisions: in optional FUSC the groups in which one subchannel of a cell and one of a second cell have the same carrier, in
 // AMC the indices that two cells put on the same carrier of the same symbol, in every subchannel alike.
+#![tactic(auto)]
+
 ghost use Rattle.std.specs.Prelude.{◌≡◌, ◌*◌, ◌<◌};
 ghost use Rattle.base.specs.Answer.{accepted, refused as Refused};
 ghost use Rattle.ofusc.specs.Width.{Width};
 ghost use Rattle.collision.specs.Collision.{ofusc_hit, amc_hit, answer_of, ofusc_of, amc_of};
 
 // The first refusal, or 0; a mark for each group or index, set where the two meet; how many are set.
-#[derive(Drop)]
+#[derive(Clone, Copy)]
 pub struct Collisions {
     pub refusal: u8,
     pub hits: [bool; 48],

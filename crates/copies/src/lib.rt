@@ -1,4 +1,6 @@
 // Points copied from one lent buffer to another: by a row of places to a grid, and from a run of a grid to their numbers.
+#![tactic(auto)]
+
 ghost use Rattle.std.specs.Prelude.{◌≡◌, ◌+◌, ◌*◌, ◌<◌, ◌≤◌, length};
 ghost use Rattle.base.specs.Steps.{entry};
 ghost use Rattle.points.specs.Points.{point_at};

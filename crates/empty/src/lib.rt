@@ -1,4 +1,6 @@
 // The lit subchannels' points taken off a slot's grid, row after row.
+#![tactic(auto)]
+
 ghost use Rattle.std.specs.Prelude.{◌≡◌, ◌*◌, ◌<◌, length};
 ghost use Rattle.modes.specs.Setup.{alone, lent};
 ghost use Rattle.modes.specs.Model.{Unlent, Valid};

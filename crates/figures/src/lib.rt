@@ -1,1 +1,2 @@
 // The planners' figures, as one theorem (proofs/Figures.antt). No code.
+#![tactic(auto)]

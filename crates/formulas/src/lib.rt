@@ -1,4 +1,6 @@
 // The modes' own formulas: where a point lies in its slot, which used numbers are pilots, and whose point the others hold.
+#![tactic(auto)]
+
 ghost use Rattle.std.specs.Prelude.{◌≡◌, false, ◌<◌};
 ghost use Rattle.carriers.specs.Bin.{bin_spot, in_only_symbol};
 ghost use Rattle.ofusc.specs.Map.{data_number as ofuscNumber};

@@ -1,4 +1,6 @@
 // FUSC: where the points of a subchannel lie, by the sequence of 32 and the symbol's pilots, which are lent; and the reverse.
+#![tactic(auto)]
+
 ghost use Rattle.std.specs.Prelude.{◌≡◌, true, false, ◌<◌};
 ghost use Rattle.pilot_list.specs.List.{is_in, is_pilot_list};
 ghost use Rattle.fusc.specs.Map.{data_number, data_subchannel, data_index, spot_of, address_of};

@@ -1,4 +1,6 @@
 // FUSC's rows: the columns of a symbol's data numbers by the symbol's pilots, which are lent, and those of a subchannel's points.
+#![tactic(auto)]
+
 ghost use Rattle.std.specs.Prelude.{◌≡◌, true, ◌+◌, ◌*◌, ◌%◌, ◌<◌, length};
 ghost use Rattle.base.specs.Tabulate.{tabulate};
 ghost use Rattle.base.specs.Model.{Turned};

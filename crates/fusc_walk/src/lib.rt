@@ -1,4 +1,6 @@
 // The points on the one symbol of a slot of FUSC taken off its grid, by rising carrier.
+#![tactic(auto)]
+
 ghost use Rattle.std.specs.Prelude.{◌≡◌, ◌*◌, length};
 ghost use Rattle.modes.specs.Setup.{alone, lent};
 ghost use Rattle.modes.specs.Model.{Valid};

@@ -1,4 +1,6 @@
 // A subchannel's points laid on a slot's grid.
+#![tactic(auto)]
+
 ghost use Rattle.std.specs.Prelude.{◌≡◌};
 ghost use Rattle.modes.specs.Setup.{lent};
 ghost use Rattle.lay.specs.Lay.{lay_of};

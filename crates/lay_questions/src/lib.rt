@@ -1,4 +1,6 @@
 // The questions of laying a subchannel's points.
+#![tactic(auto)]
+
 ghost use Rattle.std.specs.Prelude.{◌≡◌};
 ghost use Rattle.modes.specs.Setup.{lent};
 ghost use Rattle.lay_questions.specs.Model.{lay_refusal};

@@ -1,4 +1,6 @@
 // The lengths of a slot's buffers, and the questions of a setup with a mask.
+#![tactic(auto)]
+
 ghost use Rattle.std.specs.Prelude.{◌≡◌, ◌<◌};
 ghost use Rattle.modes.specs.Setup.{alone};
 ghost use Rattle.modes.specs.Model.{Ranged};

@@ -1,4 +1,6 @@
 // A look at one carrier of a slot's grid.
+#![tactic(auto)]
+
 ghost use Rattle.std.specs.Prelude.{◌≡◌, ◌*◌, ◌%◌, ◌<◌};
 ghost use Rattle.base.specs.Answer.{accepted};
 ghost use Rattle.modes.specs.Setup.{alone, lent};
@@ -14,7 +16,7 @@ use modes::Setup;
 use points::Point;
 
 // What `look` finds on a carrier, or the first refusal.
-#[derive(Drop)]
+#[derive(Clone, Copy)]
 pub enum Seen {
     Nothing,
     Pilot(Point),

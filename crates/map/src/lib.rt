@@ -1,4 +1,6 @@
 // The map: placing a point and locating a carrier, in all modes.
+#![tactic(auto)]
+
 ghost use Rattle.std.specs.Prelude.{◌≡◌, ◌<◌};
 ghost use Rattle.base.specs.Answer.{accepted};
 ghost use Rattle.modes.specs.Setup.{alone, lent};
@@ -10,14 +12,14 @@ use carriers::Spot;
 use modes::Setup;
 
 // Where a point is placed, or the first refusal.
-#[derive(Drop)]
+#[derive(Clone, Copy)]
 pub enum Placed {
     At { symbol: usize, carrier: i32 },
     Refused(u8),
 }
 
 // What a carrier holds, or the first refusal.
-#[derive(Drop)]
+#[derive(Clone, Copy)]
 pub enum Located {
     Guard,
     Dc,

@@ -1,4 +1,6 @@
 // Masks: which major groups a sector lights, and what that makes of subchannels and used numbers.
+#![tactic(auto)]
+
 ghost use Rattle.std.specs.Prelude.{◌≡◌, ◌<◌};
 ghost use Rattle.modes.specs.Setup.{alone};
 ghost use Rattle.modes.specs.Mode.{band};

@@ -1,4 +1,6 @@
 // What a column of a symbol's row holds, where only a mask's groups are lit.
+#![tactic(auto)]
+
 ghost use Rattle.std.specs.Prelude.{◌≡◌, ◌*◌, ◌<◌, ◌≤◌};
 ghost use Rattle.base.specs.Answer.{accepted};
 ghost use Rattle.carriers.specs.Band.{used_of};

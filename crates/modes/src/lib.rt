@@ -1,4 +1,6 @@
 // Modes and their ranges: the columns of the table, and questions 1, 2, 3 and 20.
+#![tactic(auto)]
+
 ghost use Rattle.std.specs.Prelude.{◌≡◌, false, ◌*◌, ◌/◌, ◌%◌, ◌<◌, ◌≤◌};
 ghost use Rattle.modes.specs.Setup.{alone, lent};
 ghost use Rattle.modes.specs.Mode.{is_amc, shape_of, width as WidthOf, cells as Cells, subchannels as Subchannels, symbols as Symbols, band as BandOf};
@@ -9,7 +11,7 @@ use amc::Shape;
 use carriers::Band;
 
 // What a zone fixes: mode, FFT size and cell.
-#[derive(Drop)]
+#[derive(Clone, Copy)]
 pub struct Setup {
     pub mode: usize,
     pub size: usize,

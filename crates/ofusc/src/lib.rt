@@ -1,4 +1,6 @@
 // Optional FUSC: the field's sequences and the group permutation.
+#![tactic(auto)]
+
 ghost use Rattle.std.specs.Prelude.{◌≡◌, ◌+◌, ◌*◌, ◌-◌, ◌/◌, ◌%◌, ◌<◌};
 ghost use Rattle.base.specs.Steps.{entry};
 ghost use Rattle.ofusc.specs.Width.{Width};
@@ -38,7 +40,7 @@ fn turn(n: usize, x: usize) -> usize
 }
 
 // A number's quotient and remainder by N.
-#[derive(Drop)]
+#[derive(Clone, Copy)]
 pub struct ByWidth {
     pub quotient: usize,
     pub remainder: usize,

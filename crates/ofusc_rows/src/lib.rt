@@ -1,4 +1,6 @@
 // Optional FUSC's rows: the data numbers of a subchannel, and the points of a bin, by a table that is worked out once for a cell.
+#![tactic(auto)]
+
 ghost use Rattle.std.specs.Prelude.{◌≡◌, ◌+◌, ◌*◌, ◌-◌, ◌<◌, ltb};
 ghost use Rattle.std.specs.Int.Bits.{bit_xor};
 ghost use Rattle.base.specs.Choice.{pick};

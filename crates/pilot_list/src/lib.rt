@@ -1,5 +1,7 @@
 // A symbol's pilots as a lent list of used numbers: whether it is accepted, and the data numbers, which run over what it
 // leaves. Each is one pass over the whole list with no branch to guess, so that many entries are looked at at once.
+#![tactic(auto)]
+
 ghost use Rattle.std.specs.Prelude.{◌≡◌, true, ◌<◌, length};
 ghost use Rattle.pilot_list.specs.List.{is_in, is_rising, is_pilot_list, used_of_data, data_of_used};
 

@@ -1,4 +1,6 @@
 // The places of a subchannel's points in a slot's grid, as a row that a caller keeps and copies through.
+#![tactic(auto)]
+
 ghost use Rattle.std.specs.Prelude.{◌≡◌, ◌<◌};
 ghost use Rattle.base.specs.Tabulate.{tabulate};
 ghost use Rattle.modes.specs.Setup.{lent};
@@ -9,7 +11,7 @@ use base::reduce;
 use modes::Setup;
 
 // For each index the place in the grid; the first refusal, or 0. (The row comes first, so that it is copied once.)
-#[derive(Drop)]
+#[derive(Clone, Copy)]
 pub struct PlaceRow {
     pub places: [u32; 48],
     pub refusal: u8,

@@ -1,4 +1,6 @@
 // A zone plan: its zones in their places, and the questions put to it.
+#![tactic(auto)]
+
 ghost use Rattle.std.specs.Prelude.{◌≡◌, ◌≤◌, drop};
 ghost use Rattle.plan.specs.Plan.{are_unused, used_zones};
 ghost use Rattle.plan.specs.Model.{zones_refusal, plan_refusal};
@@ -6,7 +8,7 @@ ghost use Rattle.plan.specs.Model.{zones_refusal, plan_refusal};
 use zone::{Before, Zone};
 
 // A plan: its zones stand in the first places, unused places are all zero.
-#[derive(Drop)]
+#[derive(Clone, Copy)]
 pub struct Plan {
     pub count: usize,
     pub size: usize,

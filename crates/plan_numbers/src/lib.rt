@@ -1,4 +1,6 @@
 // A plan as C hands it over: its eight places are a row of 32 numbers, mode, cell, slots and mask of each.
+#![tactic(auto)]
+
 ghost use Rattle.std.specs.Prelude.{◌≡◌};
 ghost use Rattle.plan_numbers.specs.Numbers.{numbers_of, places_in, plan_in};
 ghost use Rattle.plan_numbers.specs.Model.{AllSmall};

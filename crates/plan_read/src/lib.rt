@@ -1,4 +1,6 @@
 // Reading a zone plan from its bytes.
+#![tactic(auto)]
+
 ghost use Rattle.std.specs.Prelude.{◌≡◌, ◌≤◌, drop};
 ghost use Rattle.base.specs.Answer.{refused as no};
 ghost use Rattle.plan_read.specs.Read.{read_zones, finish, plan_of, answered};
@@ -9,14 +11,14 @@ use value::Found;
 use zone::{Before, UNUSED, Zone};
 
 // What reading a plan answers: the number of the refusal, or 0 and the plan.
-#[derive(Drop)]
+#[derive(Clone, Copy)]
 pub struct ReadPlan {
     pub refusal: u8,
     pub plan: Plan,
 }
 
 // A zone and the place after it, or the number of the refusal.
-#[derive(Drop)]
+#[derive(Clone, Copy)]
 pub enum ZoneFound {
     Found { zone: Zone, next: usize },
     Refused(u8),

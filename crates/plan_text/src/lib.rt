@@ -1,4 +1,6 @@
 // A plan as text: one line a zone, "mode cell slots mask" in base ten, or the line "refused N".
+#![tactic(auto)]
+
 ghost use Rattle.std.specs.Prelude.{◌+◌, ◌≤◌, length};
 ghost use Rattle.text.specs.Text.{Put};
 ghost use Rattle.plan.specs.Plan.{used_zones};

@@ -1,4 +1,6 @@
 // Writing a zone plan as bytes.
+#![tactic(auto)]
+
 ghost use Rattle.std.specs.Prelude.{◌≡◌, ◌+◌, ◌≤◌, length};
 ghost use Rattle.text.specs.Text.{Put};
 ghost use Rattle.zone.specs.Model.{Small};
@@ -9,7 +11,7 @@ use plan::Plan;
 use zone::Zone;
 
 // What writing a plan answers: how many bytes were written, or the number of the refusal.
-#[derive(Drop)]
+#[derive(Clone, Copy)]
 pub enum Written {
     Bytes(usize),
     Refused(u8),

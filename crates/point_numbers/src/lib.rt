@@ -1,4 +1,6 @@
 // The numbers of the points on the runs of a row, among those of the lit subchannels. The map's own definitions say what they are.
+#![tactic(auto)]
+
 ghost use Rattle.std.specs.Prelude.{◌≡◌, true, ◌+◌, ◌*◌, ◌<◌, ◌≤◌, length};
 ghost use Rattle.base.specs.Model.{Starts};
 ghost use Rattle.modes.specs.Setup.{alone};
@@ -46,7 +48,7 @@ pub fn place_table(setup: Setup) -> [u16; 48]
 }
 
 // How far apart the numbers of two runs in a row are in a row's table, and those of two points of a run.
-#[derive(Drop)]
+#[derive(Clone, Copy)]
 pub struct Strides {
     pub run: usize,
     pub point: usize,

@@ -1,10 +1,12 @@
 // Points in lent buffers: one read, one put, and zeros.
+#![tactic(auto)]
+
 ghost use Rattle.std.specs.Prelude.{◌≡◌, ◌+◌, ◌*◌, ◌<◌, length, replicate};
 ghost use Rattle.points.specs.Points.{zero32, point_at};
 ghost use Rattle.points.specs.Model.{put_point};
 
 // A point, in-phase first.
-#[derive(Drop)]
+#[derive(Clone, Copy)]
 pub struct Point {
     pub i: f32,
     pub q: f32,

@@ -1,4 +1,6 @@
 // PUSC downlink: where the points of a subchannel lie, by the inner permutation of its major group, and the reverse.
+#![tactic(auto)]
+
 ghost use Rattle.std.specs.Prelude.{◌≡◌, false, ◌*◌, ◌/◌, ◌%◌, ◌<◌};
 ghost use Rattle.base.specs.Steps.{entry, unrotate as Unrotate};
 ghost use Rattle.clusters.specs.Cluster.{is_cluster_pilot};
@@ -100,7 +102,7 @@ pub fn spot(cell: usize, subchannel: usize, index: usize) -> Spot
 }
 
 // A data number of a group.
-#[derive(Drop)]
+#[derive(Clone, Copy)]
 struct Datum {
     group: usize,
     number: usize,

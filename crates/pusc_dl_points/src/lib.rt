@@ -1,4 +1,6 @@
 // The points of a cluster of PUSC downlink, counted among those of the lit subchannels: the reverse, a cluster at a time.
+#![tactic(auto)]
+
 ghost use Rattle.std.specs.Prelude.{◌≡◌, true, ◌+◌, ◌*◌, ◌%◌, ◌<◌};
 ghost use Rattle.base.specs.Steps.{unrotate as Unrotate};
 ghost use Rattle.base.specs.Tabulate.{tabulate};
@@ -103,7 +105,7 @@ fn group_number(size: u16, first: u16, n: u16, m: u16, b: u16) -> u16
 // The numbers of the points of cluster i of a group of 12 subchannels, from `first` on.
 fn twelve_numbers(cell: usize, first: u16, i: u16, inverses: &[u16; 48]) -> [u16; 12]
     requires { (first < 4096) × (i < 24) × Starts 48 (inverse_entry cell) inverses.now }
-    ensures* { λ r. ⌜ r ≡ tabulate 12 (λ r. first + point_of_data 12 cell (i * 12 + r)) ⌝ }
+    ensures { result ≡ tabulate 12 (λ r. first + point_of_data 12 cell (i * 12 + r)) }
 {
     let m = reduce16(12, i);
     let mut numbers = [0; 12];
@@ -118,7 +120,7 @@ fn twelve_numbers(cell: usize, first: u16, i: u16, inverses: &[u16; 48]) -> [u16
 // The numbers of a cluster's points in a group of 8: its twelve data numbers have two quotients.
 fn eight_numbers(cell: usize, first: u16, i: u16, inverses: &[u16; 48]) -> [u16; 12]
     requires { (first < 4096) × (i < 16) × Starts 48 (inverse_entry cell) inverses.now }
-    ensures* { λ r. ⌜ r ≡ tabulate 12 (λ r. first + point_of_data 8 cell (i * 12 + r)) ⌝ }
+    ensures { result ≡ tabulate 12 (λ r. first + point_of_data 8 cell (i * 12 + r)) }
 {
     let from = 24 + wide16(i) * 12 % 8;
     let mut numbers = [0; 12];

@@ -1,4 +1,6 @@
 // All points of a subchannel of PUSC downlink at once: where they lie, as a row of numbers.
+#![tactic(auto)]
+
 ghost use Rattle.std.specs.Prelude.{◌≡◌, ◌+◌, ◌*◌, ◌/◌, ◌%◌, ◌<◌};
 ghost use Rattle.base.specs.Steps.{entry};
 ghost use Rattle.base.specs.Tabulate.{tabulate};
@@ -51,7 +53,7 @@ fn group_bases(g: usize, cell: usize, s: usize) -> [u16; 24]
 }
 
 // The spots of a group data number in the two symbols of a slot, as numbers.
-#[derive(Drop)]
+#[derive(Clone, Copy)]
 struct SpotNumbers {
     first: u16,
     second: u16,

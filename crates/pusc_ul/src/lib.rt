@@ -1,4 +1,6 @@
 // PUSC uplink: tiles, their permutation, and the data places of a slot.
+#![tactic(auto)]
+
 ghost use Rattle.std.specs.Prelude.{◌≡◌, false, ◌+◌, ◌*◌, ◌<◌};
 ghost use Rattle.pusc_ul.specs.Table.{tile_permutation, tile_permutation_inverse};
 ghost use Rattle.pusc_ul.specs.Tile.{tile_of, tile_subchannel, is_tile_pilot, place_symbol, place_tile, place_carrier, data_place};
@@ -48,7 +50,7 @@ pub fn tile_subchannel(inverse: &[u8; 70], cell: usize, tile: usize) -> usize
 }
 
 // A data carrier of a subchannel's tiles: its symbol in the slot, its tile t, and its place in the tile.
-#[derive(Drop)]
+#[derive(Clone, Copy)]
 struct DataCarrier {
     symbol: usize,
     tile: usize,

@@ -1,5 +1,7 @@
 // PUSC uplink's rows: the carriers of a subchannel, and the points of a symbol by the subchannels of its tiles, which are
 // worked out once for a slot.
+#![tactic(auto)]
+
 ghost use Rattle.std.specs.Prelude.{◌≡◌, ◌+◌, ◌*◌, ◌<◌, length};
 ghost use Rattle.base.specs.Tabulate.{tabulate};
 ghost use Rattle.base.specs.Model.{Starts};

@@ -1,4 +1,6 @@
 // The questions of a slot with its buffers: of ground, empty and look.
+#![tactic(auto)]
+
 ghost use Rattle.std.specs.Prelude.{◌≡◌};
 ghost use Rattle.modes.specs.Setup.{alone, lent};
 ghost use Rattle.modes.specs.Model.{Ranged};

@@ -1,4 +1,6 @@
 // The points on one row of a slot's grid taken off, by rising carrier: run after run, each point dropped at its number.
+#![tactic(auto)]
+
 ghost use Rattle.std.specs.Prelude.{◌≡◌, ◌+◌, ◌*◌, ◌<◌, length};
 ghost use Rattle.modes.specs.Setup.{alone};
 ghost use Rattle.modes.specs.Mode.{symbols};

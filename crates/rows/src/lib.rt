@@ -1,5 +1,7 @@
 // Where a subchannel's points stand, found fast: a row of 48 carriers, in the order that is cheapest for its mode, and where in
 // it index 0 stands. The map's own definitions say what they are.
+#![tactic(auto)]
+
 ghost use Rattle.std.specs.Prelude.{◌≡◌, ◌<◌};
 ghost use Rattle.base.specs.Model.{Turned};
 ghost use Rattle.carriers.specs.Model.{spot_number};
@@ -13,7 +15,7 @@ use modes::Setup;
 
 // The carriers of a subchannel's points as numbers, the size for each symbol of the slot: index 0 at place `shift`, the others
 // follow, going on at the row's start.
-#[derive(Drop)]
+#[derive(Clone, Copy)]
 pub struct CarrierRow {
     pub shift: usize,
     pub carriers: [u16; 48],

@@ -1,4 +1,6 @@
 // The points on one run of a row of a slot's grid taken off, each dropped at its number.
+#![tactic(auto)]
+
 ghost use Rattle.std.specs.Prelude.{◌≡◌, ◌+◌, ◌*◌, ◌<◌, ◌≤◌, length};
 ghost use Rattle.base.specs.Tabulate.{tabulate};
 ghost use Rattle.modes.specs.Setup.{alone};

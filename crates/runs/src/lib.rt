@@ -1,5 +1,7 @@
 // The runs of a symbol's carriers (clusters, tiles, bins): where their pilots and points stand, and which are lit. The map's own
 // definitions say what they are.
+#![tactic(auto)]
+
 ghost use Rattle.std.specs.Prelude.{◌≡◌, ◌<◌};
 ghost use Rattle.base.specs.Tabulate.{tabulate};
 ghost use Rattle.modes.specs.Setup.{alone};
@@ -10,7 +12,7 @@ use modes::Setup;
 
 // The runs of a symbol's used numbers: `count` runs of `step` numbers, and in each the places of its two pilots, rising. One that
 // is not there stands past the run's end.
-#[derive(Drop)]
+#[derive(Clone, Copy)]
 pub struct Runs {
     pub first: usize,
     pub second: usize,

@@ -2,6 +2,8 @@
 //
 // Each `put_` function answers the place after what it wrote, where the next one goes on. Its
 // contract is `Put`: the text at the place, all else as it was, and that answer.
+#![tactic(auto)]
+
 ghost use Rattle.std.specs.Prelude.{[], ◌∷◌, ◌+◌, ◌≤◌, ◌<◌, length};
 ghost use Rattle.text.specs.Text.{decimal, Put};
 

@@ -1,4 +1,6 @@
 // The values of a plan file: groups of seven bits, lowest first.
+#![tactic(auto)]
+
 ghost use Rattle.std.specs.Prelude.{◌≡◌, ◌+◌, ◌<◌, ◌≤◌, length, drop};
 ghost use Rattle.value.specs.Value.{found, value_of, encode};
 ghost use Rattle.text.specs.Text.{Put};
@@ -6,7 +8,7 @@ ghost use Rattle.text.specs.Text.{Put};
 use base::wide;
 
 // A value and how many bytes it takes, or the number of the refusal.
-#[derive(Drop)]
+#[derive(Clone, Copy)]
 pub enum Found {
     Value { value: usize, bytes: usize },
     Refused(u8),

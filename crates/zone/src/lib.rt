@@ -1,4 +1,6 @@
 // A zone of a plan, and the questions put to it: to its own values, and where it stands.
+#![tactic(auto)]
+
 ghost use Rattle.std.specs.Prelude.{◌≡◌};
 ghost use Rattle.zone.specs.Zone.{is_order, fields_refusal, is_unused};
 ghost use Rattle.zone.specs.Model.{zone_refusal};
@@ -6,7 +8,7 @@ ghost use Rattle.zone.specs.Model.{zone_refusal};
 use modes::Setup;
 
 // One zone: mode, cell, how many slots, and the mask, bit g for major group g (document 02, wish 5).
-#[derive(Drop)]
+#[derive(Clone, Copy)]
 pub struct Zone {
     pub mode: usize,
     pub cell: usize,
@@ -23,7 +25,7 @@ pub const UNUSED: Zone = Zone {
 };
 
 // What stands before a zone: nothing, or a zone of a mode.
-#[derive(Drop)]
+#[derive(Clone, Copy)]
 pub enum Before {
     First,
     After(usize),
