@@ -1,6 +1,6 @@
 -- Tests that are computed, and facts from them.
 use Rattle.base.proofs.Prelude.{◌≡◌, refl, sym, ◌∙◌, Bool, true, false, ℕ, ◌*◌, ◌<◌, ◌≤◌, arith, T, eqb, ltb, leb, lt-ltb, le-ltb, eq-eqb}
-use Rattle.base.proofs.Prelude.{ne_eqb, not-true, not-false}
+use Rattle.base.proofs.Prelude.{ne_eqb}
 use mathlib.Core.Bool.{not, ◌&&◌}
 use borrow.Author.Tests.{leb-true}
 use Rattle.base.specs.Choice.{pick, is_up_to}
@@ -49,11 +49,11 @@ up_to most n e = leb-true n most (both_true (ltb 0 n) (leb n most) e).1
 
 -- ---- A test as the code answers it, for `search`: by what a function told of it,
 module _ {b : Bool} (t : Bool) (e : t ≡ b) where
-  pub told_no : not t ≡ true → b ≡ false
-  told_no n = sym e ∙ not-true t n
+  pub told_no : t ≡ false → b ≡ false
+  told_no n = sym e ∙ n
 
-  pub told_yes : not t ≡ false → b ≡ true
-  told_yes n = sym e ∙ not-false t n
+  pub told_yes : t ≡ true → b ≡ true
+  told_yes n = sym e ∙ n
 
 -- by the bound that one gave,
 module _ {m : ℕ} (n : ℕ) (e : n ≡ m) (s : ℕ) where

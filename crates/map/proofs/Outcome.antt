@@ -22,16 +22,16 @@ module _ (c : Setup) (slot s m : ℕ) where
     pub subchannel_in : s < subchannels c
     subchannel_in = rw (← q) hs
 
-    pub place_not_lent : slot < 512 → (t : Bool) → t ≡ is_lent c → not t ≡ true → refused 20 ≡ place_of c slot s m
+    pub place_not_lent : slot < 512 → (t : Bool) → t ≡ is_lent c → t ≡ false → refused 20 ≡ place_of c slot s m
     unfolding place_of is_slot is_subchannel is_index
     place_not_lent h t j n = lets_pass c _ k e z (refused 20) (rw (lt-ltb _ _ h, lt-ltb _ _ subchannel_in, lt-ltb _ _ hm, told_no t j n))
 
-    pub place_done : slot < 512 → (t : Bool) → t ≡ is_lent c → not t ≡ false → (x : Spot) → x ≡ spot_of c slot s m
+    pub place_done : slot < 512 → (t : Bool) → t ≡ is_lent c → t ≡ true → (x : Spot) → x ≡ spot_of c slot s m
         → (a : Answer Place) → a ≡ accepted (place_at (setup_with c.mode c.size c.cell) slot x) → a ≡ place_of c slot s m
     unfolding place_at used_carrier
     place_done h t j y x f a g = g ∙ ap (λ x. accepted (place_at c slot x)) f ∙ sym (place_accepts c slot s m (now_valid c k e z t j y) h subchannel_in hm)
 
-pub locate_done : (c : Setup) (k : ℤ) (fits : SFits w32 k) (t : Bool) → t ≡ in_range c.size (to_z w32 (of_z w32 k)) → not t ≡ false
+pub locate_done : (c : Setup) (k : ℤ) (fits : SFits w32 k) (t : Bool) → t ≡ in_range c.size (to_z w32 (of_z w32 k)) → t ≡ true
     → (column : ℕ) → column ≡ on_row c.size (to_z w32 (of_z w32 k))
     → (y : ℕ) → Valid c → (n : ℕ) → n ≡ symbols c → y < 512 * n → (a : Answer Content) → a ≡ accepted (content_of c y column) → a ≡ locate_of c y k
 locate_done c k fits t g yes' column f y v n e l a h =

@@ -1,5 +1,5 @@
 -- What the questions of a setup and of a carrier come to at each of their returns.
-use Rattle.base.proofs.Prelude.{◌≡◌, refl, sym, ap, ◌∙◌, Bool, true, false, ℕ, ◌<◌, ◌≤◌, arith, not-false}
+use Rattle.base.proofs.Prelude.{◌≡◌, refl, sym, ap, ◌∙◌, Bool, true, false, ℕ, ◌<◌, ◌≤◌, arith}
 use Rattle.base.proofs.{Test.{told_no, told_yes}, Chain.{all_yes, is_refused, has_passed}}
 use mathlib.Core.Bool.{not}
 use lib.IntN.{ℤ}
@@ -17,7 +17,7 @@ unfolding refusal_at is_mode is_size is_cell
 now_ranged c k e z = let y = all_yes (setup_questions c) tt (sym e ∙ z) in ranged_by c y.0 y.1.0 y.1.1.0
 
 -- and with question 20
-pub now_valid : (c : Setup) (k : ℕ) → k ≡ setup_refusal c → k ≡ 0 → (t : Bool) → t ≡ is_lent c → not t ≡ false → Valid c
+pub now_valid : (c : Setup) (k : ℕ) → k ≡ setup_refusal c → k ≡ 0 → (t : Bool) → t ≡ is_lent c → t ≡ true → Valid c
 now_valid c k e z t f y = record { ranged = now_ranged c k e z; is-lent = told_yes t f y }
 
 -- questions 1, 2 and 3 before what comes after them, by the number that a function gave
@@ -45,18 +45,18 @@ pub column_below : {c : Setup} → Ranged c → (b : Band) → b ≡ band c → 
 column_below {c} v b e u h column f = rw (f, e) (carrier_lt (band c) c.size (band_law v) u h)
 
 -- the range is asked of what the machine reads, which is the carrier
-pub carrier_in : (size : ℕ) (k : ℤ) (t : Bool) → t ≡ in_range size (to_z w32 (of_z w32 k)) → not t ≡ false → in_range size (to_z w32 (of_z w32 k)) ≡ true
-carrier_in size k t g yes' = sym g ∙ not-false _ yes'
+pub carrier_in : (size : ℕ) (k : ℤ) (t : Bool) → t ≡ in_range size (to_z w32 (of_z w32 k)) → t ≡ true → in_range size (to_z w32 (of_z w32 k)) ≡ true
+carrier_in size k t g yes' = sym g ∙ yes'
 
 module _ (c : Setup) (k : ℤ) (fits : SFits w32 k) (t : Bool) (g : t ≡ in_range c.size (to_z w32 (of_z w32 k))) where
   asked : t ≡ is_carrier c k
   unfolding is_carrier
   asked = g ∙ ap (in_range c.size) (to_z-of_z w32 k fits)
 
-  pub carrier_no : not t ≡ true → is_carrier c k ≡ false
+  pub carrier_no : t ≡ false → is_carrier c k ≡ false
   carrier_no = told_no t asked
 
-  module _ (yes' : not t ≡ false) where
+  module _ (yes' : t ≡ true) where
     pub carrier_yes : is_carrier c k ≡ true
     carrier_yes = told_yes t asked yes'
 

@@ -1,5 +1,5 @@
 -- What a row of places comes to, by the numbers of its questions.
-use Rattle.base.proofs.{Prelude.{◌≡◌, sym, ap, ◌∙◌, Bool, true, List, ℕ, ◌<◌}, Test.told_no, Tabulate.{tabulated, length_tabulate, get_d_tabulate}}
+use Rattle.base.proofs.{Prelude.{◌≡◌, sym, ap, ◌∙◌, Bool, true, false, List, ℕ, ◌<◌}, Test.told_no, Tabulate.{tabulated, length_tabulate, get_d_tabulate}}
 use mathlib.Core.Bool.{not}
 use Rattle.base.specs.{Answer.{accepted, refused}, Tabulate.tabulate}
 use Rattle.modes.specs.{Setup.Setup, Mode.subchannels, Question.is_lent, Model.{Ranged, Valid}}
@@ -17,7 +17,7 @@ module _ (setup : Setup) (slot s : ℕ) where
   no_row r k e f = e ∙ ap (place_row _) f
 
   -- question 20 is the last
-  pub row_not_lent : Ranged setup → slot < 512 → s < subchannels setup → (t : Bool) → t ≡ is_lent setup → not t ≡ true → refused 20 ≡ ask_places {A = Unit {0}} setup slot s (accepted tt)
+  pub row_not_lent : Ranged setup → slot < 512 → s < subchannels setup → (t : Bool) → t ≡ is_lent setup → t ≡ false → refused 20 ≡ ask_places {A = Unit {0}} setup slot s (accepted tt)
   row_not_lent v h l t e n = sym (passes v ∙ slot_yes _ slot h ∙ subchannel_yes _ setup s l ∙ rw (told_no t e n))
 
   module _ (v : Valid setup) (h : slot < 512) (l : s < subchannels setup) where

@@ -1,0 +1,6 @@
+-- `capi_subchannel::bp_lay` meets its contract.
+use Rattle.base.proofs.Prelude.{rules}
+use Rattle.capi_subchannel.proofs.bp_lay.Goals as goal
+
+pub returns : goal.returns
+returns c = rw c.setup-of.ensures at c.lay-number.ensures

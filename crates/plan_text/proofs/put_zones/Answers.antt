@@ -1,0 +1,31 @@
+use Rattle.base.proofs.Prelude.{◌-◌, ◌*◌, ◌≤◌, arith, rules}
+use Rattle.zone.specs.Zone.{unused}
+use Rattle.plan.proofs.{Places.length_mapped, Each.{Putting, put_begin, put_again, put_all, put_end}}
+use Rattle.plan_text.specs.Lines.{line_of}
+use Rattle.plan_text.proofs.put_zones.Goals as goal
+
+pub loop-k-init : goal.loop-k-init
+loop-k-init c = (put_begin _ _ _ _ _ (search (length_mapped, rules) depth 8), omega arith)
+
+pub shape_of-dest-then-count-k : goal.shape_of-dest-then-count-k
+shape_of-dest-then-count-k c = c.loop-k.invariant.0.kept
+
+pub returns-then-count-k : goal.returns-then-count-k
+returns-then-count-k c = put_all c.loop-k.invariant.0 c.if-count-k.true
+
+pub put_line-at-requires : goal.put_line-at-requires
+put_line-at-requires c =
+    let inv = c.loop-k.invariant in
+    omega (arith, c.requires, inv.0.kept, inv.1)
+
+pub loop-k-preserved : goal.loop-k-preserved
+loop-k-preserved c =
+    let line = c.put_line-at in
+    let inv = c.loop-k.invariant in
+    (put_again inv.0 unused (omega arith) (omega arith) (omega arith) line.auto.dest line.ensures.0, omega (arith, inv.1, line.ensures.1))
+
+pub shape_of-dest : goal.shape_of-dest
+shape_of-dest c = c.loop-k.invariant.0.kept
+
+pub returns : goal.returns
+returns c = put_end c.loop-k.invariant.0 c.loop-k-test.false
