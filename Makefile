@@ -98,7 +98,7 @@ dist: all
 
 # All that .gitignore names.
 clean:
-	rm -rf build dist target rust/target examples/rust/target tests/rust/target
+	rm -rf build dist crates/*/out rust/target examples/rust/target tests/rust/target
 	rm -f rust/Cargo.lock examples/rust/Cargo.lock tests/rust/Cargo.lock
 	find python tests bench examples installed -name __pycache__ -prune -exec rm -rf {} +
 

@@ -1,9 +1,9 @@
 #!/bin/sh
 # Proves the engine and builds its C library: build/libbellpulsar.a, the shared build/libbellpulsar.so.VERSION, and
-# build/link/libbellpulsar.so, a link to it for -lbellpulsar. The link has a folder of its own, since a program from before
-# there were versions looks for that name in build, and must not find it. Nothing is done where they are made from what the
-# tree has now: that goes by content, whose hash is in build/stamp. What `rt version` said as they were made is in
-# build/toolchain, for a release to tell.
+# build/link/libbellpulsar.so, a copy of it for -lbellpulsar. The copy has a folder of its own, since a program from before
+# there were versions looks for that name in build, and must not find it; it is no link, since the gate refuses links in the
+# tree. Nothing is done where they are made from what the tree has now: that goes by content, whose hash is in build/stamp. What
+# `rt version` said as they were made is in build/toolchain, for a release to tell.
 #
 #     ./build.sh            builds what is missing or old; status 0, or 2 where that fails
 #     ./build.sh --check    builds nothing; status 0 where all are current, 1 where they are not
@@ -31,24 +31,33 @@ version=$(sed -n 's/^#define BP_VERSION \([0-9][0-9]*\)$/\1/p' include/bellpulsa
 [ -n "$version" ] || { say "include/bellpulsar.h has no BP_VERSION"; exit 2; }
 shared=libbellpulsar.so.$version
 
-# The crates that the library is made from, each after those that it needs, which follow its name: those of the C calls, whose
-# names begin with capi_, and all below them.
-order=$(awk -F: '
-    function visit(name, parts, n, i, line) {
+# Each crate of the C calls, whose names begin with capi_, with all that it is built on: the crates that the library is made
+# from.
+order=$(awk '
+    function visit(name, parts, n, i) {
         if (name in seen || !(name in needs)) return
         seen[name] = 1
+        line = line (line == "" ? "" : " ") name
         n = split(needs[name], parts, " ")
         for (i = 1; i <= n; i++) visit(parts[i])
-        line = name
-        for (i = 1; i <= n; i++) if (parts[i] in listed) line = line " " parts[i]
-        listed[name] = 1
-        print line
     }
-    { sub(/#.*/, ""); needs[$1] = $2 }
-    /^capi_/ { calls[++count] = $1 }
-    END { for (k = 1; k <= count; k++) visit(calls[k]) }' crates.txt)
-crates=$(echo "$order" | sed 's/ .*//')
-calls=$(echo "$crates" | grep ^capi_)
+    {
+        sub(/#.*/, "")
+        split($0, sides, ":")
+        split(sides[1], words, " ")
+        needs[words[1]] = sides[2]
+        if (words[1] ~ /^capi_/) calls[++count] = words[1]
+    }
+    END {
+        for (k = 1; k <= count; k++) {
+            split("", seen)
+            line = ""
+            visit(calls[k])
+            print line
+        }
+    }' crates.txt)
+calls=$(echo "$order" | sed 's/ .*//')
+crates=$(echo "$order" | tr ' ' '\n' | LC_ALL=C sort -u)
 sources=$(for crate in $crates; do
     for part in src specs proofs; do
         [ ! -d "crates/$crate/$part" ] || echo "crates/$crate/$part"
@@ -94,100 +103,78 @@ rm -rf "$new"
 mkdir "$new"
 now=$(content)
 total=$(echo "$crates" | wc -l)
-say "proving and building the engine, $total crates (about three minutes the first time)"
+say "proving and building the engine, $total crates (this takes minutes where little of it is proved yet)"
 
-# A crate is proved as soon as those that it needs are, one of C calls as a static library; so many at a time as the prover
-# takes by itself. Two provers in one folder write the same notes on what is below them, so each has a folder of its own, with
-# the tree's sources and what is proved of them. Its crates.txt lists the crate alone: all below it have had their own turn in
-# this build, and a prover that had them listed would look through each of them again. What a prover says is in its `log`, or
-# in `failed`. The provers' processes are a group of their own, in which a watcher reads from a pipe that only this script can
-# write to. So where this script ends, whatever ends it, the watcher reads the pipe's end and kills the group.
-one='
-    cp -RP "$1/folder" "$1/$2" && grep "^$2:" crates.txt >"$1/$2/crates.txt" && cd "$1/$2" || exit
-    case $2 in capi_*) what=staticlib ;; *) what=check ;; esac
-    if rt "$what" "$2" >log 2>&1; then
-        echo "$2"
-        echo "$2" >&5
-    else
-        mv log failed
-        echo >&5
-        exit 1
-    fi'
+# One crate of C calls after the other: all that it is built on is proved, so many crates at a time as there are processors, four
+# at most, and then its library is made. The prover's processes are a group of their own, in which a watcher reads from a pipe
+# that only this script can write to. So where this script ends, whatever ends it, the watcher reads the pipe's end and kills the
+# group, and what the prover has started outside it ends with the prover.
 group='
     { read -r nothing <&8; kill -s KILL -- "-$$"; } >/dev/null 2>&1 9>&- &
-    exec 8<&- 5<>"$1/ended"
-    new=$1 jobs=$2 one=$3 waiting=$4
-
-    # Prints the crates, each once those that it needs are proved, until one is not.
-    begin() {
-        proved=" " free=$jobs
-        while [ -n "$waiting" ]; do
-            later=
-            while read -r crate needs; do
-                is_ready=$free
-                for need in $needs; do
-                    case $proved in *" $need "*) ;; *) is_ready=0 ;; esac
-                done
-                if [ "$is_ready" -gt 0 ]; then
-                    echo "$crate"
-                    free=$((free - 1))
-                else
-                    later="$later$crate $needs
-"
-                fi
-            done <<END
-${waiting%?}
-END
-            waiting=$later
-            if ! read -r crate <&5 || [ -z "$crate" ]; then break; fi
-            proved="$proved$crate " free=$((free + 1))
-        done
-    }
-    begin | xargs -P "$jobs" -I CRATE sh -c "$one" sh "$new" CRATE'
+    exec 8<&-
+    jobs=$1
+    shift
+    for crate; do
+        echo "== crates of $crate"
+        (cd "crates/$crate" && rt all check --jobs "$jobs" && echo "== library $crate" && rt lib) || exit
+    done'
 jobs=$(nproc)
 [ "$jobs" -le 4 ] || jobs=4
-jobs=${RT_JOBS:-$jobs}
-mkdir -p target/rlib target/stamp "$new/folder/target"
-ln -s "$PWD/crates" "$new/folder"
-ln -s "$PWD/target/rlib" "$PWD/target/stamp" "$new/folder/target"
-mkfifo "$new/alive" "$new/said" "$new/ended"
+mkfifo "$new/alive" "$new/said"
 exec 7<>"$new/alive" 8<"$new/alive"
 exec 6>build/log
-setsid --wait sh -c "$group" sh "$new" "$jobs" "$one" "$order
-" >"$new/said" 2>&6 6>&- 7>&- &
+setsid --wait sh -c "$group" sh "$jobs" $calls >"$new/said" 2>&1 6>&- 7>&- &
 prover=$!
-proved=0
-while IFS= read -r crate; do
-    proved=$((proved + 1))
-    say "$crate proved ($proved of $total)"
+
+# The prover writes a crate's name behind two signs, then what it said of it: nothing where it was proved before. The headings of
+# two words are those above.
+proved=" " count=0 name= state=
+while IFS= read -r line; do
+    printf '%s\n' "$line" >&6 || :
+    case $line in
+    "== "*)
+        case $state in
+        kept | proved)
+            case $proved in
+            *" $name "*) ;;
+            *)
+                proved="$proved$name " count=$((count + 1))
+                say "$name proved ($count of $total)"
+                ;;
+            esac
+            ;;
+        esac
+        name=${line#== } state=kept
+        case $name in *" "* | summary) state= ;; esac
+        ;;
+    logic=proved*) [ -z "$state" ] || state=proved ;;
+    "rt: "*) ;;
+    *) [ "$state" != kept ] || state=open ;;
+    esac
 done <"$new/said"
 ended=0
 wait "$prover" || ended=$?
-
-# told NAME: what the provers said in the files of that name, but for what one says of the crates below its own, and for the
-# folder that it was run in.
-told() {
-    name=$1
-    set --
-    for crate in $crates; do
-        [ ! -e "$new/$crate/$name" ] || set -- "$@" "$new/$crate/$name"
-    done
-    [ $# -eq 0 ] || sed -e '/ (unchanged since it was last proved)$/d' -e '/^rt: ok, [0-9]* crates proved$/d' \
-        -e 's,/build/new/[^/]*/crates/,/crates/,g' "$@"
-}
-told log >&6
-told failed >&6
 if [ "$ended" -ne 0 ]; then
-    told failed >&2 || :
+    # What was said of what is not proved, without the prover's counts.
+    awk '
+        function end() {
+            if (is_open) printf "%s", text
+            is_open = 0
+        }
+        /^(statements|logic|library|crate|axioms|only=|rt: chose)/ && !/^logic=/ || /: ok$|crates ok$/ { next }
+        /^logic=proved/ { is_open = 0; text = ""; is_done = 1; next }
+        /^== / { end(); text = $0 "\n"; is_done = 0; next }
+        !is_done { text = text $0 "\n"; is_open = 1 }
+        END { end() }' build/log >&2 || :
     say "the engine is not proved; build/log has all that was said"
     exit 2
 fi
 
 # The archive of a crate has one object, in which its own calls alone are seen from outside.
 for crate in $calls; do
-    archive=$crate/target/staticlib/lib$crate.a
-    (cd "$new" && [ "$(${AR:-ar} t "$archive")" = "$crate.o" ] && ${AR:-ar} x "$archive") || {
-        say "$new/$archive is not made of $crate.o alone"
+    archive=crates/$crate/out/lib$crate.a
+    [ "$(${AR:-ar} t "$archive")" = "$crate.o" ] && (cd "$new" && ${AR:-ar} x "../../$archive") || {
+        say "$archive is not made of $crate.o alone"
         exit 2
     }
     set -- "$@" "$new/$crate.o"
@@ -198,7 +185,7 @@ ${AR:-ar} rcsD "$new/libbellpulsar.a" "$@" && ${CC:-cc} ${CFLAGS-} ${LDFLAGS-} -
     exit 2
 }
 mkdir "$new/link"
-ln -s "../$shared" "$new/link/libbellpulsar.so"
+cp "$new/$shared" "$new/link/libbellpulsar.so"
 rt version >"$new/toolchain"
 echo "$now" >"$new/stamp"
 rm -rf build/stamp build/link build/libbellpulsar.so

@@ -19,7 +19,8 @@ import subprocess
 import tarfile
 import tempfile
 
-from bellpulsar_wheel import BUILT, ROOT, SUMMARY, __version__, build_wheel, contents, least_glibc
+from bellpulsar_wheel import BUILT, ROOT, SUMMARY, __version__, build, contents, least_glibc, package_files, tags
+from bellpulsar_wheel import write_wheel
 
 DIST = os.path.join(ROOT, "dist")
 STEM = "bellpulsar-%s-x86_64-linux" % __version__
@@ -204,7 +205,8 @@ def debian_package(files):
 def main():
     shutil.rmtree(DIST, ignore_errors=True)
     os.mkdir(DIST)
-    name = build_wheel(DIST)
+    build()
+    name = write_wheel(DIST, package_files(), tags(contents(BUILT)))
     wheel = {name: file_at(os.path.join(DIST, name))}
     made = {
         STEM + ".tar.gz": File(packed(archive_files(wheel), STEM)),

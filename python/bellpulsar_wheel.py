@@ -2,10 +2,10 @@
 library only.
 
 The wheel has the modules, the header's version in a file VERSION, and the engine's library, which ./build.sh proves and
-builds where that is not done. Its tag says on which Linux pip may install it, by the symbols that the library needs. An
-editable wheel leads to this tree instead of having a copy of it. The source archive has all that this needs, so that a
-wheel can be made from it where the prover is. No time and no owner is in any of them: packed again, they are the same
-bytes.
+builds where that is not done. An editable wheel leads to this tree instead of having a copy of it. The tag of both is of
+this machine's kind; that of a release's wheel says on which Linux pip may install it, by the symbols that the library
+needs. The source archive has all that this needs, so that a wheel can be made from it where the prover is. No time and no
+owner is in any of them: packed again, they are the same bytes.
 """
 
 import base64
@@ -28,10 +28,12 @@ except ImportError as error:  # of a Python that is too old; pip shows what is w
     sys.exit(2)
 
 STEM = "bellpulsar-" + __version__
+TAG = "py3-none-linux_x86_64"
 INFO = STEM + ".dist-info/"
 PYTHON = os.path.join(ROOT, "python")
 PACKAGE = os.path.join(PYTHON, "bellpulsar")
 SOURCES = ("LICENCE", "README.md", "build.sh", "crates", "crates.txt", "include", "pyproject.toml", "python")
+NO_SOURCES = ("__pycache__", "out")  # folders of Python's and of the prover's
 SUMMARY = "The subcarrier map of IEEE 802.16e OFDMA, proved"
 
 
@@ -98,19 +100,18 @@ def least_glibc(image):
 
 
 def tags(image):
-    """Those of a wheel with this library, joined by dots as in its name."""
+    """Those of a release's wheel with this library, joined by dots as in its name."""
     least = least_glibc(image)
     if least is None:
-        return "py3-none-linux_x86_64"
+        return TAG
     if least <= OLDEST:
         return "py3-none-manylinux_2_%d_x86_64.manylinux2014_x86_64" % OLDEST
     return "py3-none-manylinux_2_%d_x86_64" % least
 
 
 def build():
-    """The library, where it is missing or old. What the builder lacks it says itself."""
-    if subprocess.run([BUILDER]).returncode:
-        sys.exit(2)
+    """The library, where it is missing or old."""
+    subprocess.run([BUILDER], check=True)
 
 
 def package_files():
@@ -139,9 +140,8 @@ def record(files):
     return "".join([*lines, INFO + "RECORD,,\n"]).encode()
 
 
-def write_wheel(folder, files):
-    """Of these files, and what pip is told of them; returns its name."""
-    joined = tags(contents(BUILT))
+def write_wheel(folder, files, joined=TAG):
+    """Of these files, and what pip is told of them and of these tags; returns its name."""
     files = {**files, **info_files(joined)}
     files[INFO + "RECORD"] = record(files)
     name = "%s-%s.whl" % (STEM, joined)
@@ -171,9 +171,9 @@ def source_files():
         path = os.path.join(ROOT, source)
         if os.path.isfile(path):
             yield source
-        for folder, _, names in os.walk(path):
-            if os.path.basename(folder) != "__pycache__":
-                yield from (os.path.relpath(os.path.join(folder, name), ROOT) for name in names)
+        for folder, below, names in os.walk(path):
+            below[:] = [name for name in below if name not in NO_SOURCES]
+            yield from (os.path.relpath(os.path.join(folder, name), ROOT) for name in names)
 
 
 def add_file(archive, name, data, is_program=False):

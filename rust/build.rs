@@ -1,6 +1,6 @@
 //! Finds the static library, libbellpulsar.a: in the folder that BELLPULSAR_LIB_DIR names; else in the crate's own folder
 //! lib, as a release has it; else, in a clone of the repository, where its build.sh makes it; else where pkg-config says
-//! that it is installed. Ends with 2 where there is none.
+//! that it is installed.
 
 use std::env;
 use std::fs;
@@ -10,7 +10,7 @@ use std::process::{exit, Command};
 fn main() {
     let library = library().unwrap_or_else(|why| {
         eprintln!("bellpulsar: {why}");
-        exit(2)
+        exit(1)
     });
     let folder = library.parent().unwrap();
     println!("cargo::rerun-if-changed={}", library.display());
@@ -59,14 +59,24 @@ fn named(folder: &str) -> Result<PathBuf, String> {
 
 /// Built where it is missing or old, which build.sh finds out.
 fn built(root: &Path) -> Result<PathBuf, String> {
-    for source in ["build.sh", "crates.txt", "crates", "include/bellpulsar.h"] {
-        println!("cargo::rerun-if-changed={}", root.join(source).display());
+    let mut sources: Vec<PathBuf> = ["build.sh", "crates.txt", "include/bellpulsar.h"]
+        .map(|name| root.join(name))
+        .into();
+    // A crate's folder has a further one, `out`, in which the prover writes.
+    for part in fs::read_dir(root.join("crates")).map_err(|error| error.to_string())? {
+        let folder = part.map_err(|error| error.to_string())?.path();
+        sources.extend(["src", "specs", "proofs"].map(|name| folder.join(name)));
+    }
+    for source in sources.iter().filter(|source| source.exists()) {
+        println!("cargo::rerun-if-changed={}", source.display());
     }
     let script = root.join("build.sh");
     match Command::new(&script).status() {
         Ok(status) if status.success() => {}
-        Ok(status) if status.code() == Some(2) => exit(2), // it has told why
-        Ok(status) => return Err(format!("{} ended with {status}", script.display())),
+        Ok(status) if status.code().is_none() => {
+            return Err(format!("{} ended with {status}", script.display()));
+        }
+        Ok(_) => return Err(format!("{} failed, as told above", script.display())),
         Err(error) => return Err(format!("{} does not run: {error}", script.display())),
     }
     within(&root.join("build")).ok_or(format!("{} made no libbellpulsar.a", script.display()))
@@ -78,9 +88,9 @@ fn installed() -> Result<PathBuf, String> {
     }
     let found = pkg_config().map_err(|why| {
         format!(
-            "no libbellpulsar.a is found: take the crate of a release, which has it, or name its folder in \
-             BELLPULSAR_LIB_DIR, or install it (make install, in a clone of the repository) where pkg-config looks: \
-             PKG_CONFIG_PATH adds a folder to that.\n{why}"
+            "no libbellpulsar.a is found. Name its folder in BELLPULSAR_LIB_DIR, or install it (make install, in a clone \
+             of the repository) where pkg-config looks: PKG_CONFIG_PATH adds a folder to that.\n{why}\nThe crate of a \
+             release has it."
         )
     })?;
     within(Path::new(&found)).ok_or(format!(

@@ -4,6 +4,8 @@
     python3 tests/test_build.py
 """
 
+import filecmp
+import glob
 import os
 import re
 import shutil
@@ -22,36 +24,44 @@ PLACED = "Place(symbol=0, carrier=-425)\n"
 VERSION = "#define BP_VERSION 5\n"
 SHARED = "libbellpulsar.so.5"
 
-# Each stub notes its process where that matters, in a file of the tree: it is run in a folder of its own. The first proves at
-# once, crate by crate, and makes static libraries, where it notes its process, and says the crates below again, as the prover
-# does. It fails where another one is at work in the same folder, where what it needs of the tree is not there, and where a
-# crate that it needs is not proved.
+# Each stub notes its process where that matters, in a file of the tree: it is run in a crate's folder. The first proves at once
+# what the crate is built on, and it: each crate after those that it needs, with nothing said of one that was proved before, as
+# the prover does. The second makes a static library too, where it notes its process, and fails where a crate that it needs is
+# not proved.
 IDENTITY = "stub 1 logic 0\n"
 CHECKS = """\
 #!/bin/sh
 tree=${0%/*}/..
 [ "$*" != version ] || exec echo stub 1 logic 0
-[ $# = 2 ] && mkdir target/log && [ -e "crates/$2/src/lib.rt" ] || exit 9
-while IFS=: read -r name needs; do
-    [ "$name" = "$2" ] || continue
-    for need in $needs; do
-        [ -e "target/rlib/$need" ] || exit 9
-        echo "rt: $need proved (unchanged since it was last proved)"
-    done
-done <crates.txt
-if [ "$1" = check ]; then
-    : >"target/rlib/$2"
-    echo "rt: $2 proved (3 s)"
-    echo "rt: ok, 4 crates proved"
+here=${PWD##*/}
+needs() { sed -n "s/^$1\\( staticlib\\)*:\\(.*\\)/\\2/p" ../../crates.txt; }
+heard=" "
+prove() {
+    case $heard in *" $1 "*) return ;; esac
+    [ -e "../$1/src/lib.rt" ] || return 0
+    for need in $(needs "$1"); do prove "$need"; done
+    heard="$heard$1 "
+    echo "== $1"
+    [ ! -e "../$1/out" ] || return 0
+    mkdir "../$1/out"
+    echo "fn $1::f: proved"
+    echo "logic=proved functions=3 of $1"
+}
+if [ "$1" = all ]; then
+    [ "$2 $3" = "check --jobs" ] && [ "$4" -gt 0 ] && [ $# = 4 ] || exit 9
+    prove "$here"
+    echo "== summary"
+    echo "$here: ok"
     exit
 fi
 """
 PROVES = CHECKS + """\
 echo $$ >>"$tree/calls"
-[ "$1" = staticlib ] || exit 9
+[ "$*" = lib ] || exit 9
+for need in $(needs "$here"); do [ -e "../$need/out" ] || exit 9; done
 sleep ${PROOF:-0}
-echo "logic=proved functions=14 of $2"
-mkdir target/staticlib && cd target/staticlib && ar x '%s' "$2.o" && ar rcsD "lib$2.a" "$2.o" || exit 9
+echo "logic=proved functions=14 target=x of $here"
+cd out && ar x '%s' "$here.o" && ar rcsD "lib$here.a" "$here.o" || exit 9
 echo done >>"$tree/calls"
 """ % LIBRARY
 # The next two never end by themselves, the one at the first crates and the other at the static libraries, nor does the child,
@@ -61,11 +71,28 @@ ENDLESS_CALLS = CHECKS + ENDLESS
 FAILS = """\
 #!/bin/sh
 echo called >>"${0%/*}/../calls"
-echo "$PWD/crates/$2/src/lib.rt:1:1: error"
-echo "rt: $2 NOT PROVED" >&2
+echo "statements std: modules loaded=1489 checked=0"
+echo "== base"
+echo "note: src/lib.rt:1:1: it is not proved"
+echo "statements std: modules loaded=21 checked=0"
+echo "logic=not-proved"
+echo "== text"
+echo "fn text::f: proved"
+echo "logic=proved functions=3"
+echo "== summary"
+echo "text: ok"
+echo "base: failed (1)"
+echo "rt: the check failed" >&2
 exit 1
 """
-FAILS_CALLS = CHECKS + 'echo "rt: $2 NOT PROVED"\nexit 1\n'
+# What is shown of it: not the counts, nor what is proved.
+FAILED = "== base\nnote: src/lib.rt:1:1: it is not proved\nlogic=not-proved\n== summary\nbase: failed (1)\nrt: the check failed\n"
+FAILS_CALLS = CHECKS + 'echo "error: no library"\nexit 1\n'
+# And one that reads nothing of the second crate of C calls.
+FAILS_LATER = PROVES.replace('    prove "$here"\n', """\
+    [ ! -e "$tree/calls" ] || { echo "error: no such name"; exit 1; }
+    prove "$here"
+""")
 COMPILER = '#!/bin/sh\necho "$0" "$@" >>words\nexec cc "$@"\n'
 # Notes its words, and makes a program that does nothing; the preprocessor is the compiler's own.
 NO_COMPILER = """\
@@ -123,7 +150,7 @@ def small_crates(root, listed):
     """Crates with one small file in each folder."""
     with open(os.path.join(root, "crates.txt"), "w") as file:
         file.write(listed)
-    for crate in re.findall(r"^(\w+):", listed, re.MULTILINE):
+    for crate in re.findall(r"^(\w+)(?: staticlib)?:", listed, re.MULTILINE):
         for part in ("src/lib.rt", "specs/Lib.antt", "proofs/Lib.antt"):
             path = os.path.join(root, "crates", crate, part)
             os.makedirs(os.path.dirname(path))
@@ -142,7 +169,7 @@ def small_tree(root):
 
 def crates(listed):
     """The crates that have the C calls; and these and all below them, each with those that it needs."""
-    needs = dict(re.findall(r"^(\w+):(.*)$", listed, re.MULTILINE))
+    needs = dict(re.findall(r"^(\w+)(?: staticlib)?:(.*)$", listed, re.MULTILINE))
     calls = [name for name in needs if name.startswith("capi_")]
     names = list(calls)
     for name in names:
@@ -160,8 +187,8 @@ with open(os.path.join(ROOT, "crates.txt")) as file:
     LISTED = file.read()
 CALLS = crates(LISTED)[0]
 # The crates of the C calls, over few others, in three levels; and one that no call needs.
-FEW = "# (No call needs the program.)\nbase:\ntext:\namc: base\nmap: base amc\nplan: base map text\nzones: plan io libc\n"
-FEW += "".join("%s: %s\n" % (name, "plan" if name == "capi_plan" else "base map") for name in CALLS)
+FEW = "# (No call needs the program.)\nbase:\ntext:\namc: base\nmap: base amc\nplan: base map text\nzones: plan\n"
+FEW += "".join("%s staticlib: %s\n" % (name, "plan" if name == "capi_plan" else "base map") for name in CALLS)
 NOTES = 2 * len(CALLS)  # what the stub notes in one build
 MODEL = tempfile.mkdtemp()  # the tree that every test copies
 
@@ -173,7 +200,13 @@ def setUpModule():
     stub(MODEL, "rt", PROVES)
     subprocess.run(["./build.sh"], cwd=MODEL, env=environment(MODEL), check=True, capture_output=True)
     os.remove(os.path.join(MODEL, "calls"))
-    shutil.rmtree(os.path.join(MODEL, "target"))
+    forget_proofs(MODEL)
+
+
+def forget_proofs(tree):
+    """The folders of the prover are gone."""
+    for folder in glob.glob(os.path.join(tree, "crates", "*", "out")):
+        shutil.rmtree(folder)
 
 
 class Case(unittest.TestCase):
@@ -239,7 +272,14 @@ class Current(Case):
         self.is_current()
 
     def test_without_the_folder_of_the_prover(self):
-        self.assertFalse(os.path.exists(self.path("target")))
+        """Each crate has one of its own."""
+        self.assertEqual(glob.glob(self.path("crates", "*", "out")), [])
+        self.is_current()
+
+    def test_what_is_in_a_folder_of_the_prover(self):
+        os.mkdir(self.path("crates", "map", "out"))
+        with open(self.path("crates", "map", "out", "lib.rt"), "w") as file:
+            file.write("other")
         self.is_current()
 
     def test_what_is_changed_is_made_anew(self):
@@ -290,7 +330,9 @@ class Versions(Case):
             self.header_with(line)
             self.assertEqual(self.build("--check").returncode, 1)
             self.is_made_anew()
-            self.assertEqual(os.readlink(self.path("build", "link", "libbellpulsar.so")), "../" + name)
+            copy = self.path("build", "link", "libbellpulsar.so")
+            self.assertFalse(os.path.islink(copy))
+            self.assertTrue(filecmp.cmp(copy, self.path("build", name), shallow=False))
             self.stub("rt", FAILS)
             self.is_current()
 
@@ -360,9 +402,9 @@ class Callers(Case):
         self.edit("crates", "map", "src", "lib.rt")
         done = self.run_in_tree("./bellpulsar", *ASKED)
         self.assertEqual((done.stdout, done.returncode), ("", 2))
-        self.assertIn("rt: base NOT PROVED\n", done.stderr)
-        told = "bellpulsar: the engine is not proved; build/log has all that was said"
-        self.assertEqual(done.stderr.splitlines()[-1], told)
+        told = "bellpulsar: the engine is not proved; build/log has all that was said\n"
+        self.assertIn(FAILED + told, done.stderr)
+        self.assertEqual(done.stderr.splitlines()[-1], "bellpulsar: the engine could not be built")
 
     def test_the_command_line_where_the_builder_is_killed(self):
         with open(self.path("build.sh"), "w") as file:
@@ -389,9 +431,8 @@ class Building(Case):
             self.assertLessEqual(set(needs[name]), set(names[:n]), name)
             self.assertEqual(shown[1 + n], "bellpulsar: %s proved (%d of %d)" % (name, n + 1, total))
         with open(self.path("build", "log")) as file:
-            lines = file.readlines()
-        said = ["logic=proved functions=14 of %s\n" if name in calls else "rt: %s proved (3 s)\n" for name in needs]
-        self.assertEqual(sorted(lines), sorted(line % name for line, name in zip(said, needs)))
+            said = re.findall(r"^logic=proved .* of (\w+)$", file.read(), re.MULTILINE)
+        self.assertEqual(sorted(said), sorted([*needs, *calls]))
 
     def test_the_toolchain_is_noted(self):
         self.edit("crates.txt")
@@ -417,30 +458,40 @@ class Building(Case):
             self.assertEqual(sorted(names), sorted(declared()), command)
 
     def test_a_proof_that_fails(self):
-        """No other is begun after it; its error names the tree's file."""
+        """The prover is not begun again after it."""
         self.edit("crates", "map", "src", "lib.rt")
         for _ in range(2):
-            done = self.build(RT_JOBS="1")
+            done = self.build()
             self.assertEqual((done.stdout, done.returncode), ("", 2))
-            self.assertIn("\n%s:1:1: error\nrt: base NOT PROVED\n" % self.path("crates", "base", "src", "lib.rt"), done.stderr)
+            shown = done.stderr.partition("\n")[2]
+            told = "bellpulsar: the engine is not proved; build/log has all that was said\n"
+            self.assertEqual(shown, "bellpulsar: text proved (1 of %d)\n" % len(crates(FEW)[1]) + FAILED + told)
             self.assertEqual(self.build("--check").returncode, 1)
         self.assertEqual(self.calls(), ["called"] * 2)
-        self.assertEqual(self.build(RT_JOBS="2").returncode, 2)
-        self.assertEqual(self.calls(), ["called"] * 4)
         self.assertEqual(self.run_in_tree("sh", "examples/c/run.sh", "point", *ASKED[1:]).returncode, 2)
 
     def test_a_static_library_that_fails(self):
         """Its proof, or what its archive is made of."""
-        alone = 'ar rcsD "lib$2.a" "$2.o"'
+        alone = 'ar rcsD "lib$here.a" "$here.o"'
         self.assertIn(alone, PROVES)
-        others = PROVES.replace(alone, 'cp "$2.o" more.o && %s more.o' % alone)
+        others = PROVES.replace(alone, 'cp "$here.o" more.o && %s more.o' % alone)
         self.edit("crates", "map", "src", "lib.rt")
-        for prover, told in ((FAILS_CALLS, "rt: capi_map NOT PROVED\n"), (others, "is not made of capi_map.o alone\n")):
+        fails = "== library capi_map\nerror: no library\n"
+        for prover, told in ((FAILS_CALLS, fails), (others, "is not made of capi_map.o alone\n")):
             self.stub("rt", prover)
             done = self.build()
             self.assertEqual((done.stdout, done.returncode), ("", 2))
             self.assertIn(told, done.stderr)
             self.assertEqual(self.build("--check").returncode, 1)
+
+    def test_a_later_crate_that_fails(self):
+        self.assertNotEqual(FAILS_LATER, PROVES)
+        self.stub("rt", FAILS_LATER)
+        self.edit("crates", "map", "src", "lib.rt")
+        done = self.build()
+        self.assertEqual((done.stdout, done.returncode), ("", 2))
+        told = "bellpulsar: the engine is not proved; build/log has all that was said\n"
+        self.assertRegex(done.stderr, r"\n== crates of capi_\w+\nerror: no such name\n" + told + "$")
 
     def test_a_compiler_that_fails(self):
         self.assertEqual(self.run_in_tree("sh", "examples/c/run.sh", "point", *ASKED[1:], CC="false").returncode, 2)
@@ -506,12 +557,12 @@ class Building(Case):
 class Killed(Case):
     """Whoever is killed, no prover runs on, and the next build is not held up."""
 
-    def prover_ends(self, command, number, prover=ENDLESS, processes=4):
+    def prover_ends(self, command, number, prover=ENDLESS):
         self.stub("rt", prover)
         self.edit("crates", "map", "src", "lib.rt")
-        options = {"env": dict(self.env, RT_JOBS="2"), "stderr": subprocess.DEVNULL, "start_new_session": True}
+        options = {"env": self.env, "stderr": subprocess.DEVNULL, "start_new_session": True}
         caller = subprocess.Popen(command, cwd=self.tree, preexec_fn=heed_signals, **options)
-        self.assertTrue(until(lambda: len(self.calls()) == processes))
+        self.assertTrue(until(lambda: len(self.calls()) == 2))
         processes = list(map(int, self.calls()))
         self.assertTrue(all(map(running, processes)))
         caller.send_signal(number)

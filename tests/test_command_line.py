@@ -2223,7 +2223,7 @@ def shown_in(sheet):
 
 def theorems():
     """The statements of the record Figures, by their names."""
-    fields = r"^  pub ([a-z][a-z-]*) : (.*(?:\n      .*)*)"
+    fields = r"^  pub ([a-z][a-z_]*) : (.*(?:\n      .*)*)"
     found = re.findall(fields, file_text("crates/figures/specs/Figures.antt"), re.MULTILINE)
     return {name: " ".join(statement.split()) for name, statement in found}
 
@@ -2238,8 +2238,8 @@ class RuleSheet(Case):
         most = re.search(r"^most n = (.*)$", file_text("crates/figures/specs/Word.antt"), re.MULTILINE)[1]
         cls.most = {int(n): int(figure) for n, figure in re.findall(r"\(eqb n (\d+)\) (\d+)", most)}
         cls.by_size = [(figure, 64 * n) for n, figure in cls.most.items()]
-        cls.row = cls.figure("b-row", r"countOf \(inRow \(n - 1\) k \(ofuscOf \(64 \* n\) a s b t \.hits\)\) ≤ (\d+)")
-        cls.amc = cls.figure("g-most", r"\(a ≡ b → ⊥\) → amcOf a b \.count ≤ (\d+)")
+        cls.row = cls.figure("b_row", r"count_of \(in_row \(n - 1\) k \(ofusc_of \(64 \* n\) a s b t\)\.hits\) ≤ (\d+)")
+        cls.amc = cls.figure("g_most", r"\(a ≡ b → ⊥\) → \(amc_of a b\)\.count ≤ (\d+)")
 
     @classmethod
     def figure(cls, name, end):
@@ -2252,10 +2252,10 @@ class RuleSheet(Case):
         self.assertEqual("".join(self.rules), "abcdefg")
         self.assertEqual([name for _, names in named for name in re.findall("`(.*?)`", names)], list(self.theorems))
         for letter, names in named:
-            self.assertRegex(names, "^`%s-[a-z-]+`(, `%s-[a-z-]+`)*$" % (letter, letter))
+            self.assertRegex(names, "^`%s_[a-z_]+`(, `%s_[a-z_]+`)*$" % (letter, letter))
 
     def test_limits_of_optional_fusc(self):
-        self.assertRegex(self.theorems["c-count"], r"\(a ≡ b → ⊥\) → ofuscOf \(64 \* n\) a s b t \.count ≤ most n$")
+        self.assertRegex(self.theorems["c_count"], r"\(a ≡ b → ⊥\) → \(ofusc_of \(64 \* n\) a s b t\)\.count ≤ most n$")
         self.assertEqual([size for _, size in self.by_size], ref.sizes(ref.OFUSC))
         share = "In optional FUSC, %s share a carrier in at most %%s." % ONE_AND_ONE
         rows = [(size // 64 - 1, size) for _, size in self.by_size]
@@ -2307,10 +2307,10 @@ class RuleSheet(Case):
             self.assertIn(told, " ".join(file_text(name).replace("\n *", " ").split()), name)
 
     def test_sum_and_one_cell(self):
-        total = self.figure("e-sum", r"sum n \(λ t\. ofuscOf \(64 \* n\) a s b t \.count\) ≡ (\d+)")
+        total = self.figure("e_sum", r"sum n \(λ t\. \(ofusc_of \(64 \* n\) a s b t\)\.count\) ≡ (\d+)")
         self.assertIn("add up to %d," % total, self.rules["e"])
-        equal = r"\(s ≡ t → ofuscOf \(64 \* n\) a s a t \.count ≡ (\d+)\) × \(\(s ≡ t → ⊥\) → .* ≡ 0\)"
-        every = self.figure("f-one-cell", equal)
+        equal = r"\(s ≡ t → \(ofusc_of \(64 \* n\) a s a t\)\.count ≡ (\d+)\) × \(\(s ≡ t → ⊥\) → .* ≡ 0\)"
+        every = self.figure("f_one_cell", equal)
         self.assertIn("in all %d groups of a symbol where both use the same subchannel, and in none" % every, self.rules["f"])
 
     def test_figure_of_amc(self):
@@ -2319,7 +2319,7 @@ class RuleSheet(Case):
         wanted += " %s have the same index on the same carrier of the same symbol" % ONE_AND_SAME
         wanted += " for at most %d of the 48 indices. " % self.amc
         self.assertTrue(self.rules["g"].startswith(wanted), self.rules["g"])
-        every = self.figure("g-same", r"amcOf a a \.count ≡ (\d+)")
+        every = self.figure("g_same", r"\(amc_of a a\)\.count ≡ (\d+)")
         wanted = "for %d of the 48 indices, and two stations with the same permutation base for all %d." % (self.amc, every)
         self.assertTrue(self.rules["g"].endswith(wanted), self.rules["g"])
 
@@ -2336,7 +2336,7 @@ class RuleSheet(Case):
         counts = [self.shown["ofusc", 256, 10, 0, 4, subchannel][0] for subchannel in range(4)]
         self.assertEqual(sum(counts), 48)
         self.assertEqual(self.shown["ofusc", 1024, 17, 3, 17, 4], (0, []))
-        marked = list(map(int, re.findall(r"Marked \(amcOf 48 176 \.hits\) (\d+)", self.theorems["g-reached"])))
+        marked = list(map(int, re.findall(r"Marked \(amc_of 48 176\)\.hits (\d+)", self.theorems["g_reached"])))
         self.assertEqual(self.shown["amc", 48, 176], (self.amc, marked))
 
     def test_reasons(self):

@@ -53,15 +53,15 @@ class Tree(unittest.TestCase):
 
 # A function that C can call, without and with a `requires`; and what is none of either.
 FREE = """\
-#[no_mangle]
+#[unsafe(no_mangle)]
 pub extern "C" fn bp_free(mode: u32) -> u32
-    ensures { λ r. ⌜ r ≡ mode ⌝ }
+    ensures { result ≡ mode }
 {
     mode
 }
 """
-BOUND = FREE.replace("bp_free", "bp_bound").replace("    ensures", "    requires { ⌜ mode < 8 ⌝ }\n    ensures")
-INNER = 'fn inner(mode: u32) -> u32\n    requires { ⌜ mode < 8 ⌝ }\n{\n    mode\n}\n'
+BOUND = FREE.replace("bp_free", "bp_bound").replace("    ensures", "    requires { mode < 8 }\n    ensures")
+INNER = 'fn inner(mode: u32) -> u32\n    requires { mode < 8 }\n{\n    mode\n}\n'
 
 
 class Finding(unittest.TestCase):
@@ -73,8 +73,8 @@ class Finding(unittest.TestCase):
             self.assertEqual(requiring(text), ["bp_bound"], text)
 
     def test_after_the_ensures_and_on_one_line(self):
-        last = FREE.replace("⌝ }\n{", "⌝ }\n    requires { ⌜ mode < 8 ⌝ }\n{")
-        line = 'pub extern fn bp_free(mode: u32) requires { ⌜ mode < 8 ⌝ } {}'
+        last = FREE.replace("mode }\n{", "mode }\n    requires { mode < 8 }\n{")
+        line = 'pub extern fn bp_free(mode: u32) requires { mode < 8 } {}'
         for text in (last, line, INNER + line):
             self.assertEqual(requiring(text), ["bp_free"], text)
 

@@ -79,7 +79,7 @@ def make(*words, tree=AWAY):
 
 def copy_of_the_tree():
     """As a clone is, with the library that was built from the same source."""
-    ignored = shutil.ignore_patterns(".git", "target", "build", "__pycache__")
+    ignored = shutil.ignore_patterns(".git", "target", "build", "out", "__pycache__")
     shutil.copytree(ROOT, TREE, symlinks=True, ignore=ignored)
     copy_built(ROOT, TREE, SHARED)
 

@@ -18,6 +18,7 @@ import sys
 import tarfile
 import tempfile
 import unittest
+import zipfile
 
 from programs import ANSWER, ASKED, C, CARGO, CPP, CPP_ANSWER, PYTHON, RUST
 from skips import told_skips
@@ -40,6 +41,7 @@ OUTSIDE = os.path.join(HOME, "outside")
 
 MISSING = "bellpulsar: the command rt of the Rattle toolchain, which proves and builds the engine, is not on PATH: install a"
 MISSING += " release of Bellpulsar, which needs no toolchain (README.md says how), or put rt on PATH\n"
+NOT_BUILT = "bellpulsar: the engine could not be built\n"
 
 has_git, has_cargo, has_cmake = (shutil.which(name) is not None for name in ("git", "cargo", "cmake"))
 has_pip, has_ensurepip = (importlib.util.find_spec(name) is not None for name in ("pip", "ensurepip"))
@@ -110,7 +112,7 @@ def setUpModule():
     """The tree is one that has a history and the library, and is out of reach once it is packed."""
     unittest.addModuleCleanup(shutil.rmtree, HOME)
     os.mkdir(OUTSIDE)
-    ignored = shutil.ignore_patterns(".git", "target", "build", "dist", "__pycache__", "Cargo.lock")
+    ignored = shutil.ignore_patterns(".git", "target", "build", "out", "dist", "__pycache__", "Cargo.lock")
     shutil.copytree(ROOT, TREE, symlinks=True, ignore=ignored)
     if has_git:
         for words in (["init", "--quiet"], ["add", "--all"], ["commit", "--quiet", "-m", "all"]):
@@ -141,6 +143,14 @@ class Packed(Case):
     def test_what_is_made(self):
         self.assertEqual(sorted(os.listdir(DIST)), sorted([STEM + ".tar.gz", DEB, wheel(), "MANIFEST"]))
         self.assertRegex(wheel(), r"^bellpulsar-%s-py3-none-(many)?linux\w+(\.manylinux2014_x86_64)?\.whl$" % VERSION)
+
+    def test_the_tags_of_the_wheel(self):
+        """Those in its name, a line for each."""
+        stem, _, joined = wheel()[: -len(".whl")].rpartition("-")
+        with zipfile.ZipFile(os.path.join(DIST, wheel())) as packed:
+            told = packed.read("bellpulsar-%s.dist-info/WHEEL" % VERSION).decode()
+        tags = ["py3-none-" + platform for platform in joined.split(".")]
+        self.assertEqual(re.findall("^Tag: (.*)$", told, re.MULTILINE), tags)
 
     def test_two_runs_give_the_same_bytes(self):
         """Though files have other times and nobody else may read what is new."""
@@ -382,7 +392,7 @@ class Debian(Case):
 
 
 class WithoutTheToolchain(Case):
-    """In a tree that is not built: what is missing, and what to do, in one sentence."""
+    """In a tree that is not built: what is missing, and what to do, in one sentence, and what was not done for it."""
 
     @classmethod
     def setUpClass(cls):
@@ -394,7 +404,7 @@ class WithoutTheToolchain(Case):
 
     def test_the_command(self):
         done = run([os.path.join(TREE, "bellpulsar"), *ASKED])
-        self.assertEqual((done.stdout, done.stderr, done.returncode), ("", MISSING, 2))
+        self.assertEqual((done.stdout, done.stderr, done.returncode), ("", MISSING + NOT_BUILT, 2))
 
     def test_make(self):
         for words in (["install", "DESTDIR=" + self.folder], ["dist"], []):
@@ -407,7 +417,10 @@ class WithoutTheToolchain(Case):
         for name in ("build_wheel", "build_editable"):
             lines = "import bellpulsar_wheel; bellpulsar_wheel.%s(%r)" % (name, self.folder)
             done = run([sys.executable, "-B", "-c", lines], PYTHONPATH=os.path.join(TREE, "python"))
-            self.assertEqual((done.stdout, done.stderr, done.returncode), ("", MISSING, 2), name)
+            self.assertEqual((done.stdout, done.returncode), ("", 1), name)
+            first, *_, last = done.stderr.splitlines(keepends=True)
+            self.assertEqual(first, MISSING, name)
+            self.assertIn("returned non-zero exit status 2", last, name)
 
     @unittest.skipUnless(has_pip, "pip is missing")
     def test_pip(self):
@@ -415,7 +428,7 @@ class WithoutTheToolchain(Case):
         pip = [sys.executable, "-m", "pip", "--isolated", "--disable-pip-version-check", "install", "--no-index"]
         done = run([*pip, "--target", self.folder, TREE])
         self.assertEqual((done.returncode, os.listdir(self.folder)), (1, []))
-        self.assertRegex(done.stderr, r"exit code: 2\n.*\[1 lines of output\]\n +" + re.escape(MISSING))
+        self.assertRegex(done.stderr, r"exit code: 1\n.*\[[0-9]+ lines of output\]\n +" + re.escape(MISSING))
 
     @unittest.skipUnless(has_cargo, "cargo is missing")
     def test_the_build_script(self):
@@ -423,9 +436,10 @@ class WithoutTheToolchain(Case):
         command = ["cargo", "check", "--offline", "--quiet", "--manifest-path", os.path.join(TREE, "rust", "Cargo.toml")]
         done = run(command, CARGO_TARGET_DIR=self.folder)
         self.assertEqual(done.returncode, 101)
-        self.assertIn("build-script-build` (exit status: 2)\n", done.stderr)
-        self.assertRegex(done.stderr, r"--- stderr\n +" + re.escape(MISSING))
-        self.assertEqual(done.stderr.count("bellpulsar: "), 1)
+        self.assertIn("build-script-build` (exit status: 1)\n", done.stderr)
+        told = r"--- stderr\n +%s +bellpulsar: %s/build.sh failed, as told above\n" % (re.escape(MISSING), re.escape(TREE))
+        self.assertRegex(done.stderr, told)
+        self.assertEqual(done.stderr.count("bellpulsar: "), 2)
 
 
 class Clean(Case):
@@ -435,7 +449,7 @@ class Clean(Case):
         kept = os.path.join(HOME, "kept")
         os.rename(os.path.join(TREE, "build"), kept)
         self.addCleanup(os.rename, kept, os.path.join(TREE, "build"))
-        for name in ("build/stamp", "dist/MANIFEST", "target/rlib/map", "rust/target/x", "examples/rust/target/x"):
+        for name in ("build/stamp", "dist/MANIFEST", "crates/map/out/x", "rust/target/x", "examples/rust/target/x"):
             write(TREE, name, "")
         for name in ("rust/Cargo.lock", "examples/rust/Cargo.lock", "tests/rust/Cargo.lock", "tests/rust/target/x"):
             write(TREE, name, "")

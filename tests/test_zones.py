@@ -1,7 +1,7 @@
 #!/usr/bin/env python3
 """Runs the compiled program `zones` and holds what it prints to the reference.
 
-    rt check zones && python3 tests/test_zones.py
+    (cd crates/zones && rt run <stdin) && python3 tests/test_zones.py
 
 The inputs: no bytes, the two zones of document 01's example, AMC's slot shapes, every mask, FUSC between other zones, every
 refusal that reading can meet, lengths about the 128 bytes that count, and input that arrives in pieces. Standard library only.
@@ -15,7 +15,7 @@ import time
 import reference as ref
 
 ROOT = os.path.dirname(os.path.dirname(os.path.abspath(__file__)))
-PROGRAM = os.path.join(ROOT, "target", "bin", "zones")
+PROGRAM = os.path.join(ROOT, "crates", "zones", "out", "zones")
 
 EXAMPLE = bytes.fromhex("0280080211030003B0010100")
 EXAMPLE_TEXT = "2 17 3 0\n3 176 1 0\n"

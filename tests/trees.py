@@ -21,4 +21,4 @@ def copy_built(root, tree, shared):
     """The library, as build.sh leaves it, from one tree to another of the same source."""
     os.makedirs(os.path.join(tree, "build", "link"))
     for name in ("libbellpulsar.a", shared, "link/libbellpulsar.so", "toolchain", "stamp"):
-        shutil.copy2(os.path.join(root, "build", name), os.path.join(tree, "build", name), follow_symlinks=False)
+        shutil.copy2(os.path.join(root, "build", name), os.path.join(tree, "build", name))

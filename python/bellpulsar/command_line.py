@@ -589,9 +589,7 @@ def main(arguments):
     except NotUnderstood as error:
         tell("%s: error: %s\n" % (error.usage, error))
         return FAILED
-    except subprocess.CalledProcessError as error:
-        if error.returncode == FAILED:  # the builder has told why
-            return FAILED
+    except subprocess.CalledProcessError:
         message = "the engine could not be built"
     except OSError as error:
         message = reason_of(error)

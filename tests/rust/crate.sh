@@ -76,8 +76,9 @@ installed() {
         "$root/build" "$1" >"$PKG_CONFIG_LIBDIR/bellpulsar.pc"
 }
 
-misses "bellpulsar: no libbellpulsar.a is found: take the crate of a release, which has it, or name its folder in"
-misses "(exit status: 2)"
+misses "bellpulsar: no libbellpulsar.a is found. Name its folder in BELLPULSAR_LIB_DIR, or install it"
+misses "The crate of a release has it."
+misses "(exit status: 1)"
 said="pkg-config is not here"
 if pkg-config --version >/dev/null 2>&1; then
     said="pkg-config"
@@ -108,11 +109,12 @@ finds "the crate's own folder"
 rm -r "$temp/project/rust/lib"
 
 # And now a clone, whose build.sh is run again where the engine's source has changed, and only there.
-mkdir -p "$temp/project/crates/capi_map" "$temp/project/include"
+mkdir -p "$temp/project/crates/capi_map/src" "$temp/project/include"
 touch "$temp/project/crates.txt" "$temp/project/include/bellpulsar.h"
 misses "a build that fails"
-misses "(exit status: 2)"
-if grep -q "^  bellpulsar: " "$temp/said"; then fail "more is said than build.sh says: $(cat "$temp/said")"; fi
+misses "build.sh failed, as told above"
+misses "(exit status: 1)"
+[ "$(grep -c "^  bellpulsar: " "$temp/said")" -eq 1 ] || fail "more than that is said beside build.sh: $(cat "$temp/said")"
 printf '#!/bin/sh\nkill -9 $$\n' >"$temp/project/build.sh"
 misses "build.sh ended with signal: 9"
 ln -s "$root/build" "$temp/project/build"
@@ -123,7 +125,10 @@ runs() {
 }
 runs 1
 runs 1
-touch "$temp/project/crates/capi_map/lib.rt"
+touch "$temp/project/crates/capi_map/src/lib.rt"
+runs 2
+mkdir "$temp/project/crates/capi_map/out"
+touch "$temp/project/crates/capi_map/out/libcapi_map.a"
 runs 2
 
 echo "rust: the crate is $major.$minor.$patch; editions 2021 and 2024; its library by BELLPULSAR_LIB_DIR, the crate, build.sh and $said"
