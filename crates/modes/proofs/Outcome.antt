@@ -1,10 +1,12 @@
 -- What the questions of a setup and of a carrier come to at each of their returns.
 use Rattle.base.proofs.Prelude.{◌≡◌, refl, sym, ap, ◌∙◌, Bool, true, false, ℕ, ◌<◌, ◌≤◌, arith}
-use Rattle.base.proofs.{Test.{told_no, told_yes}, Chain.{all_yes, is_refused, has_passed}}
+use Rattle.base.proofs.{Test.{told_yes}, Chain.{all_yes, is_refused, has_passed}}
 use mathlib.Core.Bool.{not}
 use lib.IntN.{ℤ}
 use mir.{Syntax.w32, Val.{SFits, to_z, of_z}, ValLaws.to_z-of_z}
-use Rattle.base.specs.Answer.{Answer, refused, refusal_of}
+use Rattle.base.specs.Answer.{Answer, accepted, refused, ask, refusal_of}
+use Rattle.refusal.specs.{declared.Refusal.Refusal, Refusal.number_of}
+use Rattle.refusal.proofs.Asked.{number_ne0, asked_yes}
 use Rattle.carriers.specs.{declared.Band.Band, Band.carrier_of}
 use Rattle.carriers.proofs.Guards.{carrier_lt}
 use Rattle.centre.specs.Centre.{in_range, on_row}
@@ -12,30 +14,30 @@ use Rattle.modes.specs.{Setup.Setup, Mode.band, Question.{is_mode, is_size, is_c
 use Rattle.modes.specs.Model.{refusal_at, setup_refusal, Ranged, Valid}
 use Rattle.modes.proofs.{Accept.{ranged_by, setup_questions}, ByMode.few, Whole.{band_law, centred}}
 
-pub now_ranged : (c : Setup) (k : ℕ) → k ≡ setup_refusal c → k ≡ 0 → Ranged c
+pub now_ranged : (c : Setup) → 0 ≡ setup_refusal c → Ranged c
 unfolding refusal_at is_mode is_size is_cell
-now_ranged c k e z = let y = all_yes (setup_questions c) tt (sym e ∙ z) in ranged_by c y.0 y.1.0 y.1.1.0
+now_ranged c e = let y = all_yes (setup_questions c) tt (sym e) in ranged_by c y.0 y.1.0 y.1.1.0
 
 -- and with question 20
-pub now_valid : (c : Setup) (k : ℕ) → k ≡ setup_refusal c → k ≡ 0 → (t : Bool) → t ≡ is_lent c → t ≡ true → Valid c
-now_valid c k e z t f y = record { ranged = now_ranged c k e z; is-lent = told_yes t f y }
+pub now_valid : (c : Setup) → 0 ≡ setup_refusal c → (t : Bool) → t ≡ is_lent c → (x : Unit {0}) → accepted x ≡ ask t 20 (accepted tt) → Valid c
+now_valid c e t f x y = record { ranged = now_ranged c e; is-lent = told_yes t f (asked_yes t 20 x y) }
 
--- questions 1, 2 and 3 before what comes after them, by the number that a function gave
-module _ {A : Type 0} (c : Setup) (rest : Answer A) (k : ℕ) (e : k ≡ setup_refusal c) where
-  pub refuses : (k ≡ 0 → ⊥) → refused k ≡ ask_setup c rest
+-- questions 1, 2 and 3 before what comes after them, by what the function that puts them says
+module _ {A : Type 0} (c : Setup) (rest : Answer A) where
+  pub refuses : (e : Refusal) → number_of e ≡ setup_refusal c → refused (number_of e) ≡ ask_setup c rest
   unfolding refusal_at is_mode is_size is_cell
-  refuses = is_refused (setup_questions c) tt rest k e
+  refuses e f = is_refused (setup_questions c) tt rest (number_of e) f (number_ne0 e)
 
-  pub lets_pass : k ≡ 0 → (a : Answer A) → a ≡ rest → a ≡ ask_setup c rest
+  pub lets_pass : 0 ≡ setup_refusal c → (a : Answer A) → a ≡ rest → a ≡ ask_setup c rest
   unfolding refusal_at is_mode is_size is_cell
-  lets_pass z a f = f ∙ has_passed (setup_questions c) tt rest k e z
+  lets_pass e a f = f ∙ has_passed (setup_questions c) tt rest 0 e refl
 
   -- the same of its number
-  pub setup_no : (k ≡ 0 → ⊥) → k ≡ refusal_of (ask_setup c rest)
-  setup_no ne = ap refusal_of (refuses ne)
+  pub setup_no : (e : Refusal) → number_of e ≡ setup_refusal c → number_of e ≡ refusal_of (ask_setup c rest)
+  setup_no e f = ap refusal_of (refuses e f)
 
-  pub setup_then : k ≡ 0 → (n : ℕ) → n ≡ refusal_of rest → n ≡ refusal_of (ask_setup c rest)
-  setup_then z n f = f ∙ ap refusal_of (lets_pass z rest refl)
+  pub setup_then : 0 ≡ setup_refusal c → (n : ℕ) → n ≡ refusal_of rest → n ≡ refusal_of (ask_setup c rest)
+  setup_then e n f = f ∙ ap refusal_of (lets_pass e rest refl)
 
 -- what counting from DC asks, and what it gives
 pub size_few : {c : Setup} → Ranged c → c.size ≤ 65536
@@ -49,17 +51,10 @@ pub carrier_in : (size : ℕ) (k : ℤ) (t : Bool) → t ≡ in_range size (to_z
 carrier_in size k t g yes' = sym g ∙ yes'
 
 module _ (c : Setup) (k : ℤ) (fits : SFits w32 k) (t : Bool) (g : t ≡ in_range c.size (to_z w32 (of_z w32 k))) where
-  asked : t ≡ is_carrier c k
+  pub carrier_same : t ≡ is_carrier c k
   unfolding is_carrier
-  asked = g ∙ ap (in_range c.size) (to_z-of_z w32 k fits)
+  carrier_same = g ∙ ap (in_range c.size) (to_z-of_z w32 k fits)
 
-  pub carrier_no : t ≡ false → is_carrier c k ≡ false
-  carrier_no = told_no t asked
-
-  module _ (yes' : t ≡ true) where
-    pub carrier_yes : is_carrier c k ≡ true
-    carrier_yes = told_yes t asked yes'
-
-    module _ (column : ℕ) (f : column ≡ on_row c.size (to_z w32 (of_z w32 k))) where
-      pub column-in : Ranged c → column < c.size
-      column-in v = rw f ((centred v).0.column_lt _ (carrier_in _ k t g yes'))
+  module _ (yes' : t ≡ true) (column : ℕ) (f : column ≡ on_row c.size (to_z w32 (of_z w32 k))) where
+    pub column-in : Ranged c → column < c.size
+    column-in v = rw f ((centred v).0.column_lt _ (carrier_in _ k t g yes'))

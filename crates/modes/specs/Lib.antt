@@ -2,3 +2,4 @@ pub mod Setup
 pub mod Mode
 pub mod Question
 pub mod Model
+pub mod Named

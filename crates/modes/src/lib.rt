@@ -2,13 +2,16 @@
 #![tactic(auto)]
 
 ghost use Rattle.std.specs.Prelude.{◌≡◌, false, ◌*◌, ◌/◌, ◌%◌, ◌<◌, ◌≤◌};
+ghost use Rattle.refusal.specs.Refusal.{refusal_in};
 ghost use Rattle.modes.specs.Setup.{alone, lent};
-ghost use Rattle.modes.specs.Mode.{is_amc, shape_of, width as WidthOf, cells as Cells, subchannels as Subchannels, symbols as Symbols, band as BandOf};
+ghost use Rattle.modes.specs.Named.{named};
+ghost use Rattle.modes.specs.Mode.{is_amc, width as WidthOf, cells as Cells, subchannels as Subchannels, symbols as Symbols, band as BandOf};
 ghost use Rattle.modes.specs.Question.{is_four_sizes, is_size, is_lent};
-ghost use Rattle.modes.specs.Model.{is_over_bins, setup_refusal, Ranged};
+ghost use Rattle.modes.specs.Model.{setup_refusal, Ranged};
 
 use amc::Shape;
 use carriers::Band;
+use refusal::{Refusal, ask};
 
 // What a zone fixes: mode, FFT size and cell.
 #[derive(Clone, Copy)]
@@ -18,58 +21,54 @@ pub struct Setup {
     pub cell: usize,
 }
 
+// The modes by name; AMC's four are one, with the shape of a slot.
+#[derive(Clone, Copy)]
+pub enum Mode {
+    PuscDl,
+    PuscUl,
+    Ofusc,
+    Amc(Shape),
+    Fusc,
+}
+
+// The mode of a number, or the refusal of question 1.
+impl TryFrom<usize> for Mode {
+    type Error = Refusal;
+
+    ghost try_from_gives = { λ number result. result ≡ named number };
+
+    fn try_from(number: usize) -> Result<Mode, Refusal> {
+        match number {
+            0 => Ok(Mode::PuscDl),
+            1 => Ok(Mode::PuscUl),
+            2 => Ok(Mode::Ofusc),
+            3 => Ok(Mode::Amc(Shape {
+                bins: 6,
+                symbols: 1,
+            })),
+            4 => Ok(Mode::Amc(Shape {
+                bins: 2,
+                symbols: 3,
+            })),
+            5 => Ok(Mode::Amc(Shape {
+                bins: 3,
+                symbols: 2,
+            })),
+            6 => Ok(Mode::Amc(Shape {
+                bins: 1,
+                symbols: 6,
+            })),
+            7 => Ok(Mode::Fusc),
+            _ => Err(Refusal::Mode),
+        }
+    }
+}
+
 // Is a mode one of AMC's?
 pub fn is_amc(mode: usize) -> bool
     ensures { result ≡ is_amc mode }
 {
-    if mode < 3 {
-        return false;
-    }
-    mode < 7
-}
-
-// Is a mode one over bins: optional FUSC or AMC?
-pub fn is_over_bins(mode: usize) -> bool
-    ensures { result ≡ is_over_bins mode }
-{
-    if mode < 2 {
-        return false;
-    }
-    mode < 7
-}
-
-// The shape of AMC's slots; no other mode has one.
-pub fn shape(mode: usize) -> Shape
-    ensures { result ≡ shape_of mode }
-{
-    if mode == 3 {
-        return Shape {
-            bins: 6,
-            symbols: 1,
-        };
-    }
-    if mode == 4 {
-        return Shape {
-            bins: 2,
-            symbols: 3,
-        };
-    }
-    if mode == 5 {
-        return Shape {
-            bins: 3,
-            symbols: 2,
-        };
-    }
-    if mode == 6 {
-        return Shape {
-            bins: 1,
-            symbols: 6,
-        };
-    }
-    Shape {
-        bins: 0,
-        symbols: 0,
-    }
+    (3..7).contains(&mode)
 }
 
 // N of the modes over bins.
@@ -83,65 +82,41 @@ fn cells(setup: Setup) -> usize
     requires { setup.size ≤ 2048 }
     ensures { result ≡ Cells (alone setup) }
 {
-    if setup.mode == 0 {
-        return 32;
+    match Mode::try_from(setup.mode) {
+        Ok(Mode::PuscDl) => 32,
+        Ok(Mode::PuscUl) => 70,
+        Ok(Mode::Ofusc) => width(setup) * width(setup),
+        Ok(Mode::Amc(_)) => 2352,
+        Ok(Mode::Fusc) => 32,
+        Err(_) => 0,
     }
-    if setup.mode == 1 {
-        return 70;
-    }
-    if setup.mode == 2 {
-        return width(setup) * width(setup);
-    }
-    if is_amc(setup.mode) {
-        return 2352;
-    }
-    if setup.mode == 7 {
-        return 32;
-    }
-    0
 }
 
 pub fn subchannels(setup: Setup) -> usize
     ensures { result ≡ Subchannels (alone setup) }
 {
-    if setup.mode == 0 {
-        return 60;
+    match Mode::try_from(setup.mode) {
+        Ok(Mode::PuscDl) => 60,
+        Ok(Mode::PuscUl) => 70,
+        Ok(Mode::Ofusc) => width(setup),
+        Ok(Mode::Amc(shape)) => width(setup) * shape.symbols,
+        Ok(Mode::Fusc) => 32,
+        Err(_) => 0,
     }
-    if setup.mode == 1 {
-        return 70;
-    }
-    if setup.mode == 2 {
-        return width(setup);
-    }
-    if is_amc(setup.mode) {
-        return width(setup) * shape(setup.mode).symbols;
-    }
-    if setup.mode == 7 {
-        return 32;
-    }
-    0
 }
 
 // Symbols a slot.
 pub fn symbols(setup: Setup) -> usize
     ensures { result ≡ Symbols (alone setup) }
 {
-    if setup.mode == 0 {
-        return 2;
+    match Mode::try_from(setup.mode) {
+        Ok(Mode::PuscDl) => 2,
+        Ok(Mode::PuscUl) => 3,
+        Ok(Mode::Ofusc) => 1,
+        Ok(Mode::Amc(shape)) => shape.symbols,
+        Ok(Mode::Fusc) => 1,
+        Err(_) => 0,
     }
-    if setup.mode == 1 {
-        return 3;
-    }
-    if setup.mode == 2 {
-        return 1;
-    }
-    if is_amc(setup.mode) {
-        return shape(setup.mode).symbols;
-    }
-    if setup.mode == 7 {
-        return 1;
-    }
-    0
 }
 
 // The slot of a zone's symbol, by a constant for each number of symbols.
@@ -149,17 +124,12 @@ pub fn slot_of(setup: Setup, symbol: usize) -> usize
     requires { Ranged (alone setup) }
     ensures { result ≡ symbol / Symbols (alone setup) }
 {
-    let n = symbols(setup);
-    if n == 1 {
-        return symbol;
+    match symbols(setup) {
+        1 => symbol,
+        2 => symbol / 2,
+        3 => symbol / 3,
+        _ => symbol / 6,
     }
-    if n == 2 {
-        return symbol / 2;
-    }
-    if n == 3 {
-        return symbol / 3;
-    }
-    symbol / 6
 }
 
 // The offset of a zone's symbol in its slot.
@@ -174,24 +144,19 @@ pub fn band(setup: Setup) -> Band
     requires { Ranged (alone setup) }
     ensures { result ≡ BandOf (alone setup) }
 {
-    if setup.mode == 0 {
-        return carriers::pusc_band();
-    }
-    if setup.mode == 1 {
-        return carriers::pusc_band();
-    }
-    if is_over_bins(setup.mode) {
-        return carriers::bin_band(width(setup));
-    }
-    if setup.mode == 7 {
-        return carriers::fusc_band();
-    }
-    Band {
-        left: 0,
-        right: 0,
-        dc: 0,
-        used: 0,
-        half: 0,
+    match Mode::try_from(setup.mode) {
+        Ok(Mode::PuscDl) => carriers::pusc_band(),
+        Ok(Mode::PuscUl) => carriers::pusc_band(),
+        Ok(Mode::Ofusc) => carriers::bin_band(width(setup)),
+        Ok(Mode::Amc(_)) => carriers::bin_band(width(setup)),
+        Ok(Mode::Fusc) => carriers::fusc_band(),
+        Err(_) => Band {
+            left: 0,
+            right: 0,
+            dc: 0,
+            used: 0,
+            half: 0,
+        },
     }
 }
 
@@ -199,50 +164,35 @@ pub fn band(setup: Setup) -> Band
 pub fn is_four_sizes(size: usize) -> bool
     ensures { result ≡ is_four_sizes size }
 {
-    if size == 256 {
-        return true;
+    match size {
+        256 => true,
+        512 => true,
+        1024 => true,
+        2048 => true,
+        _ => false,
     }
-    if size == 512 {
-        return true;
-    }
-    if size == 1024 {
-        return true;
-    }
-    size == 2048
 }
 
 fn is_size(setup: Setup) -> bool
     ensures { result ≡ is_size (alone setup) }
 {
-    if setup.mode == 0 {
-        return setup.size == 2048;
+    match Mode::try_from(setup.mode) {
+        Ok(Mode::PuscDl) => setup.size == 2048,
+        Ok(Mode::PuscUl) => setup.size == 2048,
+        Ok(Mode::Ofusc) => is_four_sizes(setup.size),
+        Ok(Mode::Amc(_)) => is_four_sizes(setup.size),
+        Ok(Mode::Fusc) => setup.size == 2048,
+        Err(_) => false,
     }
-    if setup.mode == 1 {
-        return setup.size == 2048;
-    }
-    if is_over_bins(setup.mode) {
-        return is_four_sizes(setup.size);
-    }
-    if setup.mode == 7 {
-        return setup.size == 2048;
-    }
-    false
 }
 
-// The number of the first of questions 1, 2 and 3 that is answered no, or 0.
-pub fn refusal(setup: Setup) -> u8
-    ensures { result ≡ setup_refusal (alone setup) }
+// Questions 1, 2 and 3.
+pub fn ask_setup(setup: Setup) -> Result<(), Refusal>
+    ensures { refusal_in result ≡ setup_refusal (alone setup) }
 {
-    if 8 <= setup.mode {
-        return 1;
-    }
-    if !is_size(setup) {
-        return 2;
-    }
-    if cells(setup) <= setup.cell {
-        return 3;
-    }
-    0
+    ask(setup.mode < 8, Refusal::Mode)?;
+    ask(is_size(setup), Refusal::Size)?;
+    ask(setup.cell < cells(setup), Refusal::Cell)
 }
 
 // Is the pilot list that is lent the mode's?
@@ -252,5 +202,5 @@ pub fn is_lent(setup: Setup, pilots: &[u32]) -> bool
     if setup.mode == 7 {
         return pilot_list::is_pilot_list(pilots);
     }
-    pilots.len() == 0
+    pilots.is_empty()
 }

@@ -9,4 +9,4 @@ returns-then-setup-eq7 c = rw (eq-eqb _ 7 c.if-setup-eq7.true) c.is_pilot_list.e
 
 pub returns : goal.returns
 unfolding is_lent
-returns c = rw (ne_eqb _ 7 c.if-setup-eq7.false)
+returns c = rw (ne_eqb _ 7 c.if-setup-eq7.false) c.is_empty.ensures

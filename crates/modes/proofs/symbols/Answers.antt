@@ -1,29 +1,29 @@
 -- `modes::symbols` meets its contract.
 use Rattle.base.proofs.Prelude.{rules}
-use Rattle.modes.proofs.{Choice.choosing}
 use Rattle.modes.specs.Mode.{symbols_of}
+use Rattle.modes.proofs.Named.{by_name, shape_named}
 use Rattle.modes.proofs.symbols.Goals as goal
 
-pub returns-then-setup-eq0 : goal.returns-then-setup-eq0
+pub returns-in-Ok-PuscDl : goal.returns-in-Ok-PuscDl
 unfolding symbols_of
-returns-then-setup-eq0 c = search (choosing, rules)
+returns-in-Ok-PuscDl c = search (by_name, rules)
 
-pub returns-then-setup-eq1 : goal.returns-then-setup-eq1
+pub returns-in-Ok-PuscUl : goal.returns-in-Ok-PuscUl
 unfolding symbols_of
-returns-then-setup-eq1 c = search (choosing, rules)
+returns-in-Ok-PuscUl c = search (by_name, rules)
 
-pub returns-then-setup-eq2 : goal.returns-then-setup-eq2
+pub returns-in-Ok-Ofusc : goal.returns-in-Ok-Ofusc
 unfolding symbols_of
-returns-then-setup-eq2 c = search (choosing, rules)
+returns-in-Ok-Ofusc c = search (by_name, rules)
 
-pub returns-then-is_amc : goal.returns-then-is_amc
+pub returns-in-Ok-Amc : goal.returns-in-Ok-Amc
 unfolding symbols_of
-returns-then-is_amc c = rw c.shape.ensures (search (choosing, rules))
+returns-in-Ok-Amc c = rw (shape_named _ _ c.try_from.ensures _ c.in-Ok-Amc.is c.in-Ok-Amc.field-0-is) (search (by_name, rules))
 
-pub returns-then-setup-eq7 : goal.returns-then-setup-eq7
+pub returns-in-Ok-Fusc : goal.returns-in-Ok-Fusc
 unfolding symbols_of
-returns-then-setup-eq7 c = search (choosing, rules)
+returns-in-Ok-Fusc c = search (by_name, rules)
 
-pub returns : goal.returns
+pub returns-in-Err : goal.returns-in-Err
 unfolding symbols_of
-returns c = search (choosing, rules)
+returns-in-Err c = search (by_name, rules)
