@@ -10,7 +10,7 @@ ghost use Rattle.modes.specs.Model.{Ranged, Valid};
 ghost use Rattle.formulas.specs.Formula.{is_pilot, spot_of, address_of};
 
 use carriers::{Address, DataNumber, Spot};
-use modes::Setup;
+use modes::{Mode, Setup};
 
 // Where a data number of a slot lies, whose first symbol has the number `first` in the zone.
 fn bin_spot(first: usize, x: DataNumber) -> Spot
@@ -41,24 +41,20 @@ pub fn spot(setup: Setup, slot: usize, subchannel: usize, index: usize, pilots: 
     requires slot_bound { (slot < 512) × (subchannel < Subchannels (alone setup)) × (index < 48) }
     ensures { result ≡ spot_of (lent setup pilots.now) slot subchannel index }
 {
-    if setup.mode == 0 {
-        return pusc_dl::spot(setup.cell, subchannel, index);
+    match Mode::try_from(setup.mode) {
+        Ok(Mode::PuscDl) => pusc_dl::spot(setup.cell, subchannel, index),
+        Ok(Mode::PuscUl) => pusc_ul::spot(setup.cell, subchannel, index),
+        Ok(Mode::Ofusc) => bin_spot(
+            slot * modes::symbols(setup),
+            ofusc_number(setup, subchannel, index),
+        ),
+        Ok(Mode::Amc(shape)) => bin_spot(
+            slot * modes::symbols(setup),
+            amc::data_number(shape, setup.cell, subchannel, index),
+        ),
+        Ok(Mode::Fusc) => fusc::spot(setup.cell, subchannel, index, pilots),
+        Err(_) => Spot { offset: 0, used: 0 },
     }
-    if setup.mode == 1 {
-        return pusc_ul::spot(setup.cell, subchannel, index);
-    }
-    if setup.mode == 7 {
-        return fusc::spot(setup.cell, subchannel, index, pilots);
-    }
-    let first = slot * modes::symbols(setup);
-    if setup.mode == 2 {
-        return bin_spot(first, ofusc_number(setup, subchannel, index));
-    }
-    if modes::is_amc(setup.mode) {
-        let x = amc::data_number(modes::shape(setup.mode), setup.cell, subchannel, index);
-        return bin_spot(first, x);
-    }
-    Spot { offset: 0, used: 0 }
 }
 
 // Is a used number a pilot in a symbol of the zone?
@@ -67,19 +63,14 @@ pub fn is_pilot(setup: Setup, symbol: usize, used: usize, pilots: &[u32]) -> boo
     requires used_bound { used < (BandOf (alone setup)).used }
     ensures { result ≡ is_pilot (lent setup pilots.now) symbol used }
 {
-    if setup.mode == 0 {
-        return clusters::is_pilot(symbol, used);
+    match Mode::try_from(setup.mode) {
+        Ok(Mode::PuscDl) => clusters::is_pilot(symbol, used),
+        Ok(Mode::PuscUl) => pusc_ul::is_pilot(symbol % 3, used),
+        Ok(Mode::Ofusc) => carriers::is_bin_pilot(symbol, used),
+        Ok(Mode::Amc(_)) => carriers::is_bin_pilot(symbol, used),
+        Ok(Mode::Fusc) => pilot_list::is_pilot(pilots, used),
+        Err(_) => false,
     }
-    if setup.mode == 1 {
-        return pusc_ul::is_pilot(symbol % 3, used);
-    }
-    if modes::is_over_bins(setup.mode) {
-        return carriers::is_bin_pilot(symbol, used);
-    }
-    if setup.mode == 7 {
-        return pilot_list::is_pilot(pilots, used);
-    }
-    false
 }
 
 // Whose point a used number holds that is no pilot.
@@ -89,29 +80,24 @@ pub fn address(setup: Setup, symbol: usize, used: usize, pilots: &[u32]) -> Addr
     requires used_value { is_pilot (lent setup pilots.now) symbol used ≡ false }
     ensures { result ≡ address_of (lent setup pilots.now) symbol used }
 {
-    if setup.mode == 0 {
-        return pusc_dl::address(setup.cell, symbol % 2, used);
-    }
-    if setup.mode == 1 {
-        return pusc_ul::address(setup.cell, symbol % 3, used);
-    }
-    if setup.mode == 7 {
-        return fusc::address(setup.cell, used, pilots);
-    }
-    let d = carriers::data_of_used(symbol, used);
-    if setup.mode == 2 {
-        return ofusc::address(modes::width(setup), setup.cell, d);
-    }
-    if modes::is_amc(setup.mode) {
-        return amc::address(
-            modes::shape(setup.mode),
+    match Mode::try_from(setup.mode) {
+        Ok(Mode::PuscDl) => pusc_dl::address(setup.cell, symbol % 2, used),
+        Ok(Mode::PuscUl) => pusc_ul::address(setup.cell, symbol % 3, used),
+        Ok(Mode::Ofusc) => ofusc::address(
+            modes::width(setup),
+            setup.cell,
+            carriers::data_of_used(symbol, used),
+        ),
+        Ok(Mode::Amc(shape)) => amc::address(
+            shape,
             setup.cell,
             modes::offset_of(setup, symbol),
-            d,
-        );
-    }
-    Address {
-        subchannel: 0,
-        index: 0,
+            carriers::data_of_used(symbol, used),
+        ),
+        Ok(Mode::Fusc) => fusc::address(setup.cell, used, pilots),
+        Err(_) => Address {
+            subchannel: 0,
+            index: 0,
+        },
     }
 }

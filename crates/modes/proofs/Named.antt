@@ -1,6 +1,6 @@
 -- What the name of a mode says of its number, and of a choice by the mode.
 use Rattle.std.proofs.Common.{◌≡◌, refl, sym, ap, ◌∙◌, true, false, ℕ, zero, suc, ◌<◌, ◌≤◌, arith, Result, Ok, Err}
-use Rattle.base.proofs.{Prelude.{eqb, eqb-true}, Test.{cases}}
+use Rattle.base.proofs.{Prelude.{Bool, eqb, eqb-true, eqb-false}, Test.{cases}}
 use Rattle.refusal.specs.declared.Refusal.{Refusal}
 use Rattle.refusal.specs.declared.Refusal.TheVariants as no
 use Rattle.modes.specs.declared.Mode.{Mode}
@@ -110,7 +110,6 @@ module _ (mode : ℕ) (r : Result Mode Refusal) (is : r ≡ named mode) (name : 
   pub shape_named : {shape : Shape} → name ≡ Amc shape → shape ≡ shape_of mode
   shape_named {shape} e = (amc_named mode shape (sym is ∙ ok ∙ ap (λ (m : Mode). Ok m) e)).1
 
-
 module _ (mode : ℕ) (r : Result Mode Refusal) (is : r ≡ named mode) (name : Mode) (ok : r ≡ Ok name) where
   pub amc_modes : {shape : Shape} → name ≡ Amc shape → IsAmc mode
   amc_modes {shape} e = told_amc (is_amc mode) refl (amc_named mode shape (sym is ∙ ok ∙ ap (λ (m : Mode). Ok m) e)).0
@@ -121,8 +120,28 @@ module _ (mode : ℕ) (r : Result Mode Refusal) (is : r ≡ named mode) (name : 
   pub is_shape : {shape : Shape} → name ≡ Amc shape → IsShape shape
   is_shape e = rw (shape_named mode r is name ok e) (amc_shape _ (amc_modes e))
 
+  pub pusc_dl_mode : name ≡ PuscDl → mode ≡ 0
+  pusc_dl_mode e = pusc_dl_named mode (sym is ∙ ok ∙ ap (λ (m : Mode). Ok m) e)
+
+  pub pusc_ul_mode : name ≡ PuscUl → mode ≡ 1
+  pusc_ul_mode e = pusc_ul_named mode (sym is ∙ ok ∙ ap (λ (m : Mode). Ok m) e)
+
   pub ofusc_mode : name ≡ Ofusc → mode ≡ 2
   ofusc_mode e = ofusc_named mode (sym is ∙ ok ∙ ap (λ (m : Mode). Ok m) e)
 
+  pub fusc_mode : name ≡ Fusc → mode ≡ 7
+  fusc_mode e = fusc_named mode (sym is ∙ ok ∙ ap (λ (m : Mode). Ok m) e)
+
   pub ofusc_bins : name ≡ Ofusc → OverBins mode
   ofusc_bins e = omega (arith, ofusc_mode e)
+
+-- what the name says, for `search`
+pub ruleset by_told = (pusc_dl_mode, pusc_ul_mode, ofusc_mode, fusc_mode, amc_modes, shape_named)
+
+-- ---- two modes by a test of their own, as the code has it
+
+pub is_number : {b : Bool} (mode k : ℕ) → b ≡ eqb mode k → b ≡ true → mode ≡ k
+is_number mode k e t = eqb-true mode k (sym e ∙ t)
+
+pub not_number : {b : Bool} (mode k : ℕ) → b ≡ eqb mode k → b ≡ false → mode ≡ k → ⊥
+not_number mode k e t = eqb-false mode k (sym e ∙ t)

@@ -1,7 +1,7 @@
 // Modes and their ranges: the columns of the table, and questions 1, 2, 3 and 20.
 #![tactic(auto)]
 
-ghost use Rattle.std.specs.Prelude.{◌≡◌, false, ◌*◌, ◌/◌, ◌%◌, ◌<◌, ◌≤◌};
+ghost use Rattle.std.specs.Prelude.{◌≡◌, ◌==◌, false, ◌*◌, ◌/◌, ◌%◌, ◌<◌, ◌≤◌};
 ghost use Rattle.refusal.specs.Refusal.{refusal_in};
 ghost use Rattle.modes.specs.Setup.{alone, lent};
 ghost use Rattle.modes.specs.Named.{named};
@@ -69,6 +69,20 @@ pub fn is_amc(mode: usize) -> bool
     ensures { result ≡ is_amc mode }
 {
     (3..7).contains(&mode)
+}
+
+// Does a mode take a mask of major groups? PUSC downlink alone does.
+pub fn takes_mask(mode: usize) -> bool
+    ensures { result ≡ (mode == 0) }
+{
+    mode == 0
+}
+
+// Does a mode take a list of pilots? FUSC alone does.
+pub fn takes_list(mode: usize) -> bool
+    ensures { result ≡ (mode == 7) }
+{
+    mode == 7
 }
 
 // N of the modes over bins.
@@ -199,7 +213,7 @@ pub fn ask_setup(setup: Setup) -> Result<(), Refusal>
 pub fn is_lent(setup: Setup, pilots: &[u32]) -> bool
     ensures { result ≡ is_lent (lent setup pilots.now) }
 {
-    if setup.mode == 7 {
+    if takes_list(setup.mode) {
         return pilot_list::is_pilot_list(pilots);
     }
     pilots.is_empty()

@@ -1,30 +1,33 @@
 -- `formulas::is_pilot` meets its contract.
 use Rattle.base.proofs.Prelude.{arith, rules}
-use Rattle.modes.proofs.{ByMode.few, Choice.choosing}
+use Rattle.modes.proofs.{ByMode.few, Named.by_name}
 use Rattle.formulas.specs.Formula.{is_pilot}
 use Rattle.formulas.proofs.is_pilot.Goals as goal
-use Rattle.pusc_ul.proofs.is_pilot.Reads as is-pilot-reads'
 
 -- a used number is small
-pub is_pilot-requires-then-setup-eq7 : goal.is_pilot-requires-then-setup-eq7
-is_pilot-requires-then-setup-eq7 c = let p = c.requires in omega (arith, few p.valid.ranged, p.used_bound)
+pub is_pilot-requires-in-Ok-Fusc : goal.is_pilot-requires-in-Ok-Fusc
+is_pilot-requires-in-Ok-Fusc c = let p = c.requires in omega (arith, few p.valid.ranged, p.used_bound)
 
-pub returns-then-setup-eq0 : goal.returns-then-setup-eq0
+pub returns-in-Ok-PuscDl : goal.returns-in-Ok-PuscDl
 unfolding is_pilot
-returns-then-setup-eq0 c = search (choosing, rules)
+returns-in-Ok-PuscDl c = search (by_name, rules)
 
-pub returns-then-setup-eq1 : goal.returns-then-setup-eq1
+pub returns-in-Ok-PuscUl : goal.returns-in-Ok-PuscUl
 unfolding is_pilot
-returns-then-setup-eq1 c = search (choosing, rules)
+returns-in-Ok-PuscUl c = search (by_name, rules)
 
-pub returns-then-is_over_bins : goal.returns-then-is_over_bins
+pub returns-in-Ok-Ofusc : goal.returns-in-Ok-Ofusc
 unfolding is_pilot
-returns-then-is_over_bins c = search (choosing, rules)
+returns-in-Ok-Ofusc c = search (by_name, rules)
 
-pub returns-then-setup-eq7 : goal.returns-then-setup-eq7
+pub returns-in-Ok-Amc : goal.returns-in-Ok-Amc
 unfolding is_pilot
-returns-then-setup-eq7 c = search (choosing, rules)
+returns-in-Ok-Amc c = search (by_name, rules)
 
-pub returns : goal.returns
+pub returns-in-Ok-Fusc : goal.returns-in-Ok-Fusc
 unfolding is_pilot
-returns c = search (choosing, rules)
+returns-in-Ok-Fusc c = search (by_name, rules)
+
+pub returns-in-Err : goal.returns-in-Err
+unfolding is_pilot
+returns-in-Err c = search (by_name, rules)

@@ -1,77 +1,76 @@
 -- `formulas::spot` meets its contract.
 use Rattle.base.proofs.Prelude.{refl, arith, rules}
-use Rattle.modes.proofs.Choice.{told_amc, choosing}
-use Rattle.modes.proofs.ByMode.{in_pusc_dl, in_pusc_ul, slot_few, ranged_alone}
+use Rattle.modes.proofs.{Named.{by_name, pusc_dl_mode, pusc_ul_mode, ofusc_mode, fusc_mode, amc_modes, shape_named}, ByMode.{in_pusc_dl, in_pusc_ul, slot_few, ranged_alone}}
 use Rattle.formulas.proofs.Asks.{ofusc_few, ofusc_spot, amc_asks, amc_few, amc_spot, fusc_asks}
 use Rattle.formulas.specs.Formula.{spot_of}
 use Rattle.formulas.proofs.spot.Goals as goal
-use Rattle.pusc_ul.proofs.spot.Reads as spot-reads'
 
 pub spot-requires : goal.spot-requires
-spot-requires c = omega (arith, in_pusc_dl c.requires.valid.ranged c.if-setup-eq0.true)
+spot-requires c = omega (arith, in_pusc_dl c.requires.valid.ranged (pusc_dl_mode _ _ c.try_from.ensures _ c.in-Ok-PuscDl.is c.in-Ok-PuscDl.field-0-is))
 
-pub spot-requires-then-setup-eq1 : goal.spot-requires-then-setup-eq1
-spot-requires-then-setup-eq1 c = omega (arith, in_pusc_ul c.requires.valid.ranged c.if-setup-eq1.true)
+pub spot-requires-in-Ok-PuscUl : goal.spot-requires-in-Ok-PuscUl
+spot-requires-in-Ok-PuscUl c = omega (arith, in_pusc_ul c.requires.valid.ranged (pusc_ul_mode _ _ c.try_from.ensures _ c.in-Ok-PuscUl.is c.in-Ok-PuscUl.field-0-is))
 
-pub spot-requires-then-setup-eq7 : goal.spot-requires-then-setup-eq7
-spot-requires-then-setup-eq7 c =
+pub spot-requires-in-Ok-Fusc : goal.spot-requires-in-Ok-Fusc
+spot-requires-in-Ok-Fusc c =
     let p = c.requires in
-    fusc_asks p.valid c.if-setup-eq7.true _ _ p.slot_bound.1 p.slot_bound.2
+    fusc_asks p.valid (fusc_mode _ _ c.try_from.ensures _ c.in-Ok-Fusc.is c.in-Ok-Fusc.field-0-is) _ _ p.slot_bound.1 p.slot_bound.2
 
-pub overflow_mul-first : goal.overflow_mul-first
-overflow_mul-first c =
-    let s = c in
-    omega (arith, slot_few s.requires.valid.ranged s.args.slot c.symbols.result s.requires.slot_bound.0 c.symbols.ensures)
+pub overflow_mul-slot : goal.overflow_mul-slot
+overflow_mul-slot c = omega (arith, slot_few c.requires.valid.ranged c.args.slot c.symbols.result c.requires.slot_bound.0 c.symbols.ensures)
+
+pub ofusc_number-requires : goal.ofusc_number-requires
+ofusc_number-requires c =
+    let p = c.requires in
+    record { ranged = ranged_alone p.valid; mode_value = (ofusc_mode _ _ c.try_from.ensures _ c.in-Ok-Ofusc.is c.in-Ok-Ofusc.field-0-is, p.slot_bound.1, p.slot_bound.2) }
 
 pub bin_spot-requires : goal.bin_spot-requires
 bin_spot-requires c =
-    let y = c.before.before.before in
-    let s = y in
-    let few = ofusc_few s.requires.valid.ranged _ refl _ _ s.requires.slot_bound.1 s.requires.slot_bound.2 c.if-setup-eq2.true in (
-      omega (arith, slot_few s.requires.valid.ranged s.args.slot y.symbols.result s.requires.slot_bound.0 y.symbols.ensures),
+    let p = c.requires in
+    let few = ofusc_few p.valid.ranged _ refl _ _ p.slot_bound.1 p.slot_bound.2 (ofusc_mode _ _ c.try_from.ensures _ c.in-Ok-Ofusc.is c.in-Ok-Ofusc.field-0-is) in (
+      omega (arith, slot_few p.valid.ranged c.args.slot c.symbols.result p.slot_bound.0 c.symbols.ensures),
       rw c.ofusc_number.ensures (omega arith),
       rw c.ofusc_number.ensures few,
     )
 
-pub data_number-x-requires : goal.data_number-x-requires
-data_number-x-requires c =
-    let p = c.requires in
-    amc_asks p.valid.ranged (search (told_amc, rules)) _ _ p.slot_bound.1 p.slot_bound.2 _ c.shape.ensures
+pub overflow_mul-slot-in-Ok-Amc : goal.overflow_mul-slot-in-Ok-Amc
+overflow_mul-slot-in-Ok-Amc c =
+    omega (arith, slot_few c.requires.valid.ranged c.args.slot c.symbols-in-Ok-Amc.result c.requires.slot_bound.0 c.symbols-in-Ok-Amc.ensures)
 
-pub bin_spot-requires-then-is_amc : goal.bin_spot-requires-then-is_amc
-bin_spot-requires-then-is_amc c =
-    let y = c.before.before.before.before.before.before in
-    let s = y in
-    let few = amc_few s.requires.valid.ranged (search (told_amc, rules)) _ _ s.requires.slot_bound.1 s.requires.slot_bound.2 _ c.shape.ensures in (
-      omega (arith, slot_few s.requires.valid.ranged s.args.slot y.symbols.result s.requires.slot_bound.0 y.symbols.ensures),
-      rw c.data_number-x.ensures few.0,
-      rw c.data_number-x.ensures few.1,
+pub data_number-requires : goal.data_number-requires
+data_number-requires c =
+    let p = c.requires in
+    amc_asks p.valid.ranged (amc_modes _ _ c.try_from.ensures _ c.in-Ok-Amc.is c.in-Ok-Amc.field-0-is) _ _ p.slot_bound.1 p.slot_bound.2 _ (shape_named _ _ c.try_from.ensures _ c.in-Ok-Amc.is c.in-Ok-Amc.field-0-is)
+
+pub bin_spot-requires-in-Ok-Amc : goal.bin_spot-requires-in-Ok-Amc
+bin_spot-requires-in-Ok-Amc c =
+    let p = c.requires in
+    let few = amc_few p.valid.ranged (amc_modes _ _ c.try_from.ensures _ c.in-Ok-Amc.is c.in-Ok-Amc.field-0-is) _ _ p.slot_bound.1 p.slot_bound.2 _ (shape_named _ _ c.try_from.ensures _ c.in-Ok-Amc.is c.in-Ok-Amc.field-0-is) in (
+      omega (arith, slot_few p.valid.ranged c.args.slot c.symbols-in-Ok-Amc.result p.slot_bound.0 c.symbols-in-Ok-Amc.ensures),
+      rw c.data_number.ensures few.0,
+      rw c.data_number.ensures few.1,
     )
 
-pub returns-then-setup-eq0 : goal.returns-then-setup-eq0
+pub returns-in-Ok-PuscDl : goal.returns-in-Ok-PuscDl
 unfolding spot_of
-returns-then-setup-eq0 c = search (choosing, rules)
+returns-in-Ok-PuscDl c = search (by_name, rules)
 
-pub returns-then-setup-eq1 : goal.returns-then-setup-eq1
+pub returns-in-Ok-PuscUl : goal.returns-in-Ok-PuscUl
 unfolding spot_of
-returns-then-setup-eq1 c = search (choosing, rules)
+returns-in-Ok-PuscUl c = search (by_name, rules)
 
-pub returns-then-setup-eq7 : goal.returns-then-setup-eq7
+pub returns-in-Ok-Ofusc : goal.returns-in-Ok-Ofusc
 unfolding spot_of
-returns-then-setup-eq7 c = search (choosing, rules)
+returns-in-Ok-Ofusc c = ofusc_spot _ _ _ _ _ c.symbols.ensures _ _ c.bin_spot.ensures (ofusc_mode _ _ c.try_from.ensures _ c.in-Ok-Ofusc.is c.in-Ok-Ofusc.field-0-is) c.ofusc_number.ensures
 
-pub ofusc_number-requires : goal.ofusc_number-requires
+pub returns-in-Ok-Amc : goal.returns-in-Ok-Amc
 unfolding spot_of
-ofusc_number-requires c = search (ranged_alone, rules)
+returns-in-Ok-Amc c = amc_spot _ _ _ _ _ c.symbols-in-Ok-Amc.ensures _ _ c.bin_spot-in-Ok-Amc.ensures (amc_modes _ _ c.try_from.ensures _ c.in-Ok-Amc.is c.in-Ok-Amc.field-0-is) _ (shape_named _ _ c.try_from.ensures _ c.in-Ok-Amc.is c.in-Ok-Amc.field-0-is) c.data_number.ensures
 
-pub returns-then-setup-eq2 : goal.returns-then-setup-eq2
+pub returns-in-Ok-Fusc : goal.returns-in-Ok-Fusc
 unfolding spot_of
-returns-then-setup-eq2 c = search (ofusc_spot, rules)
+returns-in-Ok-Fusc c = search (by_name, rules)
 
-pub returns-then-is_amc : goal.returns-then-is_amc
+pub returns-in-Err : goal.returns-in-Err
 unfolding spot_of
-returns-then-is_amc c = search (amc_spot, told_amc, rules)
-
-pub returns : goal.returns
-unfolding spot_of
-returns c = search (choosing, rules)
+returns-in-Err c = search (by_name, rules)
