@@ -7,6 +7,3 @@ use Rattle.point_numbers.proofs.numbers_by_run.Given as goal
 
 abbrev pub invariant-loop-i : goal.invariant-loop-i
 invariant-loop-i l = RunsTurn (alone l.setup) l.mask (l.slot * symbols (alone l.setup) + l.row) l.numbers l.i
-
-abbrev pub decreases-loop-i : goal.decreases-loop-i
-decreases-loop-i l = l.count - l.i

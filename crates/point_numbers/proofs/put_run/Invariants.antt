@@ -6,6 +6,3 @@ use Rattle.point_numbers.proofs.put_run.Given as goal
 
 abbrev pub invariant-loop-j : goal.invariant-loop-j
 invariant-loop-j l = WrittenOver 0 1680 12 (λ k. l.from + k) (entry l.own) l.initial.numbers l.numbers l.j
-
-abbrev pub decreases-loop-j : goal.decreases-loop-j
-decreases-loop-j l = 12 - l.j
