@@ -7,7 +7,6 @@ use Rattle.ofusc.proofs.Sequence.{size}
 use Rattle.modes.specs.{Setup.Setup, Mode.width, Model.{OverBins, Unlent, pusc-dl, pusc-ul, ofusc, amc, own}}
 use Rattle.modes.proofs.{Choice.{at_1, at_bins, by-mode}, ByMode.bin_width}
 use Rattle.mask.specs.Mask.{is_used_lit}
-use Rattle.clusters.specs.Cluster.{first_pilot, second_pilot}
 use Rattle.runs.specs.Model.{run_step, run_count, cluster_runs, tile_runs, bin_runs, run_first, run_second, runs_of, run_points}
 use Rattle.point_numbers.specs.Model.{run_number, run_stride, point_stride, NumbersBelow, RowNumbers, RunPut}
 use Rattle.runs.proofs.Law.{run_law, bin_apart, runs_bins, one_point, two_points, cluster_apart, few_points}

@@ -1,8 +1,7 @@
 -- `point_numbers::numbers_by_run` meets its contract.
-use Rattle.base.proofs.Prelude.{◌+◌, ◌-◌, ◌*◌, ◌<◌, ◌≤◌, arith, rules}
+use Rattle.base.proofs.Prelude.{◌+◌, ◌*◌}
 use Rattle.modes.specs.{Setup.alone, Mode.symbols}
-use Rattle.runs.specs.Model.{run_count}
-use Rattle.point_numbers.proofs.Filled.{RunsTurn, by_run, runs_none, runs_next, runs_all}
+use Rattle.point_numbers.proofs.Filled.{RunsTurn}
 use Rattle.point_numbers.proofs.numbers_by_run.Given as goal
 
 abbrev pub invariant-loop-i : goal.invariant-loop-i

@@ -1,7 +1,6 @@
 -- `point_numbers::put_run` meets its contract.
-use Rattle.base.proofs.{Prelude.{refl, ◌+◌, ◌-◌, arith, rules}, Tabulate.{WrittenOver, over_none, over_next}}
+use Rattle.base.proofs.{Prelude.{◌+◌}, Tabulate.{WrittenOver}}
 use Rattle.base.specs.Steps.{entry}
-use Rattle.point_numbers.proofs.{Filled.put_all}
 use Rattle.point_numbers.proofs.put_run.Given as goal
 
 abbrev pub invariant-loop-j : goal.invariant-loop-j
