@@ -2,12 +2,14 @@
 #![tactic(auto)]
 
 ghost use Rattle.std.specs.Prelude.{◌≡◌, ◌<◌};
+ghost use Rattle.refusal.specs.Refusal.{refusal_in};
 ghost use Rattle.modes.specs.Setup.{alone};
 ghost use Rattle.modes.specs.Model.{Ranged};
 ghost use Rattle.lengths.specs.Length.{grid_points, points_length, lit_points_length, grid_length};
 ghost use Rattle.lengths.specs.Model.{mask_refusal};
 
 use modes::Setup;
+use refusal::{Refusal, ask};
 
 // The points of a slot's grid.
 pub fn grid_points(setup: Setup) -> usize
@@ -26,10 +28,10 @@ pub fn points_length(mode: usize, size: usize) -> usize
         size,
         cell: 0,
     };
-    if modes::refusal(setup) != 0 {
-        return 0;
+    match modes::ask_setup(setup) {
+        Ok(()) => 96 * modes::subchannels(setup),
+        Err(_) => 0,
     }
-    96 * modes::subchannels(setup)
 }
 
 // The floats of the lit subchannels' points; 0 likewise, and for a mask out of its range.
@@ -41,10 +43,10 @@ pub fn lit_points_length(mode: usize, size: usize, mask: usize) -> usize
         size,
         cell: 0,
     };
-    if mask_refusal(setup, mask) != 0 {
-        return 0;
+    match ask_mask(setup, mask) {
+        Ok(()) => 96 * mask::lit_subchannels(setup, mask),
+        Err(_) => 0,
     }
-    96 * mask::lit_subchannels(setup, mask)
 }
 
 // The floats of a slot's grid; 0 as for the points.
@@ -56,22 +58,16 @@ pub fn grid_length(mode: usize, size: usize) -> usize
         size,
         cell: 0,
     };
-    if modes::refusal(setup) != 0 {
-        return 0;
+    match modes::ask_setup(setup) {
+        Ok(()) => 2 * grid_points(setup),
+        Err(_) => 0,
     }
-    2 * grid_points(setup)
 }
 
-// The number of the first of questions 1, 2, 3 and 17 that is answered no, or 0.
-pub fn mask_refusal(setup: Setup, mask: usize) -> u8
-    ensures { result ≡ mask_refusal (alone setup) mask }
+// Questions 1, 2, 3 and 17.
+pub fn ask_mask(setup: Setup, mask: usize) -> Result<(), Refusal>
+    ensures { refusal_in result ≡ mask_refusal (alone setup) mask }
 {
-    let k = modes::refusal(setup);
-    if k != 0 {
-        return k;
-    }
-    if !mask::is_mask(setup.mode, mask) {
-        return 17;
-    }
-    0
+    modes::ask_setup(setup)?;
+    ask(mask::is_mask(setup.mode, mask), Refusal::Mask)
 }

@@ -40,11 +40,11 @@ place_of setup slot subchannel index =
     (accepted (place_at setup slot (spot_of setup slot subchannel index)))))))
 
 -- The code's place; and what an answer of `place` says: document 01's values, or its number.
-abbrev pub placed_at : (p : Placed) → Place
-placed_at p = record { symbol = p.symbol; carrier = p.carrier }
+abbrev pub as_place : (p : Placed) → Place
+as_place p = record { symbol = p.symbol; carrier = p.carrier }
 
 abbrev pub placed : (answer : Result Placed Refusal) → Answer Place
-placed (Ok p) = accepted (placed_at p)
+placed (Ok p) = accepted (as_place p)
 placed (Err e) = refused (number_of e)
 
 -- what a carrier holds
@@ -74,12 +74,12 @@ locate_of setup symbol carrier =
     (accepted (content_of setup symbol (on_row setup.size carrier)))))
 
 -- The code's content; and what an answer of `locate` says.
-abbrev pub content_at : (content : Located) → Content
-content_at Guard = guard
-content_at Dc = dc
-content_at Pilot = pilot
-content_at (Data slot subchannel index) = point slot subchannel index
+abbrev pub as_content : (content : Located) → Content
+as_content Guard = guard
+as_content Dc = dc
+as_content Pilot = pilot
+as_content (Data slot subchannel index) = point slot subchannel index
 
 abbrev pub located : (answer : Result Located Refusal) → Answer Content
-located (Ok content) = accepted (content_at content)
+located (Ok content) = accepted (as_content content)
 located (Err e) = refused (number_of e)

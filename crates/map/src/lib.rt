@@ -5,7 +5,7 @@ ghost use Rattle.std.specs.Prelude.{◌≡◌, ◌<◌};
 ghost use Rattle.modes.specs.Setup.{alone, lent};
 ghost use Rattle.modes.specs.Mode.{symbols as Symbols, band as BandOf};
 ghost use Rattle.modes.specs.Model.{Ranged, Valid};
-ghost use Rattle.map.specs.Place.{placed_at, placed, place_at, place_of, content_at, located, content_of, locate_of};
+ghost use Rattle.map.specs.Place.{as_place, placed, place_at, place_of, as_content, located, content_of, locate_of};
 
 use carriers::Spot;
 use modes::Setup;
@@ -35,7 +35,7 @@ pub enum Located {
 fn at(setup: Setup, slot: usize, x: Spot) -> Placed
     requires ranged { Ranged (alone setup) }
     requires slot_bound { (slot < 512) × (x.offset < Symbols (alone setup)) × (x.used < (BandOf (alone setup)).used) }
-    ensures { placed_at result ≡ place_at (alone setup) slot x }
+    ensures { as_place result ≡ place_at (alone setup) slot x }
 {
     let column = carriers::carrier(modes::band(setup), x.used);
     Placed {
@@ -67,7 +67,7 @@ pub fn place(
 pub fn content(setup: Setup, symbol: usize, column: usize, pilots: &[u32]) -> Located
     requires valid { Valid (lent setup pilots.now) }
     requires column_lt_size { column < setup.size }
-    ensures { content_at result ≡ content_of (lent setup pilots.now) symbol column }
+    ensures { as_content result ≡ content_of (lent setup pilots.now) symbol column }
 {
     let b = modes::band(setup);
     if carriers::is_guard(b, setup.size, column) {

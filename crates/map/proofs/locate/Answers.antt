@@ -11,7 +11,7 @@ pub overflow_mul-symbols : goal.overflow_mul-symbols
 overflow_mul-symbols c = omega (arith, few (now_ranged (alone c.args.setup) c.in_ok-ask_setup.ensures))
 
 pub in_range-requires : goal.in_range-requires
-in_range-requires c = size_few (now_ranged (alone c.args.setup) c.in_ok-ask_setup.ensures)
+in_range-requires c = omega (arith, size_few (now_ranged (alone c.args.setup) c.in_ok-ask_setup.ensures))
 
 pub column-column-requires : goal.column-column-requires
 column-column-requires c = (size_few (now_ranged (alone c.args.setup) c.in_ok-ask_setup.ensures), carrier_in _ c.args.carrier _ c.in_range.ensures (asked_yes _ _ _ c.in_ok-ask-2.ensures))
