@@ -9,7 +9,6 @@ ghost use Rattle.lengths.specs.Length.{grid_points};
 ghost use Rattle.run_walk.specs.Model.{Took};
 ghost use Rattle.fusc_walk.specs.Model.{ColumnsWithin, Dropped};
 
-use base::wide16;
 use modes::Setup;
 use points::{point_at, put_point};
 
@@ -25,15 +24,13 @@ fn drop_points(
     requires { ColumnsWithin columns.now numbers.now (length grid.now) (length points.old) }
     ensures { Dropped columns.now numbers.now carriers grid.now points.old points.new }
 {
-    let mut d = 0;
-    while d < 1536 {
-        let column = wide16(columns[d]);
+    for d in 0..1536 {
+        let column = usize::from(columns[d]);
         if carriers <= column {
             return;
         }
-        let number = wide16(numbers[d]);
+        let number = usize::from(numbers[d]);
         put_point(points, number, point_at(grid, column));
-        d += 1;
     }
 }
 

@@ -2,12 +2,11 @@
 #![tactic(auto)]
 
 ghost use Rattle.std.specs.Prelude.{◌≡◌, ◌*◌, ◌<◌, ◌≤◌};
-ghost use Rattle.base.specs.Answer.{accepted};
 ghost use Rattle.carriers.specs.Band.{used_of};
 ghost use Rattle.modes.specs.Setup.{alone, lent};
 ghost use Rattle.modes.specs.Mode.{symbols, band};
 ghost use Rattle.modes.specs.Model.{Ranged, Valid};
-ghost use Rattle.map.specs.Place.{located};
+ghost use Rattle.map.specs.Place.{as_content};
 ghost use Rattle.mask.specs.Mask.{is_used_lit, lit_content};
 
 use map::Located;
@@ -32,39 +31,14 @@ pub fn lit_content(
 ) -> Located
     requires valid { Valid (lent setup pilots.now) }
     requires symbol_bound { (symbol < 512 * symbols (alone setup)) × (column < setup.size) }
-    ensures { located result ≡ accepted (lit_content (lent setup pilots.now) mask symbol column) }
+    ensures { as_content result ≡ lit_content (lent setup pilots.now) mask symbol column }
 {
-    match map::content(setup, symbol, column, pilots) {
-        Located::Guard => Located::Guard,
-        Located::Dc => {
-            if is_column_lit(setup, mask, column) {
-                Located::Dc
-            } else {
-                Located::Guard
-            }
-        }
-        Located::Pilot => {
-            if is_column_lit(setup, mask, column) {
-                Located::Pilot
-            } else {
-                Located::Guard
-            }
-        }
-        Located::Data {
-            slot,
-            subchannel,
-            index,
-        } => {
-            if mask::is_lit(setup, mask, subchannel) {
-                Located::Data {
-                    slot,
-                    subchannel,
-                    index,
-                }
-            } else {
-                Located::Guard
-            }
-        }
-        Located::Refused(number) => Located::Refused(number),
-    }
+    let content = map::content(setup, symbol, column, pilots);
+    let is_lit = match content {
+        Located::Guard => false,
+        Located::Dc => is_column_lit(setup, mask, column),
+        Located::Pilot => is_column_lit(setup, mask, column),
+        Located::Data { subchannel, .. } => mask::is_lit(setup, mask, subchannel),
+    };
+    if is_lit { content } else { Located::Guard }
 }

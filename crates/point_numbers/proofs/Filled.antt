@@ -7,10 +7,9 @@ use Rattle.ofusc.proofs.Sequence.{size}
 use Rattle.modes.specs.{Setup.Setup, Mode.width, Model.{OverBins, Unlent, pusc-dl, pusc-ul, ofusc, amc, own}}
 use Rattle.modes.proofs.{Choice.{at_1, at_bins, by-mode}, ByMode.bin_width}
 use Rattle.mask.specs.Mask.{is_used_lit}
-use Rattle.clusters.specs.Cluster.{first_pilot, second_pilot}
-use Rattle.runs.specs.Model.{run_step, run_count, tile_runs, run_first, run_second, runs_of, run_points}
+use Rattle.runs.specs.Model.{run_step, run_count, cluster_runs, tile_runs, bin_runs, run_first, run_second, runs_of, run_points}
 use Rattle.point_numbers.specs.Model.{run_number, run_stride, point_stride, NumbersBelow, RowNumbers, RunPut}
-use Rattle.runs.proofs.Law.{run_law, bin_runs, bin_apart, runs_bins, one_point, two_points, cluster_apart, few_points}
+use Rattle.runs.proofs.Law.{run_law, bin_apart, runs_bins, one_point, two_points, cluster_apart, few_points}
 
 -- a run that the loop has put
 pub put_all : {before own : List ℕ} (from : ℕ) {after : List ℕ} {j : ℕ} → WrittenOver 0 1680 12 (λ k. from + k) (entry own) before after j → 12 ≤ j → length before ≡ 1680
@@ -45,12 +44,15 @@ by_run (pusc-dl h) y ne =
     let a = cluster_apart y in
     record {
       run_room = λ i l. omega arith;
-      points_room = omega (arith, two_points (record { first = first_pilot y; second = second_pilot y; step = 14; count = 120 }) a.0 a.1);
+      points_room = omega (arith, two_points (cluster_runs y) a.0 a.1);
       next_point = refl;
     }
 by_run (pusc-ul h) y ne = absurd (ne refl)
 by_run {c} (ofusc {pilots = lent} w h) y ne = bins_by_run c y (omega arith) (size (bin_width (own (ofusc {pilots = lent} w h)) (omega arith))).most
 by_run {c} (amc {pilots = lent} q w h) y ne = bins_by_run c y (omega arith) (size (bin_width (own (amc {pilots = lent} q w h)) (omega arith))).most
+
+pub room : {c : Setup} → Unlent c → (c.mode ≡ 1 → ⊥) → (i stride : ℕ) → stride ≡ run_stride c → (count : ℕ) → count ≡ run_count c → i < count → i * stride + 12 ≤ 1680
+room v ne i stride e count f h = rw e ((by_run v 0 ne).run_room i (omega arith))
 
 -- what holds before each turn of the loop over runs: the numbers of the first i are there
 pub record RunsTurn (c : Setup) (mask y : ℕ) (numbers : List ℕ) (i : ℕ) : Type 0 where

@@ -15,10 +15,10 @@ use Rattle.mask.specs.Mask.{is_lit_of, is_lit, is_used_lit_of, is_used_lit}
 use Rattle.clusters.specs.Cluster.{first_pilot, second_pilot, cluster_place}
 use Rattle.pusc_dl_lit.specs.Lit.{has_group}
 use Rattle.pusc_dl.specs.Map.{used_group}
-use Rattle.runs.specs.{declared.Runs.Runs, Model.{run_step, run_count, tile_runs, run_first, run_second, runs_of, run_place, run_points}}
+use Rattle.runs.specs.{declared.Runs.Runs, Model.{run_step, run_count, cluster_runs, tile_runs, bin_runs, run_first, run_second, runs_of, run_place, run_points}}
 use Rattle.point_numbers.specs.Model.{number_at, run_number, run_stride, point_stride, RowNumbers, run_entries, run_entry, RunTable, place_entries}
 use Rattle.point_numbers.specs.Model.{place_entry, PlaceTable}
-use Rattle.runs.proofs.Law.{bin_runs, bin_apart, runs_bins, two_points, one_point, all_points, cluster_apart}
+use Rattle.runs.proofs.Law.{bin_apart, runs_bins, two_points, one_point, all_points, cluster_apart}
 use Rattle.pusc_ul.specs.Tile.{tile_subchannel}
 use Rattle.pusc_dl_points.specs.Model as dl
 use Rattle.pusc_ul_rows.specs.Model as ul
@@ -64,9 +64,8 @@ module _ (c : Setup) where
 
 -- the others have none
 module _ (c : Setup) (table : List ℕ) where
-  pub no_runs : (mask : ℕ) → OverBins c.mode → RunTable c mask table
-  unfolding run_entries
-  no_runs mask o k k_lt = let none : 0 ≡ run_entries c = by-mode (at_bins o) in absurd (omega arith)
+  pub no_runs : (mask : ℕ) → 0 ≡ run_entries c → RunTable c mask table
+  no_runs mask none k k_lt = absurd (omega arith)
 
   pub no_places : 0 ≡ place_entries c → PlaceTable c table
   no_places none k k_lt = absurd (omega arith)
@@ -92,9 +91,8 @@ module _ (mask slot row i : ℕ) (r : List ℕ) where
       λ j hj.
       let y = slot * 2 + row in
       let a = cluster_apart y in
-      let b : Runs = record { first = first_pilot y; second = second_pilot y; step = 14; count = 120 } in
       let offset : y % 2 ≡ row = omega arith in
-      s lit j (omega (arith, two_points b a.0 a.1))
+      s lit j (omega (arith, two_points (cluster_runs y) a.0 a.1))
       ∙ sym (rw (offset, cluster-place slot row j))
   numbers_0 (pusc-ul h) q hr s lit = absurd (omega arith)
   numbers_0 (ofusc w h) q hr s lit = absurd (omega arith)

@@ -10,7 +10,7 @@ ghost use Rattle.mask.specs.Mask.{is_used_lit};
 ghost use Rattle.runs.specs.Model.{run_step, run_count, runs_of, run_points};
 ghost use Rattle.point_numbers.specs.Model.{run_number, run_stride, point_stride, RowNumbers, RunPut, RunTable, PlaceTable};
 
-use modes::Setup;
+use modes::{Mode, Setup};
 
 // What setup and mask fix of the clusters or of the first seventy tiles, in PUSC; no other mode reads it.
 pub fn run_table(setup: Setup, mask: usize) -> [u16; 120]
@@ -18,13 +18,14 @@ pub fn run_table(setup: Setup, mask: usize) -> [u16; 120]
     requires mask_bound { mask < 64 }
     ensures { RunTable (alone setup) mask result }
 {
-    if setup.mode == 0 {
-        return pusc_dl_points::clusters(setup.cell, mask);
+    match Mode::try_from(setup.mode) {
+        Ok(Mode::PuscDl) => pusc_dl_points::clusters(setup.cell, mask),
+        Ok(Mode::PuscUl) => pusc_ul_rows::tiles(setup.cell),
+        Ok(Mode::Ofusc) => [0; 120],
+        Ok(Mode::Amc(_)) => [0; 120],
+        Ok(Mode::Fusc) => [0; 120],
+        Err(_) => [0; 120],
     }
-    if setup.mode == 1 {
-        return pusc_ul_rows::tiles(setup.cell);
-    }
-    [0; 120]
 }
 
 // What the setup fixes of the places of all runs; nothing in PUSC uplink.
@@ -32,19 +33,14 @@ pub fn place_table(setup: Setup) -> [u16; 48]
     requires { Unlent (alone setup) }
     ensures { PlaceTable (alone setup) result }
 {
-    if setup.mode == 0 {
-        return pusc_dl_points::inverses(setup.cell);
+    match Mode::try_from(setup.mode) {
+        Ok(Mode::PuscDl) => pusc_dl_points::inverses(setup.cell),
+        Ok(Mode::PuscUl) => [0; 48],
+        Ok(Mode::Ofusc) => ofusc_rows::table(modes::width(setup), setup.cell),
+        Ok(Mode::Amc(_)) => amc_rows::indices(setup.cell),
+        Ok(Mode::Fusc) => [0; 48],
+        Err(_) => [0; 48],
     }
-    if setup.mode == 1 {
-        return [0; 48];
-    }
-    if setup.mode == 2 {
-        return ofusc_rows::table(modes::width(setup), setup.cell);
-    }
-    if modes::is_amc(setup.mode) {
-        return amc_rows::indices(setup.cell);
-    }
-    [0; 48]
 }
 
 // How far apart the numbers of two runs in a row are in a row's table, and those of two points of a run.
@@ -58,16 +54,14 @@ pub fn row_strides(setup: Setup) -> Strides
     requires { Unlent (alone setup) }
     ensures { (result.run ≡ run_stride (alone setup)) × (result.point ≡ point_stride (alone setup)) }
 {
-    if setup.mode == 0 {
-        return Strides { run: 12, point: 1 };
+    match Mode::try_from(setup.mode) {
+        Ok(Mode::PuscDl) => Strides { run: 12, point: 1 },
+        Ok(Mode::PuscUl) => Strides { run: 1, point: 420 },
+        Ok(Mode::Ofusc) => Strides { run: 8, point: 1 },
+        Ok(Mode::Amc(_)) => Strides { run: 8, point: 1 },
+        Ok(Mode::Fusc) => Strides { run: 0, point: 0 },
+        Err(_) => Strides { run: 0, point: 0 },
     }
-    if setup.mode == 1 {
-        return Strides { run: 1, point: 420 };
-    }
-    if modes::is_over_bins(setup.mode) {
-        return Strides { run: 8, point: 1 };
-    }
-    Strides { run: 0, point: 0 }
 }
 
 // The numbers of the points on run i of a row of the slot, by rising carrier, where it is lit; not in PUSC uplink.
@@ -85,16 +79,16 @@ fn run_numbers(
     requires run_table { RunTable (alone setup) mask runs.now × PlaceTable (alone setup) places.now }
     ensures { is_used_lit (alone setup) mask (i * run_step (alone setup)) ≡ true → Starts (run_points (runs_of (alone setup) (slot * symbols (alone setup) + row))) (run_number (alone setup) mask (slot * symbols (alone setup) + row) i) result }
 {
-    if setup.mode == 0 {
-        return pusc_dl_points::cluster_points(setup.cell, mask, row, i, runs, places);
+    match Mode::try_from(setup.mode) {
+        Ok(Mode::PuscDl) => {
+            pusc_dl_points::cluster_points(setup.cell, mask, row, i, runs, places)
+        }
+        Ok(Mode::PuscUl) => [0; 12],
+        Ok(Mode::Ofusc) => ofusc_rows::bin_points(modes::width(setup), setup.cell, i, places),
+        Ok(Mode::Amc(shape)) => amc_rows::bin_points(shape, setup.cell, row, i, places),
+        Ok(Mode::Fusc) => [0; 12],
+        Err(_) => [0; 12],
     }
-    if setup.mode == 2 {
-        return ofusc_rows::bin_points(modes::width(setup), setup.cell, i, places);
-    }
-    if modes::is_amc(setup.mode) {
-        return amc_rows::bin_points(modes::shape(setup.mode), setup.cell, row, i, places);
-    }
-    [0; 12]
 }
 
 // A run's numbers put into a row's table.
@@ -102,10 +96,8 @@ fn put_run(numbers: &mut [u16; 1680], from: usize, own: &[u16; 12])
     requires { (from + 12 ≤ 1680) × (length numbers.old ≡ 1680) }
     ensures { RunPut numbers.old own.now from numbers.new }
 {
-    let mut j = 0;
-    while j < 12 {
+    for j in 0..12 {
         numbers[from + j] = own[j];
-        j += 1;
     }
 }
 
@@ -126,11 +118,9 @@ fn numbers_by_run(
 {
     let stride = row_strides(setup).run;
     let mut numbers = [0; 1680];
-    let mut i = 0;
-    while i < count {
+    for i in 0..count {
         let own = run_numbers(setup, mask, slot, row, i, runs, places);
         put_run(&mut numbers, i * stride, &own);
-        i += 1;
     }
     numbers
 }
@@ -150,8 +140,12 @@ pub fn row_numbers(
     requires run_table { RunTable (alone setup) mask runs.now × PlaceTable (alone setup) places.now }
     ensures { RowNumbers (alone setup) mask (slot * symbols (alone setup) + row) result }
 {
-    if setup.mode == 1 {
-        return pusc_ul_rows::row_numbers(setup.cell, row, runs);
+    match Mode::try_from(setup.mode) {
+        Ok(Mode::PuscDl) => numbers_by_run(setup, mask, slot, row, count, runs, places),
+        Ok(Mode::PuscUl) => pusc_ul_rows::row_numbers(setup.cell, row, runs),
+        Ok(Mode::Ofusc) => numbers_by_run(setup, mask, slot, row, count, runs, places),
+        Ok(Mode::Amc(_)) => numbers_by_run(setup, mask, slot, row, count, runs, places),
+        Ok(Mode::Fusc) => [0; 1680],
+        Err(_) => [0; 1680],
     }
-    numbers_by_run(setup, mask, slot, row, count, runs, places)
 }

@@ -41,8 +41,7 @@ pub fn empty_row(
     let strides = point_numbers::row_strides(setup);
     let numbers = point_numbers::row_numbers(setup, mask, slot, row, shape.count, runs, places);
     let band = modes::band(setup);
-    let mut i = 0;
-    while i < shape.count {
+    for i in 0..shape.count {
         let start = first + carriers::carrier(band, i * shape.step);
         if carriers <= start {
             return;
@@ -64,6 +63,5 @@ pub fn empty_row(
             grid,
             points,
         );
-        i += 1;
     }
 }

@@ -1,5 +1,5 @@
 -- A subchannel's row of carriers, from the table and the rows of its mode.
-use Rattle.base.proofs.{Prelude.{◌≡◌, refl, sym, ap, ap₂, ◌∙◌, List, ℕ, ◌+◌, ◌*◌, ◌%◌, ◌<◌, ◌≤◌, digits_lt, lit<, eqb, arith}, Test.cases}
+use Rattle.base.proofs.{Prelude.{◌≡◌, refl, sym, ap, ap₂, ◌∙◌, true, false, List, ℕ, ◌+◌, ◌*◌, ◌%◌, ◌<◌, ◌≤◌, digits_lt, lit<, eqb, arith}, Test.cases}
 use Rattle.base.proofs.Tabulate.{entry_of, turned_row, turned_by, turned_below}
 use Rattle.base.specs.{Steps.entry, Tabulate.tabulate, Model.{Starts, Below, Turned}}
 use Rattle.carriers.specs.{declared.Spot.Spot, Band.{bin_band, fusc_band, carrier_of}, Bin.used_of_data, Law.DataSpot}
@@ -12,7 +12,7 @@ use Rattle.amc_rows.specs.Model.{EvenWidth}
 use Rattle.amc_rows.proofs.Row.{carrier-at}
 use Rattle.pusc_ul_rows.proofs.Row.{number_on_place}
 use Rattle.carriers.proofs.Row.{step_carrier}
-use Rattle.modes.specs.{Setup.Setup, Mode.{is_amc, shape_of, width, width_of, subchannels, symbols, symbols_of, band, band_of}}
+use Rattle.modes.specs.{Setup.Setup, Mode.{by_mode, is_amc, shape_of, width, width_of, subchannels, symbols, symbols_of, band, band_of}}
 use Rattle.formulas.specs.Formula.{is_pilot, spot_of}
 use Rattle.modes.specs.Model.{IsAmc, pusc-dl, pusc-ul, ofusc, amc, Ranged, own, fusc, Valid}
 use Rattle.rows.specs.Model.{shift_of, point_place}
@@ -26,17 +26,6 @@ use Rattle.fusc.specs.Map as fusc-map
 use Rattle.pusc_dl.specs.Map as pusc-dl-map
 use Rattle.ofusc.specs.Map as ofusc-map
 use Rattle.amc.specs.Map as amc-map
-
--- a row of data numbers of optional FUSC: they are small, and their used numbers are the spots of a slot of one symbol
-module _ (numbers : List ℕ) (f : ℕ → ℕ) (e : numbers ≡ tabulate 48 f) where
-  pub row_below : ((m : ℕ) → m < 48 → f m < 2048) → Below 48 2048 numbers
-  row_below lt m h = rw (entry_of numbers 48 f e m h) (lt m h)
-
-  pub bin_row : (slot : ℕ) (used : List ℕ) → used ≡ tabulate 48 (λ k. used_of_data slot (entry numbers k))
-      → (by : ℕ) (g : ℕ → Spot) → ((m : ℕ) → m < 48 → record { offset = 0; used = used_of_data slot (f ((m + by) % 48)) } ≡ g m) → Turned by (λ m. spot_number (g m)) used
-  bin_row slot used q by g same =
-      turned_row by (λ m. spot_number (g m)) (λ k. used_of_data slot (entry numbers k)) used q
-      (λ m h. ap (used_of_data slot) (entry_of numbers 48 f e ((m + by) % 48) (omega arith)) ∙ omega arith ∙ ap spot_number (same m h))
 
 even_width : {n : ℕ} → Width n → EvenWidth n
 even_width n4 = omega arith
@@ -106,12 +95,31 @@ module _ (c : Setup) (slot s : ℕ) where
       ∙ carrier-at shape n first c.cell s m
       ∙ (λ i. carrier_number (size_is i) (band_is i) (spot_is i))
 
-pub only_ofusc : (mode : ℕ) → mode < 3 → (mode ≡ 1 → ⊥) → (mode ≡ 0 → ⊥) → mode ≡ 2
-only_ofusc mode h n₁ n₀ = omega arith
+-- a row of data numbers of optional FUSC: they are small, and their used numbers are the spots of a slot of one symbol
+module _ {c : Setup} (v : Ranged c) (q : c.mode ≡ 2) (slot s : ℕ) (hs : s < subchannels c) (n : ℕ) (w : n ≡ width c) (numbers : List ℕ) (e : numbers ≡ tabulate 48 (ofusc.group_number n c.cell s)) where
+  pub numbers_below : Below 48 2048 numbers
+  unfolding ofusc.group_number
+  numbers_below k h =
+      let a = asks_2 v s hs n w q in
+      let lt : ofusc.group_number n c.cell s k < 2048 =
+      omega (arith, digits_lt h (sum_lt a.0 s (ofusc-map.cell_term n c.cell k) a.1 (cell_term_lt a.0 c.cell k)), (size a.0).most) in
+      rw (entry_of numbers 48 _ e k h) lt
 
-pub group_number_lt : {n : ℕ} → Width n → (cell s k : ℕ) → s < n → k < 48 → ofusc.group_number n cell s k < 2048
-unfolding ofusc.group_number
-group_number_lt {n} w cell s k hs hk = omega (arith, digits_lt hk (sum_lt w s (ofusc-map.cell_term n cell k) hs (cell_term_lt w cell k)), (size w).most)
+  spot_at : (m : ℕ) → m < 48 → used_of_data slot (ofusc.group_number n c.cell s ((m + shift_of c s) % 48)) ≡ spot_number (spot_of c slot s m)
+  spot_at m h = rw w (omega (arith, ap spot_number (spot_2 c slot s q m h)))
+
+  pub row_2 : (used : List ℕ) → used ≡ tabulate 48 (λ k. used_of_data slot (entry numbers k)) → Turned (shift_of c s) (λ m. spot_number (spot_of c slot s m)) used
+  row_2 used f =
+      turned_row (shift_of c s) (λ m. spot_number (spot_of c slot s m)) (λ k. used_of_data slot (entry numbers k)) used f
+      (λ m h. ap (used_of_data slot) (entry_of numbers 48 _ e ((m + shift_of c s) % 48) (omega arith)) ∙ spot_at m h)
+
+-- an accepted mode is listed
+pub listed : {c : Setup} → Ranged c → true ≡ by_mode c.mode false false false false false true → ⊥
+listed (own (pusc-dl h)) e = cc
+listed (own (pusc-ul h)) e = cc
+listed (own (ofusc w h)) e = cc
+listed (own (amc q w h)) e = let z : true ≡ false = e ∙ sym (by-mode (at_amc q)) in cc
+listed (fusc h) e = cc
 
 -- the shift is below 48
 pub shift_lt : (c : Setup) (s : ℕ) → shift_of c s < 48

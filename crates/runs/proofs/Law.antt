@@ -15,15 +15,15 @@ use Rattle.pusc_ul.specs.Tile.{is_tile_pilot}
 use Rattle.modes.specs.{Setup.{Setup, setup_lent, setup_with}, Mode.{width, width_of, band, band_of}}
 use Rattle.formulas.specs.Formula.{is_pilot}
 use Rattle.modes.specs.Model.{OverBins, Unlent, pusc-dl, pusc-ul, ofusc, amc}
-use Rattle.modes.proofs.{Choice.{amc_not_0, amc_column, bins_column, past_column}, Accept.width_is}
+use Rattle.modes.proofs.{Choice.{amc_not_0, amc_column, bins_column}, Accept.width_is}
 use Rattle.mask.specs.Mask.{is_used_lit_of, is_used_lit}
-use Rattle.runs.specs.Model.{run_step, run_count, tile_runs, run_first, run_second, runs_of, run_place, points_below, run_points, points_within, LitRuns}
+use Rattle.runs.specs.Model.{run_step, run_count, cluster_runs, tile_runs, bin_runs, run_first, run_second, runs_of, run_place, points_below, run_points, points_within, LitRuns}
 use Rattle.runs.specs.Model.{IsRun, run_lit}
 use Rattle.runs.specs.declared.Runs.{Runs}
 
 -- the runs by the mode
 module _ (c : Setup) (y : ℕ) where
-  pub runs_0 : c.mode ≡ 0 → record { first = first_pilot y; second = second_pilot y; step = 14; count = 120 } ≡ runs_of c y
+  pub runs_0 : c.mode ≡ 0 → cluster_runs y ≡ runs_of c y
   unfolding run_first run_second run_step run_count
   runs_0 q = rw q
 
@@ -31,13 +31,12 @@ module _ (c : Setup) (y : ℕ) where
   unfolding run_first run_second run_step run_count
   runs_1 q = rw q
 
-  pub runs_bins : OverBins c.mode → record { first = bin_pilot_place y; second = 9; step = 9; count = 6 * width c } ≡ runs_of c y
+  pub runs_bins : OverBins c.mode → bin_runs (width c) y ≡ runs_of c y
   unfolding run_first run_second run_step run_count
   runs_bins o = simp bins_column
 
-  pub runs_none : 7 ≤ c.mode → record { first = 0; second = 0; step = 1; count = 0 } ≡ runs_of c y
-  unfolding run_first run_second run_step run_count
-  runs_none h = simp past_column
+  pub runs_none : 0 ≡ run_first c y → 0 ≡ run_second c y → 1 ≡ run_step c → 0 ≡ run_count c → record { first = 0; second = 0; step = 1; count = 0 } ≡ runs_of c y
+  runs_none e₁ e₂ e₃ e₄ = cc
 
 -- a point of a run lies below a place exactly when it is one of those that are counted there
 module _ (b : Runs) (j place : ℕ) where
@@ -189,9 +188,6 @@ module _ (y : ℕ) where
       (λ t. rw (t, digits_mod i h))
 
 -- bins: one pilot
-abbrev pub bin_runs : (n y : ℕ) → Runs
-bin_runs n y = record { first = bin_pilot_place y; second = 9; step = 9; count = 6 * n }
-
 module _ (n y : ℕ) where
   pub bin_apart : bin_pilot_place y < 9
   bin_apart = omega (arith, pilot_place_le y)
@@ -227,11 +223,10 @@ module _ (n y : ℕ) where
 pub run_law : {c : Setup} → Unlent c → (y : ℕ) → RunLaw c y
 unfolding run_step run_count run_first run_second band_of is_pilot is_used_lit_of width_of
 run_law (pusc-dl {cell = cell} h) y =
-    let b : Runs = record { first = first_pilot y; second = second_pilot y; step = 14; count = 120 } in
     let a = cluster_apart y in
     record {
       step_pos = omega arith;
-      points_few = omega (arith, two_points b a.0 a.1);
+      points_few = omega (arith, two_points (cluster_runs y) a.0 a.1);
       used_is = refl;
       half_run = 60;
       half_is = refl;

@@ -29,8 +29,14 @@ unfoldable pub run_count : (setup : Setup) → ℕ
 run_count setup = by_mode setup.mode 120 420 (6 * width setup) (6 * width setup) 0 0
 
 -- The places of a run's pilots in symbol y. One that is not there stands past the run's end: both in the middle symbol of a tile, the second in a bin. Where there are runs, the first stands before the second.
+abbrev pub cluster_runs : (y : ℕ) → Runs
+cluster_runs y = record { first = first_pilot y; second = second_pilot y; step = 14; count = 120 }
+
 abbrev pub tile_runs : (y : ℕ) → Runs
 tile_runs y = record { first = pick (eqb (y % 3) 1) 4 0; second = pick (eqb (y % 3) 1) 5 3; step = 4; count = 420 }
+
+abbrev pub bin_runs : (n y : ℕ) → Runs
+bin_runs n y = record { first = bin_pilot_place y; second = 9; step = 9; count = 6 * n }
 
 unfoldable pub run_first : (setup : Setup) (y : ℕ) → ℕ
 run_first setup y = by_mode setup.mode (first_pilot y) (tile_runs y).first (bin_pilot_place y) (bin_pilot_place y) 0 0

@@ -8,6 +8,3 @@ use Rattle.fusc_walk.proofs.drop_points.Given as goal
 
 abbrev pub invariant-loop-d : goal.invariant-loop-d
 invariant-loop-d l = ((e : ℕ) → e < l.d → entry l.columns e < l.carriers) × Putting (entry l.numbers) (λ e. point_at l.grid (entry l.columns e)) 1536 l.initial.points l.points l.d
-
-abbrev pub decreases-loop-d : goal.decreases-loop-d
-decreases-loop-d l = 1536 - l.d

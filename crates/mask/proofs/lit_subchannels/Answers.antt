@@ -1,11 +1,12 @@
 -- `mask::lit_subchannels` meets its contract.
-use Rattle.base.proofs.Prelude.{sym, ◌∙◌, rules}
+use Rattle.base.proofs.Prelude.{sym, ◌∙◌}
 use Rattle.modes.specs.Setup.{alone}
+use Rattle.modes.proofs.Named.{is_number, not_number}
 use Rattle.mask.proofs.Law.{others_count, groups_count}
 use Rattle.mask.proofs.lit_subchannels.Goals as goal
 
-pub returns-then-setup-ne0 : goal.returns-then-setup-ne0
-returns-then-setup-ne0 c = c.subchannels.ensures ∙ sym (others_count (alone c.args.setup) _ c.if-setup-ne0.true)
+pub returns-then-takes_mask : goal.returns-then-takes_mask
+returns-then-takes_mask c = groups_count (alone c.args.setup) _ (is_number _ _ c.takes_mask.ensures c.if-takes_mask.true) _ c.lit_subchannels.ensures
 
 pub returns : goal.returns
-returns c = groups_count (alone c.args.setup) _ c.if-setup-ne0.false _ c.lit_subchannels.ensures
+returns c = c.subchannels.ensures ∙ sym (others_count (alone c.args.setup) _ (not_number _ _ c.takes_mask.ensures c.if-takes_mask.false))

@@ -1,12 +1,8 @@
 -- `point_numbers::numbers_by_run` meets its contract.
-use Rattle.base.proofs.Prelude.{◌+◌, ◌-◌, ◌*◌, ◌<◌, ◌≤◌, arith, rules}
+use Rattle.base.proofs.Prelude.{◌+◌, ◌*◌}
 use Rattle.modes.specs.{Setup.alone, Mode.symbols}
-use Rattle.runs.specs.Model.{run_count}
-use Rattle.point_numbers.proofs.Filled.{RunsTurn, by_run, runs_none, runs_next, runs_all}
+use Rattle.point_numbers.proofs.Filled.{RunsTurn}
 use Rattle.point_numbers.proofs.numbers_by_run.Given as goal
 
 abbrev pub invariant-loop-i : goal.invariant-loop-i
 invariant-loop-i l = RunsTurn (alone l.setup) l.mask (l.slot * symbols (alone l.setup) + l.row) l.numbers l.i
-
-abbrev pub decreases-loop-i : goal.decreases-loop-i
-decreases-loop-i l = l.count - l.i

@@ -1,40 +1,40 @@
 -- `point_numbers::place_table` meets its contract.
 use Rattle.base.proofs.Prelude.{replicate, arith, rules}
 use Rattle.modes.specs.Model.{own}
-use Rattle.modes.proofs.{Choice.{told_amc, at_1, by-mode, choosing}, ByMode.{in_pusc_dl, in_ofusc, in_amc, bin_width}}
+use Rattle.modes.proofs.{Named.{by_name, pusc_dl_mode, ofusc_mode, amc_modes}, ByMode.{in_pusc_dl, in_ofusc, in_amc, bin_width}}
 use Rattle.point_numbers.specs.Model.{place_entries}
 use Rattle.point_numbers.proofs.Numbers.{to_table, inverses_as, groups_as, indices_as, no_places}
 use Rattle.point_numbers.proofs.place_table.Goals as goal
 
+pub inverses-requires : goal.inverses-requires
+inverses-requires c = (in_pusc_dl (own c.requires) (pusc_dl_mode _ _ c.try_from.ensures _ c.in-Ok-PuscDl.is c.in-Ok-PuscDl.field-0-is)).cell_lt
+
+pub returns-in-Ok-PuscDl : goal.returns-in-Ok-PuscDl
+returns-in-Ok-PuscDl c = to_table c.inverses.result (inverses_as _ (pusc_dl_mode _ _ c.try_from.ensures _ c.in-Ok-PuscDl.is c.in-Ok-PuscDl.field-0-is)) c.inverses.ensures
+
 pub table-requires : goal.table-requires
 table-requires c =
     let v = c.requires in
-    let e = c.if-setup-eq2.true in
+    let e = ofusc_mode _ _ c.try_from.ensures _ c.in-Ok-Ofusc.is c.in-Ok-Ofusc.field-0-is in
     record { width = rw c.width.ensures (bin_width (own v) (omega arith)); cell_bound = rw c.width.ensures (in_ofusc (own v) e).cell_lt }
 
-pub returns-then-setup-eq2 : goal.returns-then-setup-eq2
-returns-then-setup-eq2 c = to_table c.table.result (groups_as _ c.if-setup-eq2.true) (rw c.width.ensures at c.table.ensures)
-
-pub inverses-requires : goal.inverses-requires
-unfolding place_entries
-inverses-requires c = (in_pusc_dl (own c.requires) c.if-setup-eq0.true).cell_lt
-
-pub returns-then-setup-eq0 : goal.returns-then-setup-eq0
-unfolding place_entries
-returns-then-setup-eq0 c = to_table c.inverses.result (inverses_as _ c.if-setup-eq0.true) c.inverses.ensures
-
-pub returns-then-setup-eq1 : goal.returns-then-setup-eq1
-unfolding place_entries
-returns-then-setup-eq1 c = no_places _ (replicate 48 0) (by-mode (at_1 c.if-setup-eq1.true))
+pub returns-in-Ok-Ofusc : goal.returns-in-Ok-Ofusc
+returns-in-Ok-Ofusc c = to_table c.table.result (groups_as _ (ofusc_mode _ _ c.try_from.ensures _ c.in-Ok-Ofusc.is c.in-Ok-Ofusc.field-0-is)) (rw c.width.ensures at c.table.ensures)
 
 pub indices-requires : goal.indices-requires
-unfolding place_entries
-indices-requires c = (in_amc (own c.requires) (search (told_amc, rules))).cell_lt
+indices-requires c = (in_amc (own c.requires) (amc_modes _ _ c.try_from.ensures _ c.in-Ok-Amc.is c.in-Ok-Amc.field-0-is)).cell_lt
 
-pub returns-then-is_amc : goal.returns-then-is_amc
-unfolding place_entries
-returns-then-is_amc c = to_table c.indices.result (indices_as _ (search (told_amc, rules))) c.indices.ensures
+pub returns-in-Ok-Amc : goal.returns-in-Ok-Amc
+returns-in-Ok-Amc c = to_table c.indices.result (indices_as _ (amc_modes _ _ c.try_from.ensures _ c.in-Ok-Amc.is c.in-Ok-Amc.field-0-is)) c.indices.ensures
 
-pub returns : goal.returns
+pub returns-in-Ok-PuscUl : goal.returns-in-Ok-PuscUl
 unfolding place_entries
-returns c = no_places _ (replicate 48 0) (search (choosing, rules))
+returns-in-Ok-PuscUl c = no_places _ (replicate 48 0) (search (by_name, rules))
+
+pub returns-in-Ok-Fusc : goal.returns-in-Ok-Fusc
+unfolding place_entries
+returns-in-Ok-Fusc c = no_places _ (replicate 48 0) (search (by_name, rules))
+
+pub returns-in-Err : goal.returns-in-Err
+unfolding place_entries
+returns-in-Err c = no_places _ (replicate 48 0) (search (by_name, rules))

@@ -1,29 +1,29 @@
 -- `rows::shift` meets its contract.
 use Rattle.base.proofs.Prelude.{arith, rules}
-use Rattle.modes.proofs.Choice.{choosing}
+use Rattle.modes.proofs.Named.{by_name}
 use Rattle.rows.specs.Model.{shift_of}
 use Rattle.rows.proofs.shift.Goals as goal
 
-pub returns-then-setup-eq0 : goal.returns-then-setup-eq0
+pub returns-in-Ok-PuscDl : goal.returns-in-Ok-PuscDl
 unfolding shift_of
-returns-then-setup-eq0 c = (search (choosing, rules), omega arith)
+returns-in-Ok-PuscDl c = (search (by_name, rules), omega arith)
 
-pub returns-then-setup-eq1 : goal.returns-then-setup-eq1
+pub returns-in-Ok-PuscUl : goal.returns-in-Ok-PuscUl
 unfolding shift_of
-returns-then-setup-eq1 c = (search (choosing, rules), omega arith)
+returns-in-Ok-PuscUl c = (search (by_name, rules), omega arith)
 
-pub returns-then-setup-eq2 : goal.returns-then-setup-eq2
+pub returns-in-Ok-Ofusc : goal.returns-in-Ok-Ofusc
 unfolding shift_of
-returns-then-setup-eq2 c = (search (choosing, rules), omega arith)
+returns-in-Ok-Ofusc c = (search (by_name, rules), omega arith)
 
-pub returns-then-is_amc : goal.returns-then-is_amc
+pub returns-in-Ok-Amc : goal.returns-in-Ok-Amc
 unfolding shift_of
-returns-then-is_amc c = (search (choosing, rules), omega arith)
+returns-in-Ok-Amc c = (search (by_name, rules), omega arith)
 
-pub returns-then-setup-eq7 : goal.returns-then-setup-eq7
+pub returns-in-Ok-Fusc : goal.returns-in-Ok-Fusc
 unfolding shift_of
-returns-then-setup-eq7 c = (search (choosing, rules), omega arith)
+returns-in-Ok-Fusc c = (search (by_name, rules), omega arith)
 
-pub returns : goal.returns
+pub returns-in-Err : goal.returns-in-Err
 unfolding shift_of
-returns c = (search (choosing, rules), omega arith)
+returns-in-Err c = (search (by_name, rules), omega arith)

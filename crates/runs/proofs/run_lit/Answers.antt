@@ -1,16 +1,16 @@
 -- `runs::run_lit` meets its contract.
-use Rattle.base.proofs.Prelude.{rules, eq-eqb, ne_eqb}
+use Rattle.base.proofs.Prelude.{sym, ◌∙◌}
+use Rattle.modes.proofs.Named.{is_number}
 use Rattle.runs.specs.Model.{run_lit}
 use Rattle.runs.proofs.run_lit.Goals as goal
 
-pub returns-then-setup-ne0 : goal.returns-then-setup-ne0
-unfolding run_lit
-returns-then-setup-ne0 c = rw (ne_eqb _ 0 c.if-setup-ne0.true)
-
 pub bounds-lit-i : goal.bounds-lit-i
+bounds-lit-i c = c.requires (is_number _ _ c.takes_mask.ensures c.if-takes_mask.true)
+
+pub returns-then-takes_mask : goal.returns-then-takes_mask
 unfolding run_lit
-bounds-lit-i c = c.requires c.if-setup-ne0.false
+returns-then-takes_mask c = rw (sym c.takes_mask.ensures ∙ c.if-takes_mask.true) c.from.ensures
 
 pub returns : goal.returns
 unfolding run_lit
-returns c = rw (eq-eqb _ 0 c.if-setup-ne0.false) c.wide.ensures.0
+returns c = rw (sym c.takes_mask.ensures ∙ c.if-takes_mask.false)

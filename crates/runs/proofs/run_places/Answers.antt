@@ -1,4 +1,4 @@
-use Rattle.base.proofs.{Prelude.{◌≡◌, ap, ◌∙◌, ℕ, ◌-◌, rules}, Tabulate.{Written, written_none, written_next, written_all}}
+use Rattle.base.proofs.{Prelude.{◌≡◌, ap, ◌∙◌, ℕ}, Tabulate.{written_none, written_next, written_all}}
 use Rattle.base.specs.Steps.{skip}
 use Rattle.runs.specs.{declared.Runs.Runs, Model.run_place}
 use Rattle.runs.proofs.run_places.Goals as goal
