@@ -7,7 +7,7 @@ ghost use Rattle.amc.specs.Element.{element, base_seven, two_digits, subtract};
 ghost use Rattle.amc.specs.Map.{sum_of, traffic as Traffic, index_of, data_number, address_of};
 ghost use Rattle.amc.specs.Model.{IsShape, sum_place, sequence_place};
 
-use base::{unrotate, wide, wide16};
+use base::unrotate;
 use carriers::{Address, DataNumber};
 
 // A slot's shape: bins of a subchannel by symbols.
@@ -94,11 +94,12 @@ fn index(cell: usize, v: usize) -> usize
     ensures { result ≡ index_of cell v }
 {
     let x = entry_of(cell / 48, v + 1);
-    unrotate(48, cell % 48, wide(POSITIONS[x]))
+    unrotate(48, cell % 48, usize::from(POSITIONS[x]))
 }
 
 // The symbol of the slot in which bin w of a subchannel lies. It has six bins in all its symbols, so w div bins is w·symbols
 // div 6.
+#[tactic(auto, using(crate::proofs::Parts::product_few, crate::proofs::Parts::symbols_few))]
 pub fn bin_symbol(shape: Shape, w: u16) -> u16
     requires { IsShape shape × (w < 6) }
     ensures { (result ≡ w / shape.bins) × (result < 6) }
@@ -107,20 +108,22 @@ pub fn bin_symbol(shape: Shape, w: u16) -> u16
 }
 
 // The symbol and the data number of a point.
+#[tactic(auto, using(crate::proofs::Parts::before_few, crate::proofs::Parts::taken_le))]
 pub fn data_number(shape: Shape, cell: usize, subchannel: usize, index: usize) -> DataNumber
     requires { IsShape shape × (cell < 2352) × (subchannel < 65536) × (index < 48) }
     ensures { result ≡ data_number shape cell subchannel index }
 {
     let v = traffic(cell, index);
-    let offset = wide16(bin_symbol(shape, v / 8));
-    let bin = wide16(v / 8) - offset * shape.bins;
+    let offset = usize::from(bin_symbol(shape, v / 8));
+    let bin = usize::from(v / 8) - offset * shape.bins;
     DataNumber {
         offset: offset,
-        number: (subchannel * shape.bins + bin) * 8 + wide16(v % 8),
+        number: (subchannel * shape.bins + bin) * 8 + usize::from(v % 8),
     }
 }
 
 // The reverse: the point of a data number in a symbol of the slot.
+#[tactic(auto, using(crate::proofs::Parts::product_few, crate::proofs::Law::index_below, crate::proofs::Parts::by_six, crate::proofs::Parts::taken_le))]
 pub fn address(shape: Shape, cell: usize, offset: usize, d: usize) -> Address
     requires { IsShape shape × (cell < 2352) × (offset < shape.symbols) × (d < 65536) }
     ensures { result ≡ address_of shape cell offset d }

@@ -1,5 +1,5 @@
 -- `amc::difference` meets its contract.
-use Rattle.base.proofs.Prelude.{arith, rules}
+use Rattle.base.proofs.Prelude.{arith}
 use Rattle.amc.specs.Element.{subtract}
 use Rattle.amc.proofs.difference.Goals as goal
 

@@ -1,5 +1,5 @@
 -- `amc::entry_of` meets its contract.
-use Rattle.base.proofs.Prelude.{sym, ap, ◌∙◌, ℕ, rules}
+use Rattle.base.proofs.Prelude.{sym, ap, ◌∙◌, ℕ}
 use Rattle.amc.specs.Element.{base_seven, two_digits}
 use Rattle.amc.proofs.{Digit.number_digits, ZeroRule.{sum_off, sum_other}}
 use Rattle.amc.proofs.entry_of.Goals as goal

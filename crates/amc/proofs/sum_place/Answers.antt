@@ -1,5 +1,5 @@
 -- `amc::sum_place` meets its contract.
-use Rattle.base.proofs.Prelude.{rules, eq-eqb, ne_eqb}
+use Rattle.base.proofs.Prelude.{eq-eqb, ne_eqb}
 use Rattle.amc.specs.{Element.add, Map.zero_rule, Model.sum_place}
 use Rattle.amc.proofs.{Sequence.offset_above}
 use Rattle.amc.proofs.sum_place.Goals as goal
