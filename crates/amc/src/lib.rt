@@ -117,7 +117,7 @@ pub fn data_number(shape: Shape, cell: usize, subchannel: usize, index: usize) -
     let offset = usize::from(bin_symbol(shape, v / 8));
     let bin = usize::from(v / 8) - offset * shape.bins;
     DataNumber {
-        offset: offset,
+        offset,
         number: (subchannel * shape.bins + bin) * 8 + usize::from(v % 8),
     }
 }
@@ -131,7 +131,7 @@ pub fn address(shape: Shape, cell: usize, offset: usize, d: usize) -> Address
     let subchannel = d / 8 * shape.symbols / 6;
     let bin = d / 8 - subchannel * shape.bins;
     Address {
-        subchannel: subchannel,
+        subchannel,
         index: index(cell, (offset * shape.bins + bin) * 8 + d % 8),
     }
 }

@@ -1,7 +1,7 @@
 -- `amc::address` meets its contract.
 use Rattle.base.proofs.Prelude.{◌/◌}
 use Rattle.amc.specs.Map.{address_of}
-use Rattle.amc.proofs.{Law.index_below, Parts.{by_six, rest_six}}
+use Rattle.amc.proofs.{Parts.{by_six, rest_six}}
 use Rattle.amc.proofs.address.Goals as goal
 
 pub returns : goal.returns
