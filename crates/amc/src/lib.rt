@@ -104,7 +104,7 @@ fn index(cell: usize, v: usize) -> usize
 
 // The symbol of the slot in which bin w of a subchannel lies. It has six bins in all its symbols, so w div bins is w·symbols
 // div 6.
-#[tactic(auto, using(crate::proofs::Parts::product_few, crate::proofs::Parts::symbols_few, crate::proofs::Parts::by_six, crate::proofs::Parts::quotient_few))]
+#[tactic(auto, using(crate::proofs::Parts::by_shape))]
 pub fn bin_symbol(shape: Shape, w: u16) -> u16
     requires { IsShape shape × (w < 6) }
     ensures { (result ≡ w / shape.bins) × (result < 6) }
@@ -113,7 +113,7 @@ pub fn bin_symbol(shape: Shape, w: u16) -> u16
 }
 
 // The symbol and the data number of a point.
-#[tactic(auto, using(crate::proofs::Parts::before_few, crate::proofs::Parts::taken_le, crate::proofs::Parts::rest_six, crate::proofs::Law::traffic_lt), unfolding(crate::specs::Map::data_number, crate::specs::Map::traffic_number))]
+#[tactic(auto, using(crate::proofs::Parts::by_shape, crate::proofs::Law::traffic_lt), unfolding(crate::specs::Map::data_number, crate::specs::Map::traffic_number))]
 pub fn data_number(shape: Shape, cell: usize, subchannel: usize, index: usize) -> DataNumber
     requires { IsShape shape × (cell < 2352) × (subchannel < 65536) × (index < 48) }
     ensures { result ≡ data_number shape cell subchannel index }
@@ -128,7 +128,7 @@ pub fn data_number(shape: Shape, cell: usize, subchannel: usize, index: usize) -
 }
 
 // The reverse: the point of a data number in a symbol of the slot.
-#[tactic(auto, using(crate::proofs::Parts::product_few, crate::proofs::Law::index_below, crate::proofs::Parts::by_six, crate::proofs::Parts::taken_le, crate::proofs::Parts::rest_six), unfolding(crate::specs::Map::address_of))]
+#[tactic(auto, using(crate::proofs::Parts::by_shape, crate::proofs::Law::index_below), unfolding(crate::specs::Map::address_of))]
 pub fn address(shape: Shape, cell: usize, offset: usize, d: usize) -> Address
     requires { IsShape shape × (cell < 2352) × (offset < shape.symbols) × (d < 65536) }
     ensures { result ≡ address_of shape cell offset d }
