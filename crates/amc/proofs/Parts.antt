@@ -58,4 +58,4 @@ module _ (shape : Shape) (six : IsShape shape) where
   before_few a h = mul-le-mul {n₁ = a} {m₁ = shape.bins} {n₂ = 65536} {m₂ = 6} (omega arith) bins_few
 
 -- what the code's steps by a shape need
-pub ruleset by_shape = (symbols_few, product_few, before_few, by_six, quotient_few, rest_six, taken_le)
+pub ruleset by_shape = (bins_few, symbols_few, product_few, before_few, by_six, quotient_few, rest_six, taken_le)
