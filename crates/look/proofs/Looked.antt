@@ -3,6 +3,11 @@ use Rattle.base.proofs.Prelude.{◌≡◌, refl, sym, ap, ◌∙◌, Bool, true,
 use Rattle.base.proofs.Chain.{same_accepted, yes_all, no_first, number_none}
 use lib.{IntN.ℤ, Ieee.Float}
 use Rattle.base.specs.{Choice.pick, Answer.{Answer, accepted, refused}}
+use Rattle.std.specs.Result.{IsErrAnd}
+use Rattle.std.proofs.lemmas.Result.{err_from_is_err_and}
+use Rattle.std.proofs.Common.{Result}
+use Rattle.refusal.specs.{declared.Refusal.Refusal, Refusal.number_of}
+use Rattle.look.specs.declared.Seen.{Seen}
 use Rattle.carriers.specs.Band.{used_of}
 use Rattle.centre.specs.Centre.{on_row}
 use Rattle.modes.specs.{Setup.Setup, Mode.{symbols, band}, Question.is_carrier}
@@ -14,14 +19,11 @@ use Rattle.points.specs.{declared.Point.Point, Points.point_at}
 use Rattle.questions.specs.Model.{look_refusal}
 use Rattle.questions.proofs.Refusal.{LookAccepted, look_numbered, look_accepted}
 use Rattle.grid.specs.Row.{column_position}
-use Rattle.look.specs.Look.{Sight, data_with, sight, look_of}
+use Rattle.look.specs.Look.{Sight, data_with, seen, sight, look_of}
 
--- what is seen goes by what was found
-pub seen_by : (p : Point) {found w : Content} (r : Sight) → r ≡ sight p found → accepted found ≡ accepted w → accepted r ≡ accepted (sight p w)
-seen_by p r e h = ap accepted (e ∙ ap (sight p) (same_accepted h))
-
-pub no_content : {number : ℕ} {w : Content} → refused number ≡ accepted w → ⊥
-no_content e = let z : ◌≡◌ {A = ℕ} 0 1 = cc in omega arith
+-- what `?` hands on, as an answer
+pub seen_on : (r : Result Seen Refusal) (e : Refusal) → IsErrAnd r (λ y. y ≡ e) → (a : Answer Sight) → refused (number_of e) ≡ a → seen r ≡ a
+seen_on r e f a h = let p = err_from_is_err_and r f in rw (p.1, p.2) h
 
 -- ---- the whole call, whose questions are asked about k, which is the carrier
 
@@ -41,11 +43,11 @@ module _ (setup : Setup) (mask symbol : ℕ) (carrier k : ℤ) (same : k ≡ car
     look_column j f = rw f ((centred look_asked.lit.valid.ranged).0.column_lt k look_asked.in-range)
 
     pub look_done : (j : ℕ) → j ≡ on_row setup.size k → (place : ℕ) → place ≡ column_position setup (symbol % symbols setup) j
-        → (p : Point) → p ≡ point_at grid place → (a : Answer Sight) → a ≡ accepted (sight p (lit_content setup mask symbol j)) → a ≡ look_of setup mask symbol grid carrier
+        → (p : Point) → p ≡ point_at grid place → (a : Sight) → a ≡ sight p (lit_content setup mask symbol j) → accepted a ≡ look_of setup mask symbol grid carrier
     unfolding look_of
     look_done j f place at p g a h =
         let on : j ≡ on_row setup.size carrier = f ∙ ap (on_row setup.size) same in
-        h ∙ ap (λ (x : Point). accepted (sight x (lit_content setup mask symbol j))) (g ∙ ap (point_at grid) at)
+        ap accepted h ∙ ap (λ (x : Point). accepted (sight x (lit_content setup mask symbol j))) (g ∙ ap (point_at grid) at)
         ∙ ap (λ (x : ℕ). accepted (sight (point_at grid (column_position setup (symbol % symbols setup) x)) (lit_content setup mask symbol x))) on
         ∙ sym (look_numbered setup mask symbol carrier (length grid) _ ∙ yes_all _ _ (sym number ∙ z))
 

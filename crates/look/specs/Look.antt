@@ -1,6 +1,8 @@
 -- Look. Document 01, "Grids"; document 02, wishes 3, 5 and 8.
-use Rattle.std.specs.Prelude.{List, ℕ, ◌%◌, length, ℤ, Float}
+use Rattle.std.specs.Prelude.{List, ℕ, ◌%◌, length, ℤ, Float, Result, Ok, Err}
 use Rattle.base.specs.Answer.{Answer, accepted, refused}
+use Rattle.refusal.specs.declared.Refusal.{Refusal}
+use Rattle.refusal.specs.Refusal.{number_of}
 use Rattle.centre.specs.Centre.{on_row}
 use Rattle.modes.specs.Setup.{Setup}
 use Rattle.modes.specs.Mode.{symbols}
@@ -11,7 +13,7 @@ use Rattle.points.specs.Points.{point_at}
 use Rattle.questions.specs.Question.{ask_look}
 use Rattle.grid.specs.Row.{carrier_position}
 use Rattle.look.specs.declared.Seen.{Seen}
-use Rattle.look.specs.declared.Seen.TheVariants.{Nothing, Pilot, Data, Refused}
+use Rattle.look.specs.declared.Seen.TheVariants.{Nothing, Pilot, Data}
 
 -- nothing (guard, DC, or what is not lit), a pilot with its point, or data with its point, slot, subchannel and index
 pub data Sight : Type 0 where
@@ -31,9 +33,12 @@ look_of setup mask symbol grid carrier =
     ask_look setup mask symbol carrier (length grid)
     (accepted (sight (point_at grid (carrier_position setup (symbol % symbols setup) carrier)) (lit_content setup mask symbol (on_row setup.size carrier))))
 
--- What an answer of `look` says: document 01's values, or its number.
-abbrev pub seen : (answer : Seen) → Answer Sight
-seen Nothing = accepted nothing
-seen (Pilot p) = accepted (pilot_with p)
-seen (Data p slot subchannel index) = accepted (data_with p slot subchannel index)
-seen (Refused number) = refused number
+-- The code's sight; and what an answer of `look` says: document 01's values, or its number.
+abbrev pub as_sight : (sight : Seen) → Sight
+as_sight Nothing = nothing
+as_sight (Pilot p) = pilot_with p
+as_sight (Data p slot subchannel index) = data_with p slot subchannel index
+
+abbrev pub seen : (answer : Result Seen Refusal) → Answer Sight
+seen (Ok sight) = accepted (as_sight sight)
+seen (Err e) = refused (number_of e)

@@ -2,20 +2,21 @@
 #![tactic(auto)]
 
 ghost use Rattle.std.specs.Prelude.{◌≡◌, ◌*◌, ◌%◌, ◌<◌};
-ghost use Rattle.base.specs.Answer.{accepted};
+ghost use Rattle.refusal.specs.Refusal.{refusal_in};
 ghost use Rattle.modes.specs.Setup.{alone, lent};
 ghost use Rattle.modes.specs.Mode.{symbols};
-ghost use Rattle.map.specs.Place.{Content, located};
+ghost use Rattle.map.specs.Place.{as_content};
 ghost use Rattle.modes.specs.Model.{Ranged};
 ghost use Rattle.lengths.specs.Length.{grid_points};
 ghost use Rattle.grid.specs.Row.{column_position};
-ghost use Rattle.look.specs.Look.{sight as sight_of, seen, look_of};
+ghost use Rattle.look.specs.Look.{sight as sight_of, as_sight, seen, look_of};
 
 use map::Located;
 use modes::Setup;
 use points::Point;
+use refusal::Refusal;
 
-// What `look` finds on a carrier, or the first refusal.
+// What `look` finds on a carrier.
 #[derive(Clone, Copy)]
 pub enum Seen {
     Nothing,
@@ -26,12 +27,11 @@ pub enum Seen {
         subchannel: usize,
         index: usize,
     },
-    Refused(u8),
 }
 
 // What is seen on a carrier that holds this, with the point p there.
 fn sight(content: Located, p: Point) -> Seen
-    ensures { (w : Content) → located content ≡ accepted w → seen result ≡ accepted (sight_of p w) }
+    ensures { as_sight result ≡ sight_of p (as_content content) }
 {
     match content {
         Located::Guard => Seen::Nothing,
@@ -47,7 +47,6 @@ fn sight(content: Located, p: Point) -> Seen
             subchannel,
             index,
         },
-        Located::Refused(number) => Seen::Refused(number),
     }
 }
 
@@ -69,17 +68,12 @@ pub fn look(
     pilots: &[u32],
     grid: &[f32],
     carrier: i32,
-) -> Seen
+) -> Result<Seen, Refusal>
     ensures { seen result ≡ look_of (lent setup pilots.now) mask symbol grid.now carrier }
 {
-    let refusal = questions::look_refusal(setup, mask, symbol, carrier, pilots, grid.len());
-    if refusal != 0 {
-        return Seen::Refused(refusal);
-    }
+    questions::ask_look(setup, mask, symbol, carrier, pilots, grid.len())?;
     let column = centre::column(setup.size, carrier);
     let p = points::point_at(grid, column_position(setup, symbol, column));
-    sight(
-        mask_content::lit_content(setup, mask, symbol, column, pilots),
-        p,
-    )
+    let content = mask_content::lit_content(setup, mask, symbol, column, pilots);
+    Ok(sight(content, p))
 }

@@ -8,17 +8,17 @@ use Rattle.copies.specs.Model.{turned}
 use Rattle.rows.specs.{declared.CarrierRow.CarrierRow, Model.RowOf}
 use Rattle.grid.specs.Grid.{stands_at}
 use Rattle.grid.proofs.Slot.{row_at}
-use Rattle.places.specs.{declared.PlaceRow.PlaceRow, Places.{ask_places, place_row, places_of}}
+use Rattle.std.specs.Result.{IsErrAnd}
+use Rattle.std.proofs.lemmas.Result.{err_from_is_err_and}
+use Rattle.std.proofs.Common.{Result}
+use Rattle.refusal.specs.{declared.Refusal.Refusal, Refusal.number_of}
+use Rattle.places.specs.Places.{PlaceRow, ask_places, place_row, places_of, given}
 
 module _ (setup : Setup) (slot s : ℕ) where
   -- a refusal, with the zeros that go with it
-  pub no_row : (r : PlaceRow) (k : ℕ) → r ≡ record { refusal = k; places = tabulate 48 (λ m. 0) } → refused k ≡ ask_places {A = Unit {0}} setup slot s (accepted tt) → r ≡ places_of setup slot s
+  pub no_row : (r : Result (List ℕ) Refusal) (e : Refusal) → IsErrAnd r (λ y. y ≡ e) → refused (number_of e) ≡ ask_places {A = Unit {0}} setup slot s (accepted tt) → given r ≡ places_of setup slot s
   unfolding places_of
-  no_row r k e f = e ∙ ap (place_row _) f
-
-  -- question 20 is the last
-  pub row_not_lent : Ranged setup → slot < 512 → s < subchannels setup → (t : Bool) → t ≡ is_lent setup → t ≡ false → refused 20 ≡ ask_places {A = Unit {0}} setup slot s (accepted tt)
-  row_not_lent v h l t e n = sym (passes v ∙ slot_yes _ slot h ∙ subchannel_yes _ setup s l ∙ rw (told_no t e n))
+  no_row r e f h = let p = err_from_is_err_and r f in rw (p.1, p.2) (ap (place_row (stands_at setup slot s)) h)
 
   module _ (v : Valid setup) (h : slot < 512) (l : s < subchannels setup) where
     pub row_is : places_of setup slot s ≡ record { refusal = 0; places = tabulate 48 (stands_at setup slot s) }

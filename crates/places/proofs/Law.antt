@@ -18,7 +18,7 @@ use Rattle.grid.specs.{Row.column_position, Grid.{stands_at, Leaves, PlacedIn}}
 use Rattle.lay.specs.Lay.{relaid, lay_of}
 use Rattle.grid.proofs.Slot.{stands_lt, lit_holds, placed_there}
 use Rattle.lay.proofs.Left.{lay_fits, lay_at}
-use Rattle.places.specs.{declared.PlaceRow.PlaceRow, Places.{ask_places, place_row, places_of}, Law.PlaceLaw}
+use Rattle.places.specs.{Places.{PlaceRow, ask_places, place_row, places_of}, Law.PlaceLaw}
 use Rattle.places.proofs.Answer.{row_is}
 
 -- of an answer, whatever it is

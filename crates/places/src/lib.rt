@@ -5,23 +5,11 @@ ghost use Rattle.std.specs.Prelude.{◌≡◌, ◌<◌};
 ghost use Rattle.base.specs.Tabulate.{tabulate};
 ghost use Rattle.modes.specs.Setup.{lent};
 ghost use Rattle.copies.specs.Model.{turned};
-ghost use Rattle.places.specs.Places.{places_of};
+ghost use Rattle.places.specs.Places.{given, places_of};
 
 use base::reduce;
 use modes::Setup;
-
-// For each index the place in the grid; the first refusal, or 0. (The row comes first, so that it is copied once.)
-#[derive(Clone, Copy)]
-pub struct PlaceRow {
-    pub places: [u32; 48],
-    pub refusal: u8,
-}
-
-fn wide(x: u16) -> u32
-    ensures { result ≡ x }
-{
-    x as u32
-}
+use refusal::{Refusal, ask};
 
 // A row that starts at place `by`, and goes on at its start, from its first entry on.
 fn in_order(row: &[u16; 48], by: usize) -> [u32; 48]
@@ -29,43 +17,25 @@ fn in_order(row: &[u16; 48], by: usize) -> [u32; 48]
     ensures { result ≡ tabulate 48 (turned row.now by) }
 {
     let mut places = [0u32; 48];
-    let mut m = 0;
-    while m < 48 {
-        places[m] = wide(row[reduce(48, m + by)]);
-        m += 1;
+    for m in 0..48 {
+        places[m] = u32::from(row[reduce(48, m + by)]);
     }
     places
 }
 
-fn refused(number: u8) -> PlaceRow
-    ensures { result ≡ record { refusal = number; places = tabulate 48 (λ m. 0) } }
-{
-    PlaceRow {
-        refusal: number,
-        places: [0u32; 48],
-    }
-}
-
 // The places of a subchannel's points by index, or the first refusal of 1, 2, 3, 4, 5, 20.
-pub fn row(setup: Setup, slot: usize, subchannel: usize, pilots: &[u32]) -> PlaceRow
-    ensures { result ≡ places_of (lent setup pilots.now) slot subchannel }
+pub fn row(
+    setup: Setup,
+    slot: usize,
+    subchannel: usize,
+    pilots: &[u32],
+) -> Result<[u32; 48], Refusal>
+    ensures { given result ≡ places_of (lent setup pilots.now) slot subchannel }
 {
-    let k = modes::refusal(setup);
-    if k != 0 {
-        return refused(k);
-    }
-    if 512 <= slot {
-        return refused(4);
-    }
-    if modes::subchannels(setup) <= subchannel {
-        return refused(5);
-    }
-    if !modes::is_lent(setup, pilots) {
-        return refused(20);
-    }
+    modes::ask_setup(setup)?;
+    ask(slot < 512, Refusal::Slot)?;
+    ask(subchannel < modes::subchannels(setup), Refusal::Subchannel)?;
+    ask(modes::is_lent(setup, pilots), Refusal::Pilots)?;
     let row = rows::subchannel_row(setup, slot, subchannel, pilots);
-    PlaceRow {
-        refusal: 0,
-        places: in_order(&row.carriers, row.shift),
-    }
+    Ok(in_order(&row.carriers, row.shift))
 }

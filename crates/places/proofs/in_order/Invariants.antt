@@ -5,6 +5,3 @@ use Rattle.places.proofs.in_order.Given as goal
 
 abbrev pub invariant-loop-m : goal.invariant-loop-m
 invariant-loop-m l = (l.by < 48) × Written 48 (turned l.row l.by) l.places l.m
-
-abbrev pub decreases-loop-m : goal.decreases-loop-m
-decreases-loop-m l = 48 - l.m
