@@ -29,8 +29,8 @@ pub extern "C" fn bp_ground(
     };
     let of = c_boundary::setup(mode, size, cell);
     let mask = mask as usize;
-    let number = ground::ground(of, mask, slot as usize, pilots, p, grid);
-    number as u32
+    let answer = ground::ground(of, mask, slot as usize, pilots, p, grid);
+    c_boundary::number(answer)
 }
 
 #[unsafe(no_mangle)]
@@ -48,8 +48,8 @@ pub extern "C" fn bp_empty(
 {
     let of = c_boundary::setup(mode, size, cell);
     let mask = mask as usize;
-    let number = empty::empty(of, mask, slot as usize, pilots, grid, points);
-    number as u32
+    let answer = empty::empty(of, mask, slot as usize, pilots, grid, points);
+    c_boundary::number(answer)
 }
 
 #[unsafe(no_mangle)]
@@ -69,6 +69,6 @@ pub extern "C" fn bp_empty_first(
     let of = c_boundary::setup(mode, size, cell);
     let mask = mask as usize;
     let slot = slot as usize;
-    let number = empty::empty_first(of, mask, slot, carriers as usize, pilots, grid, points);
-    number as u32
+    let answer = empty::empty_first(of, mask, slot, carriers as usize, pilots, grid, points);
+    c_boundary::number(answer)
 }

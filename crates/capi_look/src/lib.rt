@@ -30,21 +30,23 @@ pub extern "C" fn bp_look(
     let mask = mask as usize;
     let answer = look::look(of, mask, symbol as usize, pilots, grid, carrier);
     match answer {
-        Seen::Nothing => {
+        Ok(Seen::Nothing) => {
             *kind = 0;
             0
         }
-        Seen::Pilot(p) => {
+        Ok(Seen::Pilot(p)) => {
             *kind = 2;
             *point = [p.i, p.q];
             0
         }
-        Seen::Data {
-            point: d,
-            slot: t,
-            subchannel: b,
-            index: n,
-        } => {
+        Ok(
+            Seen::Data {
+                point: d,
+                slot: t,
+                subchannel: b,
+                index: n,
+            },
+        ) => {
             *kind = 3;
             *point = [d.i, d.q];
             *slot = t as u32;
@@ -52,6 +54,6 @@ pub extern "C" fn bp_look(
             *index = n as u32;
             0
         }
-        Seen::Refused(number) => number as u32,
+        Err(refusal) => u32::from(refusal),
     }
 }

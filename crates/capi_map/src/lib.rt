@@ -6,7 +6,7 @@ ghost use Rattle.modes.specs.Setup.{setup_lent};
 ghost use Rattle.map.specs.Place.{place_of, locate_of};
 ghost use Rattle.capi_map.specs.Map.{PlaceOut, place_out, LocateOut, locate_out};
 
-use map::{Located, Placed};
+use map::Located;
 
 #[unsafe(no_mangle)]
 pub extern "C" fn bp_place(
@@ -31,15 +31,12 @@ pub extern "C" fn bp_place(
         pilots,
     );
     match answer {
-        Placed::At {
-            symbol: y,
-            carrier: k,
-        } => {
-            *symbol = y as u32;
-            *carrier = k;
+        Ok(placed) => {
+            *symbol = placed.symbol as u32;
+            *carrier = placed.carrier;
             0
         }
-        Placed::Refused(number) => number as u32,
+        Err(refusal) => u32::from(refusal),
     }
 }
 
@@ -61,29 +58,31 @@ pub extern "C" fn bp_locate(
     let of = c_boundary::setup(mode, size, cell);
     let answer = map::locate(of, symbol as usize, carrier, pilots);
     match answer {
-        Located::Guard => {
+        Ok(Located::Guard) => {
             *kind = 0;
             0
         }
-        Located::Dc => {
+        Ok(Located::Dc) => {
             *kind = 1;
             0
         }
-        Located::Pilot => {
+        Ok(Located::Pilot) => {
             *kind = 2;
             0
         }
-        Located::Data {
-            slot: a,
-            subchannel: s,
-            index: m,
-        } => {
+        Ok(
+            Located::Data {
+                slot: a,
+                subchannel: s,
+                index: m,
+            },
+        ) => {
             *kind = 3;
             *slot = a as u32;
             *subchannel = s as u32;
             *index = m as u32;
             0
         }
-        Located::Refused(number) => number as u32,
+        Err(refusal) => u32::from(refusal),
     }
 }

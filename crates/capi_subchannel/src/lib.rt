@@ -26,8 +26,8 @@ pub extern "C" fn bp_lay(
     let of = c_boundary::setup(mode, size, cell);
     let mask = mask as usize;
     let slot = slot as usize;
-    let number = lay::lay(of, mask, slot, subchannel as usize, pilots, points, grid);
-    number as u32
+    let answer = lay::lay(of, mask, slot, subchannel as usize, pilots, points, grid);
+    c_boundary::number(answer)
 }
 
 #[unsafe(no_mangle)]
@@ -44,11 +44,11 @@ pub extern "C" fn bp_places(
 {
     let of = c_boundary::setup(mode, size, cell);
     let found = places::row(of, slot as usize, subchannel as usize, pilots);
-    let number = found.refusal;
-    if number != 0 {
-        return number as u32;
+    match found {
+        Ok(row) => {
+            *places = row;
+            0
+        }
+        Err(refusal) => u32::from(refusal),
     }
-    let row = found.places;
-    *places = row;
-    0
 }

@@ -3,4 +3,4 @@ use Rattle.base.proofs.Prelude.{rules}
 use Rattle.capi_grid.proofs.bp_empty_first.Goals as goal
 
 pub returns : goal.returns
-returns c = rw c.setup-of.ensures at c.empty_first-number.ensures
+returns c = rw c.number.ensures (rw c.setup-of.ensures at c.empty_first-answer.ensures)

@@ -5,4 +5,4 @@ use Rattle.capi_grid.proofs.bp_ground.Goals as goal
 
 pub returns : goal.returns
 unfolding point_at
-returns c = rw c.setup-of.ensures at c.ground-number.ensures
+returns c = rw c.number.ensures (rw c.setup-of.ensures at c.ground-answer.ensures)
