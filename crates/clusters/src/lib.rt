@@ -83,6 +83,7 @@ pub struct PilotPlaces {
     pub second: usize,
 }
 
+#[tactic(auto, unfolding(crate::specs::Cluster::first_pilot, crate::specs::Cluster::second_pilot))]
 pub fn pilots(symbol: usize) -> PilotPlaces
     ensures { (result.first ≡ first_pilot symbol) × (result.second ≡ second_pilot symbol) }
 {
