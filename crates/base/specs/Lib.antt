@@ -7,3 +7,4 @@ pub mod Permutation
 pub mod Rank
 pub mod First
 pub mod Model
+pub mod Whole

@@ -1,9 +1,13 @@
 // The steps that the permutations are made of.
 #![tactic(auto)]
 
-ghost use Rattle.std.specs.Prelude.{◌≡◌, ◌+◌, ◌%◌, ◌≤◌, ◌<◌};
+ghost use Rattle.std.specs.Prelude.{◌≡◌, ℕ, ◌+◌, ◌-◌, ◌%◌, ◌≤◌, ◌<◌, ltb};
+ghost use Rattle.std.specs.Ordering.{partial_lt};
 ghost use Rattle.base.specs.Choice.{is_up_to};
+ghost use Rattle.base.specs.Whole.{in_order};
 ghost use Rattle.base.specs.Steps.{rotate as Rotate, unrotate as Unrotate, skip as Skip, unskip as Unskip};
+
+use std::ops::Sub;
 
 // An entry of a table, as a number to count with.
 pub fn wide(x: u8) -> usize
@@ -18,19 +22,52 @@ pub fn wide16(x: u16) -> usize
     x as usize
 }
 
+// A type of numbers from 0 on, which are compared and subtracted as numbers are.
+pub trait Whole: Copy + PartialOrd + Sub<Output = Self> {
+    // The number that a value is.
+    ghost number: { Self → ℕ };
+
+    ghost order: { (a b : Self) → partial_lt Self.partial_cmp a b ≡ ltb (number a) (number b) };
+
+    ghost may_take: { (a b : Self) → number b ≤ number a → Self.can_sub a b };
+
+    ghost taken: { (a b r : Self) → Self.sub_gives a b r → number r ≡ number a - number b };
+}
+
+impl Whole for u16 {
+    ghost number = { λ x. x };
+
+    ghost order = { in_order };
+
+    ghost may_take = { λ a b h. h };
+
+    ghost taken = { λ a b r e. e };
+}
+
+impl Whole for usize {
+    ghost number = { λ x. x };
+
+    ghost order = { in_order };
+
+    ghost may_take = { λ a b h. h };
+
+    ghost taken = { λ a b r e. e };
+}
+
 // x mod n of a number below 2n, without a division.
-pub fn reduce(n: usize, x: usize) -> usize
-    requires { x < n + n }
-    ensures { (result ≡ x % n) × (result < n) }
+pub fn reduce<T: Whole>(n: T, x: T) -> T
+    requires { T.number x < T.number n + T.number n }
+    ensures { (T.number result ≡ T.number x % T.number n) × (T.number result < T.number n) }
 {
     if x < n { x } else { x - n }
 }
 
+// The same at 16 bits.
 pub fn reduce16(n: u16, x: u16) -> u16
     requires { x < n + n }
     ensures { (result ≡ x % n) × (result < n) }
 {
-    if x < n { x } else { x - n }
+    reduce(n, x)
 }
 
 // x moved on, modulo n.
@@ -68,8 +105,5 @@ pub fn unskip(p: usize, place: usize) -> usize
 pub fn is_up_to(most: usize, number: usize) -> bool
     ensures { result ≡ is_up_to most number }
 {
-    if number == 0 {
-        return false;
-    }
-    number <= most
+    number != 0 && number <= most
 }

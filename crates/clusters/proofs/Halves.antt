@@ -1,9 +1,9 @@
 -- A loop that writes one entry of each half of a list a turn.
-use Rattle.base.proofs.Prelude.{◌≡◌, ap, ◌∙◌, List, ℕ, ◌+◌, ◌-◌, ◌<◌, ◌≤◌, arith, ltb, length, get_or, set, replicate, length-set, length-replicate}
+use Rattle.base.proofs.Prelude.{◌≡◌, ap, ◌∙◌, List, ℕ, ◌+◌, ◌-◌, ◌<◌, ◌≤◌, arith, ltb, length, get_or, set, length-set}
 use Rattle.base.proofs.Prelude.{ltb-true, ltb-false}
 use Rattle.base.proofs.{Tabulate.tabulated, Test.cases}
 use lib.Seq.{get_or-set_same, get_or-set_other}
-use borrow.Author.Count.{below_none, below_more}
+use borrow.Author.Count.{below_more}
 use Rattle.base.specs.Tabulate.{tabulate}
 
 -- a list of n + n entries: the first i of each half are those of f
@@ -11,9 +11,6 @@ pub record Halves (n : ℕ) (f : ℕ → ℕ) (l : List ℕ) (i : ℕ) : Type 0 
   pub within : i ≤ n
   pub long : length l ≡ n + n
   pub entries : (k : ℕ) → k < i → (get_or l k 0 ≡ f k) × (get_or l (k + n) 0 ≡ f (k + n))
-
-pub halves_none : (n : ℕ) (f : ℕ → ℕ) → Halves n f (replicate (n + n) 0) 0
-halves_none n f = record { within = omega arith; long = length-replicate (n + n) 0; entries = below_none _ }
 
 pub halves_next : {n : ℕ} {f : ℕ → ℕ} {l : List ℕ} {i : ℕ} → Halves n f l i → i < n → (x y : ℕ) → x ≡ f i → y ≡ f (i + n) → Halves n f (set (set l i x) (i + n) y) (i + 1)
 halves_next {n = n} {f = f} {l = l} {i = i} w h x y e e' =

@@ -9,7 +9,7 @@ ghost use Rattle.clusters.specs.Group.{cluster_starts, subchannel_starts, group_
 ghost use Rattle.clusters.specs.Model.{base12_thrice, base8_four_times, turned_base};
 ghost use Rattle.clusters.specs.Cluster as cluster;
 
-use base::{reduce, reduce16, skip, unskip};
+use base::{reduce, skip, unskip};
 
 // A cluster's number in the order of the carriers, and its number after the renumbering. They are never added or compared, and
 // `renumber` and `unrenumber` are the only passage between them.
@@ -72,7 +72,7 @@ pub fn unrenumber(inverse: &[u8; 120], cell: usize, l: Logical) -> Physical
     ensures { (result ≡ cluster.unrenumber cell l) × (result.0 < 120) }
 {
     let i = l.0;
-    let p = reduce16(120, u16::from(inverse[i]) + (120 - 13 * cell % 120) as u16);
+    let p = reduce(120, u16::from(inverse[i]) + (120 - 13 * cell % 120) as u16);
     Physical(usize::from(p))
 }
 
@@ -83,6 +83,7 @@ pub struct PilotPlaces {
     pub second: usize,
 }
 
+#[tactic(auto, unfolding(crate::specs::Cluster::first_pilot, crate::specs::Cluster::second_pilot))]
 pub fn pilots(symbol: usize) -> PilotPlaces
     ensures { (result.first ≡ first_pilot symbol) × (result.second ≡ second_pilot symbol) }
 {
@@ -126,7 +127,7 @@ pub fn cluster_data(symbol: usize, place: usize) -> usize
     unskip(p.first, unskip(p.second, place))
 }
 
-// The group whose run of numbers holds x.
+// The group whose run of numbers holds x. (A chain, as its definition is: a loop would need the same early return.)
 pub fn group_in(starts: [usize; 6], x: usize) -> usize
     ensures { (result ≡ group_in starts x) × (result < 6) }
 {
@@ -177,8 +178,8 @@ pub fn turned_base(twelve: &[u8; 36], eight: &[u8; 32], g: usize, cell: usize, i
     ensures { (result ≡ turned_base g cell i) × (result < group_size g) }
 {
     if group_size(g) == 12 {
-        reduce16(12, u16::from(twelve[i]) + (cell % 12) as u16)
+        reduce(12, u16::from(twelve[i]) + (cell % 12) as u16)
     } else {
-        reduce16(8, u16::from(eight[i]) + (cell % 8) as u16)
+        reduce(8, u16::from(eight[i]) + (cell % 8) as u16)
     }
 }

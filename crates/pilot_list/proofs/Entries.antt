@@ -128,3 +128,6 @@ module _ (list : List ℕ) (long : length list ≡ 166) where
 pub other_length : (list : List ℕ) → (length list ≡ 166 → ⊥) → false ≡ is_pilot_list list
 unfolding is_pilot_list
 other_length list h = rw (ne_eqb (length list) 166 h)
+
+-- what each question of the code decides
+pub ruleset decided = (other_length, falls_no, last_decides)

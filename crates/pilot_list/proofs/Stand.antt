@@ -1,8 +1,8 @@
 -- Where a number stands among the entries of an accepted list: what a pointer that goes up the list, and a sum over the list, find.
-use Rattle.base.proofs.Prelude.{◌≡◌, Bool, true, false, List, ℕ, zero, suc, ◌+◌, ◌-◌, ◌<◌, ◌≤◌, arith, ltb, leb, length}
+use Rattle.base.proofs.Prelude.{◌≡◌, true, false, List, ℕ, zero, suc, ◌+◌, ◌-◌, ◌<◌, ◌≤◌, arith, ltb, leb, length}
 use Rattle.base.proofs.Prelude.{ltb-true, ltb-false}
 use Rattle.base.proofs.{Test.cases, Rank.{rank_yes, rank_no, rank_law}}
-use mir.{Val.{bool_byte, Fits}, Syntax.w32}
+use mir.{Val.{bool_byte}}
 use borrow.Author.{Tests.{leb-true, leb-false}, Count.{below_none, below_more}}
 use Rattle.base.specs.{Steps.entry, Rank.rank}
 use Rattle.pilot_list.specs.List.{is_in, is_left, is_pilot_list, used_of_data, data_of_used}
@@ -110,18 +110,10 @@ module _ (list : List ℕ) (ok : is_pilot_list list ≡ true) where
       let all : i ≡ length list = omega (arith, a.long) in
       after_rank list a.climbs used j (rw all at s)
 
--- the sum of such a loop is small
-pub sum_fits : (x : ℕ) (b : Bool) → x ≤ 166 → Fits w32 (x + bool_byte b)
-sum_fits x true h = omega arith
-sum_fits x false h = omega arith
-
 -- One entry more of a sum over the list: the small entries come first, so their count stands at the first that is not small.
 module _ (list : List ℕ) where
   pub stands_none : (d : ℕ) → Stands list 0 d 0
   stands_none d = record { within = omega arith; before = below_none _; then = λ h. absurd (omega arith) }
-
-  pub after_none : (used : ℕ) → After list 0 used 0
-  after_none used = record { within = omega arith; before = below_none _; then = λ h. absurd (omega arith) }
 
   module _ (up : Climbs list) (i j : ℕ) (h : i < length list) where
     pub stands_next : (d : ℕ) → Stands list i d j → Stands list (i + 1) d (j + bool_byte (leb (entry list i) (d + i)))

@@ -25,6 +25,7 @@ fn is_rising(pilots: &[u32]) -> bool
 }
 
 // Are these 166 used numbers, each larger than the one before? (Then all are below 1702 where the last is.)
+#[tactic(auto, using(crate::proofs::Entries::decided))]
 pub fn is_pilot_list(pilots: &[u32]) -> bool
     ensures { result ≡ is_pilot_list pilots.now }
 {

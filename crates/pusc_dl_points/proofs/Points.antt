@@ -72,9 +72,6 @@ lower_groups = 0 ∷ 1 ∷ 3 ∷ 7 ∷ 15 ∷ 31 ∷ []
 abbrev lower : ℕ → ℕ → ℕ
 lower mask g = bit_and mask (entry lower_groups g)
 
-pub lower_small : (mask g : ℕ) → mask < 64 → g < 6 → bit_and mask (entry lower_groups g) < 64
-lower_small mask g h l = ltb→lt _ _ (all_pairs (λ m g. ltb (lower m g) 64) 64 (λ m. 6) tt mask g h l)
-
 pub lower_rank : (mask g : ℕ) → mask < 64 → g < 6 → rank (λ s. has_group (bit_and mask (entry lower_groups g)) (group_in subchannel_starts s)) 60 ≡ group_rank mask g
 unfolding rank has_group group_in
 lower_rank mask g h l = eqb→eq _ _ (all_pairs (λ m g. eqb (rank (λ s. has_group (lower m g) (group_in subchannel_starts s)) 60) (group_rank m g)) 64 (λ m. 6) tt mask g h l)

@@ -10,7 +10,7 @@ ghost use Rattle.pusc_dl.specs.Map.{used_group};
 ghost use Rattle.pusc_dl_lit.specs.Lit.{has_group};
 ghost use Rattle.pusc_dl_points.specs.Model.{inverse_entry, InverseFrom, point_of_data, group_rank, logical_entry, cluster_entry, cluster_number};
 
-use base::{reduce16, unrotate};
+use base::{reduce, unrotate};
 use clusters::{
     BASE_8_INVERSE, BASE_12_INVERSE, CLUSTER_STARTS, Logical, Physical, RENUMBERING, cluster_start,
     group_in, renumber,
@@ -92,7 +92,7 @@ fn group_number<const SIZE: u16>(first: u16, n: u16, b: u16) -> u16
     requires { (0 < SIZE) × (SIZE < 13) × (first < 4096) × (n < 24) × (b < SIZE) }
     ensures { result ≡ first + (Unrotate SIZE n b * 48 + Unrotate 24 (13 * Unrotate SIZE n b) n) }
 {
-    let s = reduce16(SIZE, b + (SIZE - n % SIZE));
+    let s = reduce(SIZE, b + (SIZE - n % SIZE));
     first + (s * 48 + (n + 11 * s) % 24)
 }
 

@@ -28,21 +28,21 @@ of_8 table g size i x t s e h q =
     let b = goes_on 8 32 base8_four_times base8 tt tt i (omega arith) in
     (is, rw (q, t) b.0, rw (q, t) b.1)
 
-pub reduce16-requires : goal.reduce16-requires
-reduce16-requires c = omega (arith, of_12 _ _ _ _ _ c.requires.0 c.group_size.ensures.0 c.if-group_size-eq12.true c.requires.2 c.from.ensures)
+pub reduce-requires : goal.reduce-requires
+reduce-requires c = omega (arith, of_12 _ _ _ _ _ c.requires.0 c.group_size.ensures.0 c.if-group_size-eq12.true c.requires.2 c.from.ensures)
 
 pub bounds-eight-i : goal.bounds-eight-i
 bounds-eight-i c = omega (arith, size_8 c.args.g _ c.group_size.ensures.0 c.if-group_size-eq12.false)
 
-pub reduce16-requires-else-group_size-eq12 : goal.reduce16-requires-else-group_size-eq12
-reduce16-requires-else-group_size-eq12 c = omega (arith, of_8 _ _ _ _ _ c.requires.1 c.group_size.ensures.0 c.if-group_size-eq12.false c.requires.2 c.from-else-group_size-eq12.ensures)
+pub reduce-requires-else-group_size-eq12 : goal.reduce-requires-else-group_size-eq12
+reduce-requires-else-group_size-eq12 c = omega (arith, of_8 _ _ _ _ _ c.requires.1 c.group_size.ensures.0 c.if-group_size-eq12.false c.requires.2 c.from-else-group_size-eq12.ensures)
 
 pub returns-then-group_size-eq12 : goal.returns-then-group_size-eq12
 returns-then-group_size-eq12 c =
     let b = of_12 _ _ _ _ _ c.requires.0 c.group_size.ensures.0 c.if-group_size-eq12.true c.requires.2 c.from.ensures in
-    turned _ 12 _ _ _ _ b.0 b.1 c.reduce16.ensures
+    turned _ 12 _ _ _ _ b.0 b.1 c.reduce.ensures
 
 pub returns-else-group_size-eq12 : goal.returns-else-group_size-eq12
 returns-else-group_size-eq12 c =
     let b = of_8 _ _ _ _ _ c.requires.1 c.group_size.ensures.0 c.if-group_size-eq12.false c.requires.2 c.from-else-group_size-eq12.ensures in
-    turned _ 8 _ _ _ _ b.0 b.1 c.reduce16-else-group_size-eq12.ensures
+    turned _ 8 _ _ _ _ b.0 b.1 c.reduce-else-group_size-eq12.ensures
