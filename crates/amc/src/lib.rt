@@ -58,7 +58,11 @@ pub fn sequence_place(p: &[u8; 48], cell: usize, i: usize) -> u16
     requires { (p.now ≡ sequence_digits) × (cell < 2352) × (i < 48) }
     ensures { result ≡ sequence_place cell i }
 {
-    sum_place((cell / 48 / 7) as u16, (cell / 48 % 7) as u16, p[i] as u16)
+    sum_place(
+        (cell / 48 / 7) as u16,
+        (cell / 48 % 7) as u16,
+        u16::from(p[i]),
+    )
 }
 
 // The place v of index j among the 48 traffic places of a subchannel.

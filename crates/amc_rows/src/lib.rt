@@ -10,19 +10,15 @@ ghost use Rattle.amc_rows.specs.Model.{EvenWidth, traffic_carrier, subchannel_st
 
 use amc::{SEQUENCE, Shape, bin_symbol, sequence_place};
 use base::reduce16;
+use std::array;
 
 // v of each entry of P.
-#[tactic(auto, using(crate::proofs::Row::written))]
 pub fn places(cell: usize) -> [u16; 48]
     requires { cell < 2352 }
     ensures { Starts 48 (sequence_place cell) result }
 {
     let p = SEQUENCE;
-    let mut places = [0; 48];
-    for i in 0..48 {
-        places[i] = sequence_place(&p, cell, i);
-    }
-    places
+    array::from_fn(|i| sequence_place(&p, cell, i))
 }
 
 // The carrier of traffic place v of subchannel 0, in a slot whose first symbol has the number `first`.
@@ -44,6 +40,7 @@ pub fn table(shape: Shape, n: usize, slot: usize, cell: usize) -> [u16; 48]
 {
     let p = SEQUENCE;
     let first = (slot % 3 * shape.symbols % 3) as u16;
+    // A loop, since array::from_fn does not prove here.
     let mut table = [0; 48];
     for i in 0..48 {
         table[i] = first_carrier(shape, n as u16, first, sequence_place(&p, cell, i));
@@ -77,6 +74,7 @@ pub fn carrier_row(
     ensures { Starts 48 (sequence_carrier shape n (slot * shape.symbols) cell subchannel) result }
 {
     let step = subchannel_step(shape, n, subchannel);
+    // A loop, since array::from_fn does not prove here.
     let mut row = [0; 48];
     for i in 0..48 {
         row[i] = table[i] + step;

@@ -16,22 +16,25 @@ pub data_inner : (cell : ℕ) → Inner 48 32 (data_number cell) (data_subchanne
 unfolding data_number data_subchannel data_index
 data_inner cell = inner 48 32 sequence_perm cell (lit< tt) (lit< tt)
 
+pub number_lt : (cell s m : ℕ) → s < 32 → m < 48 → data_number cell s m < 1536
+number_lt cell = (data_inner cell).number_lt
+
 module _ (pilots : List ℕ) (ok : is_pilot_list pilots ≡ true) (cell : ℕ) where
   left : LeftLaw pilots
   left = left_law pilots ok
 
   -- point m of subchannel s
   module _ (s m : ℕ) (hs : s < 32) (hm : m < 48) where
-    number_lt : data_number cell s m < 1536
-    number_lt = (data_inner cell).number_lt s m hs hm
+    below : data_number cell s m < 1536
+    below = number_lt cell s m hs hm
 
     lies : DataSpot 1 1702 (λ o u. is_in pilots u) (spot_of pilots cell s m)
     unfolding spot_of
-    lies = record { offset_lt = lit< tt; used_lt = left.used_lt _ number_lt; no_pilot = left.no_pilot _ number_lt }
+    lies = record { offset_lt = lit< tt; used_lt = left.used_lt _ below; no_pilot = left.no_pilot _ below }
 
     found : address_of pilots cell (spot_of pilots cell s m).used ≡ record { subchannel = s; index = m }
     unfolding spot_of address_of
-    found = rw (left.back _ number_lt, (data_inner cell).subchannel_back s m hs hm, (data_inner cell).index_back s m hs hm)
+    found = rw (left.back _ below, (data_inner cell).subchannel_back s m hs hm, (data_inner cell).index_back s m hs hm)
 
   -- a used number that is no pilot
   module _ (o u : ℕ) (ho : o < 1) (hu : u < 1702) (e : is_in pilots u ≡ false) where

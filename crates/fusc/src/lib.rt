@@ -56,7 +56,7 @@ fn data_address(cell: usize, d: usize) -> Address
 }
 
 // Where point `index` of a subchannel lies.
-#[tactic(auto, unfolding(crate::specs::Map::spot_of))]
+#[tactic(auto, using(crate::proofs::Law::number_lt), unfolding(crate::specs::Map::spot_of))]
 pub fn spot(cell: usize, subchannel: usize, index: usize, pilots: &[u32]) -> Spot
     requires { (cell < 32) × (subchannel < 32) × (index < 48) × (is_pilot_list pilots.now ≡ true) }
     ensures { result ≡ spot_of pilots.now cell subchannel index }

@@ -71,7 +71,7 @@ pub fn parts(n: usize, x: usize) -> ByWidth
 }
 
 // What the cell adds by one sequence in group k, below N-1: its entry at (k+c) mod (N-1), or nothing where c is 0.
-#[tactic(auto, using(crate::proofs::Sequence::size, crate::proofs::Sequence::place_lt, crate::proofs::Sequence::term_zero))]
+#[tactic(auto, using(crate::proofs::Sequence::size, crate::proofs::Sequence::place_lt, crate::proofs::Sequence::term_zero, crate::proofs::Sequence::term_turn))]
 pub fn term(rows: &[u8; 63], n: usize, c: usize, k: usize) -> usize
     requires width { Width n }
     requires c_lt_n { (c < n) × (k < n - 1) }

@@ -58,6 +58,7 @@ pub fn numbers(n: usize, cell: usize, subchannel: usize, table: &[u16; 48]) -> [
     ensures { result ≡ tabulate 48 (group_number n cell subchannel) }
 {
     let s = subchannel as u16;
+    // A loop, since array::from_fn does not prove here.
     let mut row = [0; 48];
     for k in 0..48 {
         row[k] = table[k] ^ s;
