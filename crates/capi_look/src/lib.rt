@@ -29,24 +29,26 @@ pub extern "C" fn bp_look(
     let of = c_boundary::setup(mode, size, cell);
     let mask = mask as usize;
     let answer = look::look(of, mask, symbol as usize, pilots, grid, carrier);
-    match answer {
-        Ok(Seen::Nothing) => {
+    let seen = match answer {
+        Ok(seen) => seen,
+        Err(refusal) => return u32::from(refusal),
+    };
+    match seen {
+        Seen::Nothing => {
             *kind = 0;
             0
         }
-        Ok(Seen::Pilot(p)) => {
+        Seen::Pilot(p) => {
             *kind = 2;
             *point = [p.i, p.q];
             0
         }
-        Ok(
-            Seen::Data {
-                point: d,
-                slot: t,
-                subchannel: b,
-                index: n,
-            },
-        ) => {
+        Seen::Data {
+            point: d,
+            slot: t,
+            subchannel: b,
+            index: n,
+        } => {
             *kind = 3;
             *point = [d.i, d.q];
             *slot = t as u32;
@@ -54,6 +56,5 @@ pub extern "C" fn bp_look(
             *index = n as u32;
             0
         }
-        Err(refusal) => u32::from(refusal),
     }
 }

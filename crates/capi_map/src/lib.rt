@@ -57,32 +57,33 @@ pub extern "C" fn bp_locate(
 {
     let of = c_boundary::setup(mode, size, cell);
     let answer = map::locate(of, symbol as usize, carrier, pilots);
-    match answer {
-        Ok(Located::Guard) => {
+    let held = match answer {
+        Ok(held) => held,
+        Err(refusal) => return u32::from(refusal),
+    };
+    match held {
+        Located::Guard => {
             *kind = 0;
             0
         }
-        Ok(Located::Dc) => {
+        Located::Dc => {
             *kind = 1;
             0
         }
-        Ok(Located::Pilot) => {
+        Located::Pilot => {
             *kind = 2;
             0
         }
-        Ok(
-            Located::Data {
-                slot: a,
-                subchannel: s,
-                index: m,
-            },
-        ) => {
+        Located::Data {
+            slot: a,
+            subchannel: s,
+            index: m,
+        } => {
             *kind = 3;
             *slot = a as u32;
             *subchannel = s as u32;
             *index = m as u32;
             0
         }
-        Err(refusal) => u32::from(refusal),
     }
 }
