@@ -67,8 +67,8 @@ pub returns-then-carriers-start : goal.returns-then-carriers-start
 returns-then-carriers-start c =
     let p = c.requires in
     took_then c.loop-i.invariant.1
-        (row_over _ (valid_alone p.unlent) _ _ _ _ _ _ p.unlent _ (omega (arith, count_is (alone c.args.setup) _ _ c.symbol_runs-shape.ensures, c.loop-i-test.true))
-        (omega (arith, starts (alone c.args.setup) _ _ c.symbol_runs-shape.ensures c.args.row c.loop-i.i c.band-band.result c.carrier.result c.band-band.ensures c.carrier.ensures, c.if-carriers-start.true)))
+    (row_over _ (valid_alone p.unlent) _ _ _ _ _ _ p.unlent _ (omega (arith, count_is (alone c.args.setup) _ _ c.symbol_runs-shape.ensures, c.loop-i-test.true))
+    (omega (arith, starts (alone c.args.setup) _ _ c.symbol_runs-shape.ensures c.args.row c.loop-i.i c.band-band.result c.carrier.result c.band-band.ensures c.carrier.ensures, c.if-carriers-start.true)))
 
 pub drop_run-requires : goal.drop_run-requires
 drop_run-requires c =
