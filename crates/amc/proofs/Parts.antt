@@ -56,3 +56,6 @@ module _ (shape : Shape) (six : IsShape shape) where
 
   pub before_few : (a : ℕ) → a < 65536 → a * shape.bins ≤ 393216
   before_few a h = mul-le-mul {n₁ = a} {m₁ = shape.bins} {n₂ = 65536} {m₂ = 6} (omega arith) bins_few
+
+-- what the code's steps by a shape need
+pub ruleset by_shape = (bins_few, symbols_few, product_few, before_few, by_six, quotient_few, rest_six, taken_le)

@@ -7,7 +7,7 @@ ghost use Rattle.amc.specs.Element.{element, base_seven, two_digits, subtract};
 ghost use Rattle.amc.specs.Map.{sum_of, traffic as Traffic, index_of, data_number, address_of};
 ghost use Rattle.amc.specs.Model.{IsShape, sum_place, sequence_place};
 
-use base::{unrotate, wide, wide16};
+use base::unrotate;
 use carriers::{Address, DataNumber};
 
 // A slot's shape: bins of a subchannel by symbols.
@@ -40,6 +40,7 @@ fn digit_sum(a: u16, b: u16) -> u16
 
 // v of the entry x of P, two digits, under the offset whose digits are high and low: the sum, or the offset itself where
 // that sum is zero.
+#[tactic(auto, using(crate::proofs::Sequence::offset_above), unfolding(crate::specs::Model::sum_place, crate::specs::Map::zero_rule, crate::specs::Element::add))]
 fn sum_place(high: u16, low: u16, x: u16) -> u16
     requires { (high < 7) × (low < 7) × (x / 16 < 7) × (x % 16 < 7) × (0 < x) }
     ensures { result ≡ sum_place (element high low) (element (x / 16) (x % 16)) }
@@ -61,6 +62,7 @@ pub fn sequence_place(p: &[u8; 48], cell: usize, i: usize) -> u16
 }
 
 // The place v of index j among the 48 traffic places of a subchannel.
+#[tactic(auto, using(crate::proofs::Sequence::traffic_at))]
 fn traffic(cell: usize, j: usize) -> u16
     requires { (cell < 2352) × (j < 48) }
     ensures { result ≡ Traffic cell j }
@@ -69,6 +71,7 @@ fn traffic(cell: usize, j: usize) -> u16
 }
 
 // The difference of two elements, all three read in base seven.
+#[tactic(auto, unfolding(crate::specs::Element::subtract))]
 fn difference(x: usize, o: usize) -> usize
     requires { x < 49 }
     ensures { (result ≡ base_seven (subtract (two_digits x) (two_digits o))) × (result < 49) }
@@ -77,6 +80,7 @@ fn difference(x: usize, o: usize) -> usize
 }
 
 // The reverse: the entry of P that gives the element e under the offset o, all three read in base seven.
+#[tactic(auto, using(crate::proofs::ZeroRule::sum_off, crate::proofs::ZeroRule::sum_other, crate::proofs::Digit::number_digits))]
 fn entry_of(o: usize, e: usize) -> usize
     requires { e < 49 }
     ensures { (result ≡ base_seven (subtract (sum_of (two_digits o) (two_digits e)) (two_digits o))) × (result < 49) }
@@ -89,16 +93,18 @@ fn entry_of(o: usize, e: usize) -> usize
 }
 
 // The reverse: the index of v.
+#[tactic(auto, unfolding(crate::specs::Map::index_of, crate::specs::Map::off))]
 fn index(cell: usize, v: usize) -> usize
     requires { (cell < 2352) × (v < 48) }
     ensures { result ≡ index_of cell v }
 {
     let x = entry_of(cell / 48, v + 1);
-    unrotate(48, cell % 48, wide(POSITIONS[x]))
+    unrotate(48, cell % 48, usize::from(POSITIONS[x]))
 }
 
 // The symbol of the slot in which bin w of a subchannel lies. It has six bins in all its symbols, so w div bins is w·symbols
 // div 6.
+#[tactic(auto, using(crate::proofs::Parts::by_shape))]
 pub fn bin_symbol(shape: Shape, w: u16) -> u16
     requires { IsShape shape × (w < 6) }
     ensures { (result ≡ w / shape.bins) × (result < 6) }
@@ -107,20 +113,22 @@ pub fn bin_symbol(shape: Shape, w: u16) -> u16
 }
 
 // The symbol and the data number of a point.
+#[tactic(auto, using(crate::proofs::Parts::by_shape, crate::proofs::Law::traffic_lt), unfolding(crate::specs::Map::data_number, crate::specs::Map::traffic_number))]
 pub fn data_number(shape: Shape, cell: usize, subchannel: usize, index: usize) -> DataNumber
     requires { IsShape shape × (cell < 2352) × (subchannel < 65536) × (index < 48) }
     ensures { result ≡ data_number shape cell subchannel index }
 {
     let v = traffic(cell, index);
-    let offset = wide16(bin_symbol(shape, v / 8));
-    let bin = wide16(v / 8) - offset * shape.bins;
+    let offset = usize::from(bin_symbol(shape, v / 8));
+    let bin = usize::from(v / 8) - offset * shape.bins;
     DataNumber {
-        offset: offset,
-        number: (subchannel * shape.bins + bin) * 8 + wide16(v % 8),
+        offset,
+        number: (subchannel * shape.bins + bin) * 8 + usize::from(v % 8),
     }
 }
 
 // The reverse: the point of a data number in a symbol of the slot.
+#[tactic(auto, using(crate::proofs::Parts::by_shape, crate::proofs::Law::index_below), unfolding(crate::specs::Map::address_of))]
 pub fn address(shape: Shape, cell: usize, offset: usize, d: usize) -> Address
     requires { IsShape shape × (cell < 2352) × (offset < shape.symbols) × (d < 65536) }
     ensures { result ≡ address_of shape cell offset d }
@@ -128,7 +136,7 @@ pub fn address(shape: Shape, cell: usize, offset: usize, d: usize) -> Address
     let subchannel = d / 8 * shape.symbols / 6;
     let bin = d / 8 - subchannel * shape.bins;
     Address {
-        subchannel: subchannel,
+        subchannel,
         index: index(cell, (offset * shape.bins + bin) * 8 + d % 8),
     }
 }

@@ -60,9 +60,9 @@ module _ (shape : Shape) (six : IsShape shape) (o i : ℕ) where
       let last : (i * 8 + 7) % 8 ≡ 7 = omega arith in
       rw (bin, last) at (index_below shape six o (i * 8 + 7) (i * shape.symbols / 6) h (rw bin (by_six shape six i)))
 
-  pub point-number : (cell j : ℕ) → j < 8 → i * shape.symbols / 6 * 48 + index_of cell (first_place shape o i + j) ≡ address_number (address_of shape cell o (i * 8 + j))
+  pub point_number : (cell j : ℕ) → j < 8 → i * shape.symbols / 6 * 48 + index_of cell (first_place shape o i + j) ≡ address_number (address_of shape cell o (i * 8 + j))
   unfolding address_of
-  point-number cell j h =
+  point_number cell j h =
       let bin : (i * 8 + j) / 8 ≡ i = omega arith in
       let place : (i * 8 + j) % 8 ≡ j = omega arith in
       rw (bin, place, rest_six shape six i _ (by_six shape six i), by_six shape six i)

@@ -1,7 +1,7 @@
 -- A row of carriers by the places of P.
 use Rattle.base.proofs.Prelude.{Bool, ◌≡◌, sym, ap, ap₂, ◌∙◌, ℕ, ◌+◌, ◌-◌, ◌*◌, ◌/◌, ◌%◌, ◌<◌, ◌≤◌, mod-lt, mul-le-mul, div-add-mod'}
 use Rattle.base.proofs.Prelude.{div-lt_iff_lt-mul, arith, digits_lt, leb}
-use Rattle.base.proofs.{Test.cases, LeaveOut.{skip_lt, skip_step}}
+use Rattle.base.proofs.{Test.cases, LeaveOut.{skip_lt, skip_step}, Tabulate.{written_none, written_next, written_starts}}
 use native.Mathlib.Nat.{mul_assoc, mul_left_comm, mul_right_comm, mul-sub, mul-le-mul_left, add-mul, mul-add-mod_self_right, mul-div_left}
 use mir.Val.{bool_byte}
 use borrow.Author.Tests.{leb-true, leb-false, le-leb, lt-leb}
@@ -128,3 +128,6 @@ module _ (shape : Shape) (six : IsShape shape) where
     pub step_few : (a : ℕ) → a < n * shape.symbols → subchannel_step shape n a < 1729
     unfolding subchannel_step
     step_few a h = cases (leb (27 * n) (a * b * 9)) (λ e. rw e (omega (arith, used_few a h))) (λ e. rw e (omega (arith, used_few a h)))
+
+-- a loop that writes a row from its first entry on
+pub ruleset written = (written_none, written_next, written_starts)

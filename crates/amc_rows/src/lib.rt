@@ -9,24 +9,24 @@ ghost use Rattle.amc.specs.Model.{IsShape, sequence_place};
 ghost use Rattle.amc_rows.specs.Model.{EvenWidth, traffic_carrier, subchannel_step, sequence_carrier};
 
 use amc::{SEQUENCE, Shape, bin_symbol, sequence_place};
-use base::{reduce16, wide16};
+use base::reduce16;
 
 // v of each entry of P.
+#[tactic(auto, using(crate::proofs::Row::written))]
 pub fn places(cell: usize) -> [u16; 48]
     requires { cell < 2352 }
     ensures { Starts 48 (sequence_place cell) result }
 {
     let p = SEQUENCE;
     let mut places = [0; 48];
-    let mut i = 0;
-    while i < 48 {
+    for i in 0..48 {
         places[i] = sequence_place(&p, cell, i);
-        i += 1;
     }
     places
 }
 
 // The carrier of traffic place v of subchannel 0, in a slot whose first symbol has the number `first`.
+#[tactic(auto, using(amc::proofs::Parts::by_shape, base::proofs::LeaveOut::step_fits, crate::proofs::Row::rows_few, crate::proofs::Row::first_is))]
 fn first_carrier(shape: Shape, n: u16, first: u16, v: u16) -> u16
     requires { IsShape shape × EvenWidth n × (first < 3) × (v < 48) }
     ensures { result ≡ traffic_carrier shape n first 0 v }
@@ -37,6 +37,7 @@ fn first_carrier(shape: Shape, n: u16, first: u16, v: u16) -> u16
 }
 
 // The carriers of P's entries in subchannel 0 of a slot, once for all subchannels.
+#[tactic(auto, using(amc::proofs::Parts::by_shape, amc::proofs::Sequence::sequence_place_lt, crate::proofs::Row::table_entry, crate::proofs::Row::written))]
 pub fn table(shape: Shape, n: usize, slot: usize, cell: usize) -> [u16; 48]
     requires { IsShape shape × EvenWidth n × (cell < 2352) }
     ensures { Starts 48 (sequence_carrier shape n (slot * shape.symbols) cell 0) result }
@@ -44,16 +45,15 @@ pub fn table(shape: Shape, n: usize, slot: usize, cell: usize) -> [u16; 48]
     let p = SEQUENCE;
     let first = (slot % 3 * shape.symbols % 3) as u16;
     let mut table = [0; 48];
-    let mut i = 0;
-    while i < 48 {
+    for i in 0..48 {
         table[i] = first_carrier(shape, n as u16, first, sequence_place(&p, cell, i));
-        i += 1;
     }
     table
 }
 
 // How far a subchannel's carriers are from those of subchannel 0: by the used numbers before it, and by DC, which lies
 // between two subchannels.
+#[tactic(auto, using(base::proofs::LeaveOut::step_is, crate::proofs::Row::used_few, crate::proofs::Row::step_few), unfolding(crate::specs::Model::subchannel_step))]
 fn subchannel_step(shape: Shape, n: usize, subchannel: usize) -> u16
     requires { IsShape shape × EvenWidth n × (subchannel < n * shape.symbols) }
     ensures { (result ≡ subchannel_step shape n subchannel) × (result < 1729) }
@@ -63,6 +63,7 @@ fn subchannel_step(shape: Shape, n: usize, subchannel: usize) -> u16
 }
 
 // The carriers of P's entries in a subchannel.
+#[tactic(auto, using(crate::proofs::Row::entry_few, crate::proofs::Row::row_entry, crate::proofs::Row::written))]
 pub fn carrier_row(
     shape: Shape,
     n: usize,
@@ -77,15 +78,14 @@ pub fn carrier_row(
 {
     let step = subchannel_step(shape, n, subchannel);
     let mut row = [0; 48];
-    let mut i = 0;
-    while i < 48 {
+    for i in 0..48 {
         row[i] = table[i] + step;
-        i += 1;
     }
     row
 }
 
 // The index of each v, once for all bins of a slot: of v of entry i of P it is i moved back by the cell.
+#[tactic(auto, using(amc::proofs::Sequence::sequence_place_lt, crate::proofs::Points::indexed_none, crate::proofs::Points::indexed_next, crate::proofs::Points::indexed_all))]
 pub fn indices(cell: usize) -> [u16; 48]
     requires { cell < 2352 }
     ensures { Starts 48 (index_of cell) result }
@@ -93,16 +93,15 @@ pub fn indices(cell: usize) -> [u16; 48]
     let places = places(cell);
     let back = (48 - cell % 48) as u16;
     let mut indices = [0; 48];
-    let mut i = 0;
-    while i < 48 {
-        let v = wide16(places[i]);
+    for i in 0..48 {
+        let v = usize::from(places[i]);
         indices[v] = reduce16(48, i as u16 + back);
-        i += 1;
     }
     indices
 }
 
 // The numbers of the eight points of bin i in a symbol of the slot, by rising carrier.
+#[tactic(auto, using(amc::proofs::Parts::by_shape, amc::proofs::Law::index_lt, crate::proofs::Points::subchannel_le, crate::proofs::Points::places_lt, crate::proofs::Points::point_number, crate::proofs::Row::written))]
 pub fn bin_points(
     shape: Shape,
     cell: usize,
@@ -119,10 +118,8 @@ pub fn bin_points(
     let start = subchannel as u16 * 48;
     let first = (offset * shape.bins + bin) * 8;
     let mut points = [0; 12];
-    let mut j = 0;
-    while j < 8 {
+    for j in 0..8 {
         points[j] = start + indices[first + j];
-        j += 1;
     }
     points
 }

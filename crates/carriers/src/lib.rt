@@ -145,11 +145,9 @@ pub fn used_numbers(y: usize, numbers: [u16; 48]) -> [u16; 48]
 {
     let pilot = bin_pilot_place(y) as u16;
     let mut row = [0; 48];
-    let mut m = 0;
-    while m < 48 {
+    for m in 0..48 {
         let d = numbers[m];
         row[m] = d + d / 8 + (pilot <= d % 8) as u16;
-        m += 1;
     }
     row
 }
@@ -162,11 +160,9 @@ pub fn carrier_row(b: Band, spots: [u16; 48]) -> [u16; 48]
     let left = b.left as u16;
     let half = b.half as u16;
     let mut row = [0; 48];
-    let mut k = 0;
-    while k < 48 {
+    for k in 0..48 {
         let x = spots[k];
         row[k] = x + left + (half <= x % 2048) as u16;
-        k += 1;
     }
     row
 }

@@ -33,10 +33,6 @@ goes_on m n long base same below i h =
 pub all_pairs : (f : ℕ → ℕ → Bool) (m : ℕ) (n : ℕ → ℕ) → T (all (λ x. all (f x) (n x)) m) → (x y : ℕ) → x < m → y < n x → T (f x y)
 all_pairs f m n test x y hx hy = all_at (f x) (n x) (all_at (λ x. all (f x) (n x)) m test x hx) y hy
 
--- the starts of the six groups by their formula, a·g + b·(g mod 2), by one computed test for each list
-pub start_is : (starts : List ℕ) (a b : ℕ) → T (all (λ g. eqb (a * g + b * (g % 2)) (entry starts g)) 6) → (g : ℕ) → g < 6 → a * g + b * (g % 2) ≡ entry starts g
-start_is starts a b test g h = eqb→eq _ _ (all_at (λ g. eqb (a * g + b * (g % 2)) (entry starts g)) 6 test g h)
-
 -- a slot has two symbols, so the offset in the slot tells the parity
 pub pilot_parity : (slot o u : ℕ) → is_cluster_pilot (slot * 2 + o) u ≡ is_cluster_pilot o u
 unfolding is_cluster_pilot first_pilot second_pilot

@@ -9,7 +9,7 @@ ghost use Rattle.clusters.specs.Group.{cluster_starts, subchannel_starts, group_
 ghost use Rattle.clusters.specs.Model.{base12_thrice, base8_four_times, turned_base};
 ghost use Rattle.clusters.specs.Cluster as cluster;
 
-use base::{reduce, reduce16, skip, unskip, wide, wide16};
+use base::{reduce, reduce16, skip, unskip};
 
 // A cluster's number in the order of the carriers, and its number after the renumbering. They are never added or compared, and
 // `renumber` and `unrenumber` are the only passage between them.
@@ -63,7 +63,7 @@ pub fn renumber(table: &[u8; 120], cell: usize, p: Physical) -> Logical
     ensures { (result ≡ cluster.renumber cell p) × (result.0 < 120) }
 {
     let i = reduce(120, p.0 + 13 * cell % 120);
-    Logical(wide(table[i]))
+    Logical(usize::from(table[i]))
 }
 
 // The reverse, by the caller's copy of R's inverse.
@@ -72,7 +72,8 @@ pub fn unrenumber(inverse: &[u8; 120], cell: usize, l: Logical) -> Physical
     ensures { (result ≡ cluster.unrenumber cell l) × (result.0 < 120) }
 {
     let i = l.0;
-    Physical(wide16(reduce16(120, inverse[i] as u16 + (120 - 13 * cell % 120) as u16)))
+    let p = reduce16(120, u16::from(inverse[i]) + (120 - 13 * cell % 120) as u16);
+    Physical(usize::from(p))
 }
 
 // The two pilots of a cluster.
@@ -104,10 +105,7 @@ pub fn is_pilot(symbol: usize, used: usize) -> bool
 {
     let place = used % 14;
     let p = pilots(symbol);
-    if place == p.first {
-        return true;
-    }
-    place == p.second
+    place == p.first || place == p.second
 }
 
 // The place of data number r of a cluster.
@@ -150,19 +148,20 @@ pub fn group_in(starts: [usize; 6], x: usize) -> usize
     5
 }
 
-// The first logical cluster of a group, and its first subchannel.
-pub fn cluster_start(g: usize) -> usize
-    requires { g < 6 }
-    ensures { result ≡ entry cluster_starts g }
-{
-    20 * g + 4 * (g % 2)
-}
-
+// The first subchannel of a group.
 pub fn subchannel_start(g: usize) -> usize
     requires { g < 6 }
     ensures { result ≡ entry subchannel_starts g }
 {
     10 * g + 2 * (g % 2)
+}
+
+// The first logical cluster of a group: a subchannel has two.
+pub fn cluster_start(g: usize) -> usize
+    requires { g < 6 }
+    ensures { result ≡ entry cluster_starts g }
+{
+    2 * subchannel_start(g)
 }
 
 // The number of subchannels of a group.
@@ -178,8 +177,8 @@ pub fn turned_base(twelve: &[u8; 36], eight: &[u8; 32], g: usize, cell: usize, i
     ensures { (result ≡ turned_base g cell i) × (result < group_size g) }
 {
     if group_size(g) == 12 {
-        reduce16(12, twelve[i] as u16 + (cell % 12) as u16)
+        reduce16(12, u16::from(twelve[i]) + (cell % 12) as u16)
     } else {
-        reduce16(8, eight[i] as u16 + (cell % 8) as u16)
+        reduce16(8, u16::from(eight[i]) + (cell % 8) as u16)
     }
 }

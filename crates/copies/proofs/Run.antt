@@ -1,17 +1,10 @@
 -- Runs of a row of places: the points on them, and two runs that are the turned row.
-use Rattle.base.proofs.Prelude.{◌≡◌, refl, ap, ◌∙◌, List, ℕ, ◌+◌, ◌-◌, ◌*◌, ◌<◌, ◌≤◌, arith}
+use Rattle.base.proofs.Prelude.{◌≡◌, refl, ap, ◌∙◌, List, ℕ, ◌+◌, ◌-◌, ◌<◌, arith}
 use lib.Ieee.{Float}
 use Rattle.base.specs.Steps.{entry}
 use Rattle.points.specs.{declared.Point.Point, Points.point_at, Model.puts}
 use Rattle.points.proofs.Points.{puts_as, puts_more}
-use Rattle.copies.specs.Model.{turned, Within}
-
--- place m of a run from q on is a point of the buffer
-pub run_within : (row : List ℕ) (floats q n m k long : ℕ) → Within row floats → q + n ≤ 48 → m < n → k ≡ entry row (q + m) → long ≡ floats → k * 2 + 1 < long
-run_within row floats q n m k long w h l e f = rw (e, f) (w (q + m) (omega arith))
-
-pub still_within : (row : List ℕ) (floats long : ℕ) → Within row floats → long ≡ floats → Within row long
-still_within row floats long w e k h = rw e (w k h)
+use Rattle.copies.specs.Model.{turned}
 
 -- a run of the first a points and one of the b that follow, by whatever way to say the places and the source
 two_runs : (place p₁ p₂ : ℕ → ℕ) (source s₁ s₂ : ℕ → Point) (a b : ℕ) (l l₁ l₂ : List Float) → l₁ ≡ puts p₁ s₁ a l → l₂ ≡ puts p₂ s₂ b l₁

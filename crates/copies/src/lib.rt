@@ -7,7 +7,6 @@ ghost use Rattle.points.specs.Points.{point_at};
 ghost use Rattle.points.specs.Model.{puts};
 ghost use Rattle.copies.specs.Model.{turned, Within, RunWithin};
 
-use base::wide16;
 use points::{point_at, put_point};
 
 // The n points from `first` on laid on the places of a row from q on.
@@ -15,11 +14,9 @@ fn lay_run(row: &[u16; 48], q: usize, n: usize, first: usize, points: &[f32], gr
     requires { (q + n ≤ 48) × ((first + n) * 2 ≤ length points.now) × Within row.now (length grid.old) }
     ensures { grid.new ≡ puts (λ m. entry row.now (q + m)) (λ m. point_at points.now (first + m)) n grid.old }
 {
-    let mut m = 0;
-    while m < n {
-        let k = wide16(row[q + m]);
+    for m in 0..n {
+        let k = usize::from(row[q + m]);
         put_point(grid, k, point_at(points, first + m));
-        m += 1;
     }
 }
 
@@ -47,11 +44,9 @@ pub fn drop_run(
     requires { (n ≤ 12) × (start < 65536) × RunWithin numbers.now from stride places.now start n (length grid.now) (length points.old) }
     ensures { points.new ≡ puts (λ j. entry numbers.now (from + j * stride)) (λ j. point_at grid.now (start + entry places.now j)) n points.old }
 {
-    let mut j = 0;
-    while j < n {
-        let number = wide16(numbers[from + j * stride]);
-        let place = start + wide16(places[j]);
+    for j in 0..n {
+        let number = usize::from(numbers[from + j * stride]);
+        let place = start + usize::from(places[j]);
         put_point(points, number, point_at(grid, place));
-        j += 1;
     }
 }

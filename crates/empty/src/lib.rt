@@ -2,6 +2,7 @@
 #![tactic(auto)]
 
 ghost use Rattle.std.specs.Prelude.{◌≡◌, ◌*◌, ◌<◌, length};
+ghost use Rattle.refusal.specs.Refusal.{refusal_in};
 ghost use Rattle.modes.specs.Setup.{alone, lent};
 ghost use Rattle.modes.specs.Model.{Unlent, Valid};
 ghost use Rattle.mask.specs.Mask.{lit_subchannels};
@@ -9,6 +10,7 @@ ghost use Rattle.lengths.specs.Length.{grid_points};
 ghost use Rattle.empty.specs.Empty.{emptied_first, empty_of, empty_first_of};
 
 use modes::Setup;
+use refusal::Refusal;
 
 // The points on the first `carriers` of the grid dropped at their numbers, row after row.
 fn empty_rows(
@@ -27,12 +29,10 @@ fn empty_rows(
     let runs = point_numbers::run_table(setup, mask);
     let places = point_numbers::place_table(setup);
     let symbols = modes::symbols(setup);
-    let mut row = 0;
-    while row < symbols {
+    for row in 0..symbols {
         row_walk::empty_row(
             setup, mask, slot, row, carriers, &lit, &runs, &places, grid, points,
         );
-        row += 1;
     }
 }
 
@@ -50,7 +50,7 @@ fn take_off(
     requires mask_bound { (mask < 64) × (slot < 512) × (length points.old ≡ 96 * lit_subchannels (alone setup) mask) × (length grid.now ≡ 2 * grid_points (alone setup)) }
     ensures { points.new ≡ emptied_first (lent setup pilots.now) mask slot carriers grid.now points.old }
 {
-    if setup.mode == 7 {
+    if modes::takes_list(setup.mode) {
         fusc_walk::empty_symbol(setup, mask, slot, carriers, pilots, grid, points);
         return;
     }
@@ -65,16 +65,13 @@ pub fn empty(
     pilots: &[u32],
     grid: &[f32],
     points: &mut [f32],
-) -> u8
-    ensures { record { refusal = result; buffer = points.new } ≡ empty_of (lent setup pilots.now) mask slot grid.now points.old }
+) -> Result<(), Refusal>
+    ensures { record { refusal = refusal_in result; buffer = points.new } ≡ empty_of (lent setup pilots.now) mask slot grid.now points.old }
 {
-    let refusal = questions::empty_refusal(setup, mask, slot, pilots, points.len(), grid.len());
-    if refusal != 0 {
-        return refusal;
-    }
+    questions::ask_empty(setup, mask, slot, pilots, points.len(), grid.len())?;
     let all = lengths::grid_points(setup);
     take_off(setup, mask, slot, all, pilots, grid, points);
-    0
+    Ok(())
 }
 
 // Takes the points off the first `carriers` of the grid alone, guards, DC and pilots counted, and leaves the other points as
@@ -87,13 +84,10 @@ pub fn empty_first(
     pilots: &[u32],
     grid: &[f32],
     points: &mut [f32],
-) -> u8
-    ensures { record { refusal = result; buffer = points.new } ≡ empty_first_of (lent setup pilots.now) mask slot carriers grid.now points.old }
+) -> Result<(), Refusal>
+    ensures { record { refusal = refusal_in result; buffer = points.new } ≡ empty_first_of (lent setup pilots.now) mask slot carriers grid.now points.old }
 {
-    let refusal = questions::empty_refusal(setup, mask, slot, pilots, points.len(), grid.len());
-    if refusal != 0 {
-        return refusal;
-    }
+    questions::ask_empty(setup, mask, slot, pilots, points.len(), grid.len())?;
     take_off(setup, mask, slot, carriers, pilots, grid, points);
-    0
+    Ok(())
 }

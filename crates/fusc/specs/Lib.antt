@@ -1,3 +1,4 @@
 pub mod Table
 pub mod Map
 pub mod Law
+pub mod Model

@@ -1,2 +1,2 @@
 -- The points of a symbol.
-mod Points
+pub mod Points

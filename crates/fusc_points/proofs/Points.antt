@@ -1,5 +1,6 @@
 -- The point of a data number, by its quotient and the entry of its remainder.
 use Rattle.base.proofs.Prelude.{◌≡◌, ℕ, ◌+◌, ◌-◌, ◌*◌, ◌/◌, ◌%◌, ◌<◌, arith}
+use Rattle.base.proofs.Tabulate.{written_none, written_next, written_starts}
 use Rattle.base.specs.Steps.{unrotate}
 use Rattle.fusc.specs.Map.{data_subchannel, data_index}
 use Rattle.fusc.proofs.Tables.{sequence_perm}
@@ -26,3 +27,6 @@ module _ (cell n x b s : ℕ) (hn : n < 48) (hx : x < 32) (eb : b ≡ turned_inv
 
   pub number_is : s * 48 + (n + 35 * s) % 48 ≡ point_of_data cell d
   number_is = rw (subchannel_is, index_is)
+
+-- a loop that writes a row from its first entry on
+pub ruleset written = (written_none, written_next, written_starts)

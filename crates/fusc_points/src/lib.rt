@@ -7,39 +7,36 @@ ghost use Rattle.base.specs.Model.{Starts};
 ghost use Rattle.fusc.specs.Map.{data_subchannel, data_index};
 ghost use Rattle.fusc_points.specs.Model.{turned_inverse, point_of_data};
 
-use base::wide;
 use fusc::SEQUENCE_INVERSE;
 
 // The inverse of the sequence, turned by the cell.
+#[tactic(auto, using(crate::proofs::Points::written), unfolding(crate::specs::Model::turned_inverse))]
 fn turned_inverse(cell: usize) -> [u16; 32]
     ensures { Starts 32 (turned_inverse cell) result }
 {
     let inverse = SEQUENCE_INVERSE;
     let back = 32 - cell % 32;
     let mut row = [0; 32];
-    let mut x = 0;
-    while x < 32 {
+    for x in 0..32 {
         let i = (x + back) % 32;
-        row[x] = wide(inverse[i]) as u16;
-        x += 1;
+        row[x] = u16::from(inverse[i]);
     }
     row
 }
 
 // Writes the numbers of the points on the 32 data numbers of n, by the inverse turned by the cell. The index is
 // (n+35s) mod 48, since 35 and 13 make 48.
+#[tactic(auto, using(crate::proofs::Points::turned_lt, crate::proofs::Points::written))]
 fn put_numbers(row: &mut [u16; 1536], inverse: &[u16; 32], cell: usize, n: usize)
     requires n_bound { (n < 48) × Starts 32 (turned_inverse cell) inverse.now }
-    requires row_len { (length row.old ≡ 1536) × Starts (n * 32) (point_of_data cell) row.old }
+    requires starts { Starts (n * 32) (point_of_data cell) row.old }
     ensures { (length row.new ≡ 1536) × Starts (n * 32 + 32) (point_of_data cell) row.new }
 {
     let turn = n as u16;
     let back = 64 - turn;
-    let mut x = 0;
-    while x < 32 {
+    for x in 0..32 {
         let s = (inverse[x] + back) % 32;
         row[n * 32 + x] = s * 48 + (turn + 35 * s) % 48;
-        x += 1;
     }
 }
 
@@ -50,10 +47,8 @@ pub fn point_numbers(cell: usize) -> [u16; 1536]
 {
     let inverse = turned_inverse(cell);
     let mut row = [0; 1536];
-    let mut n = 0;
-    while n < 48 {
+    for n in 0..48 {
         put_numbers(&mut row, &inverse, cell, n);
-        n += 1;
     }
     row
 }

@@ -1,6 +1,7 @@
 -- How far data numbers are moved on by the pilots: a table of it, which each pilot changes at one place.
 use Rattle.base.proofs.Prelude.{◌≡◌, refl, ◌∙◌, subst, true, List, ℕ, zero, suc, ◌+◌, ◌-◌, ◌<◌, ◌≤◌, arith, eqb, ltb, leb, length, set, replicate}
 use Rattle.base.proofs.Prelude.{lt-ltb, le-ltb, ltb-true, ltb-false, eqb-true, eqb-false, length-set, length-replicate}
+use Rattle.base.proofs.Tabulate.{written_none, written_next, written_starts, written_all}
 use Rattle.base.proofs.{Test.cases, Rank.{rank_yes, rank_no, rank_most}, LeaveOut.{step_is, skip_le}}
 use native.Mathlib.Numerals.{add-one}
 use borrow.Author.Tests.{leb-true, leb-false}
@@ -121,9 +122,18 @@ module _ (pilots : List ℕ) (d j : ℕ) (p : Passed pilots d j) where
   pub passed_next : j < 166 → entry pilots j ≤ d + j → Passed pilots d (j + 1)
   passed_next h l = record { within = omega arith; each = below_more (λ i. entry pilots i ≤ d + i) j p.each l }
 
-  pub passed_at : is_pilot_list pilots ≡ true → d < 1536 → (j < 166 → d + j < entry pilots j) → used_of_data pilots d ≡ d + j
+  passed_at : is_pilot_list pilots ≡ true → d < 1536 → (j < 166 → d + j < entry pilots j) → used_of_data pilots d ≡ d + j
   passed_at ok h then = stands-at pilots ok d j h (record { within = p.within; before = p.each; then = then })
+
+  pub passed_below : is_pilot_list pilots ≡ true → d < 1536 → d + j < entry pilots j → used_of_data pilots d ≡ d + j
+  passed_below ok h l = passed_at ok h (λ j-lt. l)
+
+  pub passed_all : is_pilot_list pilots ≡ true → d < 1536 → j ≡ 166 → used_of_data pilots d ≡ d + j
+  passed_all ok h e = passed_at ok h (λ j-lt. absurd (omega arith))
 
   -- a larger data number passes them too
   pub passed_on : (d' : ℕ) → d ≤ d' → Passed pilots d' j
   passed_on d' h = record { within = p.within; each = λ i l. omega (arith, p.each i l) }
+
+-- a loop that writes a row from its first entry on
+pub ruleset written = (written_none, written_next, written_starts, written_all)

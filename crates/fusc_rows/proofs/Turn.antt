@@ -4,7 +4,8 @@ use borrow.Author.Count.{below_none}
 use Rattle.carriers.specs.Band.{fusc_band, carrier_of}
 use Rattle.pilot_list.specs.List.{used_of_data}
 use Rattle.fusc.specs.Map.{data_number, spot_of}
-use Rattle.fusc_rows.specs.Model.{Passed, turn_number}
+use Rattle.fusc.specs.Model.{turn_number}
+use Rattle.fusc_rows.specs.Model.{Passed}
 use Rattle.fusc_rows.proofs.Columns.{passed_on}
 
 pub turn_range : (cell s n : ℕ) → (n * 32 ≤ turn_number cell s n) × (turn_number cell s n < n * 32 + 32)

@@ -1,8 +1,7 @@
 -- How the columns of data numbers are found fast. No reader needs this to know what the calls do.
-use Rattle.std.specs.Prelude.{◌≡◌, Bool, List, ℕ, ◌+◌, ◌*◌, ◌%◌, ◌<◌, ◌≤◌, ltb, length}
+use Rattle.std.specs.Prelude.{◌≡◌, Bool, List, ℕ, ◌+◌, ◌<◌, ◌≤◌, ltb, length}
 use Rattle.base.specs.Rank.{rank}
 use Rattle.base.specs.Steps.{entry}
-use Rattle.fusc.specs.Table.{sequence}
 
 -- Has the data number before d passed the pilot that has i pilots before it?
 abbrev pub is_before : (pilots : List ℕ) (d i : ℕ) → Bool
@@ -17,7 +16,3 @@ pub record Moves (pilots : List ℕ) (n : ℕ) (table : List ℕ) : Type 0 where
 pub record Passed (pilots : List ℕ) (d j : ℕ) : Type 0 where
   pub within : j ≤ 166
   pub each : (i : ℕ) → i < j → entry pilots i ≤ d + i
-
--- the data number of turn n of a subchannel, one in each 32 data numbers
-unfoldable pub turn_number : (cell subchannel n : ℕ) → ℕ
-turn_number cell subchannel n = n * 32 + (entry sequence ((subchannel + n) % 32) + cell) % 32

@@ -2,6 +2,7 @@
 #![tactic(auto)]
 
 ghost use Rattle.std.specs.Prelude.{◌≡◌, ◌+◌, ◌*◌, ◌<◌, length};
+ghost use Rattle.refusal.specs.Refusal.{refusal_in};
 ghost use Rattle.modes.specs.Setup.{alone, lent};
 ghost use Rattle.modes.specs.Mode.{symbols, band};
 ghost use Rattle.modes.specs.Model.{Unlent, Valid};
@@ -14,6 +15,7 @@ ghost use Rattle.ground.specs.Model.{last_pilot, PilotsBelow};
 
 use modes::Setup;
 use points::Point;
+use refusal::Refusal;
 use runs::Runs;
 
 // A point on a place of run i of a row, whose runs have `step` places.
@@ -66,12 +68,10 @@ fn pilot_row(
     }
     let last = last_pilot(shape);
     let points = [Point { i: 0.0, q: 0.0 }, p];
-    let mut i = 0;
-    while i < shape.count {
+    for i in 0..shape.count {
         let own = points[runs::run_lit(setup, lit, i)];
         put_pilot(setup, row, shape.step, i, shape.first, own, grid);
         put_pilot(setup, row, shape.step, i, last, own, grid);
-        i += 1;
     }
 }
 
@@ -84,10 +84,8 @@ fn zeros_and_pilots(setup: Setup, mask: usize, slot: usize, p: Point, grid: &mut
     points::clear(grid);
     let lit = runs::lit_runs(setup, mask);
     let symbols = modes::symbols(setup);
-    let mut row = 0;
-    while row < symbols {
+    for row in 0..symbols {
         pilot_row(setup, mask, &lit, slot, row, p, grid);
-        row += 1;
     }
 }
 
@@ -98,11 +96,9 @@ fn list_pilots(setup: Setup, mask: usize, slot: usize, pilots: &[u32], p: Point,
     ensures { PilotsBelow (lent setup pilots.now) mask slot p 0 (band (alone setup)).used grid.old grid.new }
 {
     let band = modes::band(setup);
-    let mut i = 0;
-    while i < 166 {
-        let used = pilot_list::wide32(pilots[i]);
+    for i in 0..166 {
+        let used = pilots[i] as usize;
         points::put_point(grid, carriers::carrier(band, used), p);
-        i += 1;
     }
 }
 
@@ -131,17 +127,14 @@ pub fn ground(
     pilots: &[u32],
     pilot: Point,
     grid: &mut [f32],
-) -> u8
-    ensures { record { refusal = result; buffer = grid.new } ≡ ground_of (lent setup pilots.now) mask slot pilot grid.old }
+) -> Result<(), Refusal>
+    ensures { record { refusal = refusal_in result; buffer = grid.new } ≡ ground_of (lent setup pilots.now) mask slot pilot grid.old }
 {
-    let refusal = questions::ground_refusal(setup, mask, slot, pilots, grid.len());
-    if refusal != 0 {
-        return refusal;
-    }
-    if setup.mode == 7 {
+    questions::ask_ground(setup, mask, slot, pilots, grid.len())?;
+    if modes::takes_list(setup.mode) {
         zeros_and_list(setup, mask, slot, pilots, pilot, grid);
-        return 0;
+        return Ok(());
     }
     zeros_and_pilots(setup, mask, slot, pilot, grid);
-    0
+    Ok(())
 }

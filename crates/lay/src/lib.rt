@@ -2,10 +2,12 @@
 #![tactic(auto)]
 
 ghost use Rattle.std.specs.Prelude.{◌≡◌};
+ghost use Rattle.refusal.specs.Refusal.{refusal_in};
 ghost use Rattle.modes.specs.Setup.{lent};
 ghost use Rattle.lay.specs.Lay.{lay_of};
 
 use modes::Setup;
+use refusal::Refusal;
 
 // Lays a lit subchannel's 48 points on a slot's grid and leaves the rest of it; or the first refusal of 1, 2, 3, 17, 4, 5, 20,
 // 8, 9.
@@ -17,10 +19,10 @@ pub fn lay(
     pilots: &[u32],
     points: &[f32],
     grid: &mut [f32],
-) -> u8
-    ensures { record { refusal = result; buffer = grid.new } ≡ lay_of (lent setup pilots.now) mask slot subchannel points.now grid.old }
+) -> Result<(), Refusal>
+    ensures { record { refusal = refusal_in result; buffer = grid.new } ≡ lay_of (lent setup pilots.now) mask slot subchannel points.now grid.old }
 {
-    let refusal = lay_questions::lay_refusal(
+    lay_questions::ask_lay(
         setup,
         mask,
         slot,
@@ -28,11 +30,8 @@ pub fn lay(
         pilots,
         points.len(),
         grid.len(),
-    );
-    if refusal != 0 {
-        return refusal;
-    }
+    )?;
     let row = rows::subchannel_row(setup, slot, subchannel, pilots);
     copies::lay_row(&row.carriers, row.shift, points, grid);
-    0
+    Ok(())
 }

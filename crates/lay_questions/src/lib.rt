@@ -2,13 +2,15 @@
 #![tactic(auto)]
 
 ghost use Rattle.std.specs.Prelude.{◌≡◌};
+ghost use Rattle.refusal.specs.Refusal.{refusal_in};
 ghost use Rattle.modes.specs.Setup.{lent};
 ghost use Rattle.lay_questions.specs.Model.{lay_refusal};
 
 use modes::Setup;
+use refusal::{Refusal, ask};
 
-// The number of the first of lay's questions, 1, 2, 3, 17, 4, 5, 20, 8, 9, that is answered no, or 0.
-pub fn lay_refusal(
+// Lay's questions: 1, 2, 3, 17, 4, 5, 20, 8, 9.
+pub fn ask_lay(
     setup: Setup,
     mask: usize,
     slot: usize,
@@ -16,24 +18,14 @@ pub fn lay_refusal(
     pilots: &[u32],
     points: usize,
     grid: usize,
-) -> u8
-    ensures { result ≡ lay_refusal (lent setup pilots.now) mask slot subchannel points grid }
+) -> Result<(), Refusal>
+    ensures { refusal_in result ≡ lay_refusal (lent setup pilots.now) mask slot subchannel points grid }
 {
-    let k = questions::slot_refusal(setup, mask, slot);
-    if k != 0 {
-        return k;
-    }
-    if modes::subchannels(setup) <= subchannel {
-        return 5;
-    }
-    if !mask::is_lit(setup, mask, subchannel) {
-        return 5;
-    }
-    if !modes::is_lent(setup, pilots) {
-        return 20;
-    }
-    if points != 96 {
-        return 8;
-    }
-    questions::grid_refusal(setup, grid)
+    questions::ask_slot(setup, mask, slot)?;
+    let in_range = subchannel < modes::subchannels(setup);
+    let lit = mask::is_lit(setup, mask, subchannel);
+    ask(in_range & lit, Refusal::Subchannel)?;
+    ask(modes::is_lent(setup, pilots), Refusal::Pilots)?;
+    ask(points == 96, Refusal::Points)?;
+    questions::ask_grid(setup, grid)
 }

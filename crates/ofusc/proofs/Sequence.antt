@@ -32,13 +32,6 @@ size n32 = record { bits = 5; is = refl; above = omega arith; most = omega arith
 pub turn_pos : {n : ℕ} → Width n → 0 < n - 1
 turn_pos w = let z = (size w).above in omega arith
 
--- a remainder by N-1, and a quotient and remainder by N, N being known
-pub turn_at : (x : ℕ) {n m : ℕ} → n ≡ m → x % (m - 1) ≡ x % (n - 1)
-turn_at x e = ap (λ (t : ℕ). x % (t - 1)) (sym e)
-
-pub parts_at : (x : ℕ) {n m : ℕ} → n ≡ m → (x / m ≡ x / n) × (x % m ≡ x % n)
-parts_at x e = (ap (λ (t : ℕ). x / t) (sym e), ap (λ (t : ℕ). x % t) (sym e))
-
 pub no_other : {n : ℕ} → Width n → (n ≡ 4 → ⊥) → (n ≡ 8 → ⊥) → (n ≡ 16 → ⊥) → n ≡ 32
 no_other n4 a b c = absurd (a refl)
 no_other n8 a b c = absurd (b refl)

@@ -6,7 +6,7 @@ ghost use Rattle.base.specs.Steps.{entry};
 ghost use Rattle.ofusc.specs.Width.{Width};
 ghost use Rattle.ofusc.specs.Map.{group_of, term as Term, cell_term, data_number, address_of};
 
-use base::{reduce, unrotate, wide};
+use base::{reduce, unrotate};
 use carriers::Address;
 
 // The basic permutation sequences of document 002, table 6. The row of N, which has N-1 entries, starts at place N.
@@ -23,20 +23,17 @@ pub const SEQUENCE_2: [u8; 63] = [
 ];
 
 // x mod (N-1), by a constant at each width.
+#[tactic(auto, using(crate::proofs::Sequence::no_other))]
 fn turn(n: usize, x: usize) -> usize
     requires { Width n }
     ensures { result ≡ x % (n - 1) }
 {
-    if n == 4 {
-        return x % 3;
+    match n {
+        4 => x % 3,
+        8 => x % 7,
+        16 => x % 15,
+        _ => x % 31,
     }
-    if n == 8 {
-        return x % 7;
-    }
-    if n == 16 {
-        return x % 15;
-    }
-    x % 31
 }
 
 // A number's quotient and remainder by N.
@@ -46,36 +43,35 @@ pub struct ByWidth {
     pub remainder: usize,
 }
 
+impl ByWidth {
+    // Those by a width that the compiler knows, so without a division.
+    fn new<const N: usize>(x: usize) -> ByWidth
+        requires { 0 < N }
+        ensures { (result.quotient ≡ x / N) × (result.remainder ≡ x % N) }
+    {
+        ByWidth {
+            quotient: x / N,
+            remainder: x % N,
+        }
+    }
+}
+
 // A number's quotient and remainder by the width, each by a constant.
+#[tactic(auto, using(crate::proofs::Sequence::no_other))]
 pub fn parts(n: usize, x: usize) -> ByWidth
     requires { Width n }
     ensures { (result.quotient ≡ x / n) × (result.remainder ≡ x % n) }
 {
-    if n == 4 {
-        return ByWidth {
-            quotient: x / 4,
-            remainder: x % 4,
-        };
-    }
-    if n == 8 {
-        return ByWidth {
-            quotient: x / 8,
-            remainder: x % 8,
-        };
-    }
-    if n == 16 {
-        return ByWidth {
-            quotient: x / 16,
-            remainder: x % 16,
-        };
-    }
-    ByWidth {
-        quotient: x / 32,
-        remainder: x % 32,
+    match n {
+        4 => ByWidth::new::<4>(x),
+        8 => ByWidth::new::<8>(x),
+        16 => ByWidth::new::<16>(x),
+        _ => ByWidth::new::<32>(x),
     }
 }
 
 // What the cell adds by one sequence in group k, below N-1: its entry at (k+c) mod (N-1), or nothing where c is 0.
+#[tactic(auto, using(crate::proofs::Sequence::size, crate::proofs::Sequence::place_lt, crate::proofs::Sequence::term_zero))]
 pub fn term(rows: &[u8; 63], n: usize, c: usize, k: usize) -> usize
     requires width { Width n }
     requires c_lt_n { (c < n) × (k < n - 1) }
@@ -85,7 +81,7 @@ pub fn term(rows: &[u8; 63], n: usize, c: usize, k: usize) -> usize
         return 0;
     }
     let i = n + reduce(n - 1, k + c);
-    wide(rows[i])
+    usize::from(rows[i])
 }
 
 // What the cell adds to the subchannel in group k.
@@ -102,6 +98,7 @@ fn cell_term(n: usize, cell: usize, k: usize) -> usize
 }
 
 // The group of index m of subchannel s.
+#[tactic(auto, unfolding(crate::specs::Map::group_of))]
 fn group(s: usize, m: usize) -> usize
     requires { (s < 32) × (m < 48) }
     ensures { result ≡ group_of s m }
@@ -110,6 +107,7 @@ fn group(s: usize, m: usize) -> usize
 }
 
 // The data number of a point.
+#[tactic(auto, using(crate::proofs::Sequence::size, crate::proofs::Law::group_lt, crate::proofs::Law::start_lt, crate::proofs::Law::element_lt), unfolding(crate::specs::Map::data_number))]
 pub fn data_number(n: usize, cell: usize, subchannel: usize, index: usize) -> usize
     requires width { Width n }
     requires cell_bound { (cell < n * n) × (subchannel < n) × (index < 48) }
@@ -120,6 +118,7 @@ pub fn data_number(n: usize, cell: usize, subchannel: usize, index: usize) -> us
 }
 
 // The reverse: the point of a data number.
+#[tactic(auto, using(crate::proofs::Sequence::size, crate::proofs::Law::subchannel_lt), unfolding(crate::specs::Map::address_of))]
 pub fn address(n: usize, cell: usize, d: usize) -> Address
     requires width { Width n }
     requires cell_bound { (cell < n * n) × (d < 48 * n) }

@@ -1,9 +1,9 @@
 -- The points of a bin: the subchannel comes back out of the data number by what the cell fixes.
-use Rattle.base.proofs.Prelude.{◌≡◌, sym, ap, ◌∙◌, subst⁻¹, Bool, true, false, ℕ, ◌+◌, ◌*◌, ◌/◌, ◌%◌, ◌<◌, mod-lt, div-add-mod', div-lt_iff_lt-mul}
+use Rattle.base.proofs.Prelude.{◌≡◌, sym, ap, ◌∙◌, subst⁻¹, Bool, true, false, List, ℕ, ◌+◌, ◌*◌, ◌/◌, ◌%◌, ◌<◌, mod-lt, div-add-mod', div-lt_iff_lt-mul}
 use Rattle.base.proofs.Prelude.{arith, ltb, ltb-true, ltb-false}
 use Rattle.base.proofs.Test.{cases}
 use lib.Bits.{bit_xor, xor_block, xor_self}
-use Rattle.base.specs.Choice.{pick}
+use Rattle.base.specs.{Choice.pick, Model.Starts, Steps.entry}
 use Rattle.carriers.specs.Model.{address_number}
 use Rattle.ofusc.specs.{Width.{Width, n4, n8, n16, n32}, Map.{cell_term, address_of}}
 use Rattle.ofusc_rows.specs.Model.{cell_number, point_in_group}
@@ -53,13 +53,15 @@ module _ {n : ℕ} (w : Width n) (cell : ℕ) where
   picked true k l x y ex ey = ex
   picked false k l x y ex ey = ey
 
-  pub found : (i j k l x y : ℕ) → i < 6 * n → j < 8 → k ≡ i * 8 / n → l ≡ (i * 8 + 4) / n → x ≡ cell_number n cell k → y ≡ cell_number n cell l
-      → Found i j (pick (ltb j 4) k l) (pick (ltb j 4) x y)
+  pub found : (table : List ℕ) (i j k l : ℕ) → Starts 48 (cell_number n cell) table → i < 6 * n → j < 8 → k ≡ i * 8 / n → l ≡ (i * 8 + 4) / n
+      → Found i j (pick (ltb j 4) k l) (pick (ltb j 4) (entry table k) (entry table l))
   unfolding point_in_group address_of
-  found i j k l x y hi hj ek el ex ey =
+  found table i j k l s hi hj ek el =
       let d = i * 8 + j in
+      let first = s k (rw ek (group_lt w (i * 8) (omega arith))) in
+      let last = s l (rw el (group_lt w (i * 8 + 4) (omega arith))) in
       let group : pick (ltb j 4) k l ≡ d / n = rw (ek, el) (sym (half_group w i j hj)) in
-      let fixed : pick (ltb j 4) x y ≡ cell_number n cell (d / n) = picked (ltb j 4) k l x y ex ey ∙ ap (cell_number n cell) group in
+      let fixed : pick (ltb j 4) (entry table k) (entry table l) ≡ cell_number n cell (d / n) = picked (ltb j 4) k l _ _ first last ∙ ap (cell_number n cell) group in
       record {
         group_few = rw group (group_lt w d (omega arith));
         subchannel_few = rw (fixed, subchannel_is d) (omega (arith, subchannel_lt w cell d, (size w).most));

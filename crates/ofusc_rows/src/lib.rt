@@ -14,6 +14,7 @@ ghost use Rattle.ofusc_rows.specs.Model.{cell_number, group_number, point_in_gro
 use ofusc::{SEQUENCE_1, SEQUENCE_2, parts, term};
 
 // What the cell alone fixes of the data number in each of the first N-1 groups.
+#[tactic(auto, using(ofusc::proofs::Sequence::pos, ofusc::proofs::Sequence::size, ofusc::proofs::Law::start_lt, crate::proofs::Row::written))]
 fn first_groups(n: usize, cell: usize) -> [u16; 48]
     requires width { Width n }
     requires cell_bound { cell < n * n }
@@ -25,16 +26,15 @@ fn first_groups(n: usize, cell: usize) -> [u16; 48]
     let c1 = c.remainder;
     let c2 = c.quotient;
     let mut table = [0; 48];
-    let mut k = 0;
-    while k < n - 1 {
+    for k in 0..n - 1 {
         let element = term(&first, n, c1, k) ^ term(&second, n, c2, k);
         table[k] = (k * n + element) as u16;
-        k += 1;
     }
     table
 }
 
 // The data number of subchannel 0 in each group: what the cell adds comes again after N-1 groups.
+#[tactic(auto, using(ofusc::proofs::Sequence::pos, ofusc::proofs::Sequence::size, ofusc::proofs::Law::start_lt, crate::proofs::Row::written))]
 pub fn table(n: usize, cell: usize) -> [u16; 48]
     requires width { Width n }
     requires cell_bound { cell < n * n }
@@ -43,15 +43,14 @@ pub fn table(n: usize, cell: usize) -> [u16; 48]
     let period = n - 1;
     let step = (period * n) as u16;
     let mut table = first_groups(n, cell);
-    let mut k = period;
-    while k < 48 {
+    for k in period..48 {
         table[k] = table[k - period] + step;
-        k += 1;
     }
     table
 }
 
 // The data numbers of a subchannel, by group.
+#[tactic(auto, using(ofusc::proofs::Sequence::size, crate::proofs::Row::written))]
 pub fn numbers(n: usize, cell: usize, subchannel: usize, table: &[u16; 48]) -> [u16; 48]
     requires width { Width n }
     requires subchannel_lt_n { subchannel < n }
@@ -60,10 +59,8 @@ pub fn numbers(n: usize, cell: usize, subchannel: usize, table: &[u16; 48]) -> [
 {
     let s = subchannel as u16;
     let mut row = [0; 48];
-    let mut k = 0;
-    while k < 48 {
+    for k in 0..48 {
         row[k] = table[k] ^ s;
-        k += 1;
     }
     row
 }
@@ -77,6 +74,7 @@ fn by_half(j: usize, first: u16, last: u16) -> u16
 
 // The number of the point on data number d of group k, by what the cell fixes of the numbers of the group. The index is
 // (k+25s) mod 48, since 25 and 23 make 48.
+#[tactic(auto, unfolding(crate::specs::Model::point_in_group))]
 fn point(fixed: u16, k: u16, d: u16) -> u16
     requires { (bit_xor d fixed < 32) × (k < 48) }
     ensures { result ≡ point_in_group (bit_xor d fixed) k }
@@ -86,6 +84,7 @@ fn point(fixed: u16, k: u16, d: u16) -> u16
 }
 
 // The numbers of the eight points of bin i, by rising carrier.
+#[tactic(auto, using(ofusc::proofs::Sequence::size, crate::proofs::Points::group_lt, crate::proofs::Row::written))]
 pub fn bin_points(n: usize, cell: usize, i: usize, table: &[u16; 48]) -> [u16; 12]
     requires width { Width n }
     requires i_bound { (i < 6 * n) × Starts 48 (cell_number n cell) table.now }
@@ -99,14 +98,12 @@ pub fn bin_points(n: usize, cell: usize, i: usize, table: &[u16; 48]) -> [u16; 1
     let last = table[l];
     let d = (i * 8) as u16;
     let mut points = [0; 12];
-    let mut j = 0;
-    while j < 8 {
+    for j in 0..8 {
         points[j] = point(
             by_half(j, first, last),
             by_half(j, k as u16, l as u16),
             d + j as u16,
         );
-        j += 1;
     }
     points
 }

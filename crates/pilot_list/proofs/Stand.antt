@@ -98,10 +98,17 @@ module _ (list : List ℕ) (ok : is_pilot_list list ≡ true) where
       let same : rank (is_left list) (d + j) ≡ d = omega arith in
       rw same at ((rank_law (is_left list) 1702).back (d + j) (omega (arith, s.within)) (left_is list (d + j) (stands_left list a.climbs d j s')))
 
+  -- the same after a pass over the whole list
+  pub moved_by : (d i j : ℕ) → d < 1536 → i ≤ 166 → length list ≤ i → Stands list i d j → used_of_data list d ≡ d + j
+  moved_by d i j h l e s = let all : i ≡ 166 = omega (arith, (accepted list ok).long) in stands-at d j h (rw all at s)
+
   -- A used number's data number, by how many entries are below it.
-  pub after_at : (used j : ℕ) → After list 166 used j → data_of_used list used + j ≡ used
+  pub after_at : (used i j : ℕ) → i ≤ 166 → length list ≤ i → After list i used j → data_of_used list used + j ≡ used
   unfolding data_of_used
-  after_at used j s = let a = accepted list ok in after_rank list a.climbs used j (rw (← a.long) at s)
+  after_at used i j l e s =
+      let a = accepted list ok in
+      let all : i ≡ length list = omega (arith, a.long) in
+      after_rank list a.climbs used j (rw all at s)
 
 -- the sum of such a loop is small
 pub sum_fits : (x : ℕ) (b : Bool) → x ≤ 166 → Fits w32 (x + bool_byte b)

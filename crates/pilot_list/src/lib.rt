@@ -18,10 +18,8 @@ fn is_rising(pilots: &[u32]) -> bool
     ensures { result ≡ is_rising pilots.now }
 {
     let mut falls = false;
-    let mut i = 0;
-    while i < 165 {
-        falls = falls | (pilots[i + 1] <= pilots[i]);
-        i += 1;
+    for i in 0..165 {
+        falls |= pilots[i + 1] <= pilots[i];
     }
     !falls
 }
@@ -46,10 +44,8 @@ pub fn is_pilot(pilots: &[u32], used: usize) -> bool
 {
     let number = used as u32;
     let mut found = false;
-    let mut i = 0;
-    while i < pilots.len() {
-        found = found | (pilots[i] == number);
-        i += 1;
+    for pilot in pilots {
+        found |= *pilot == number;
     }
     found
 }
@@ -62,13 +58,11 @@ pub fn used_of_data(pilots: &[u32], d: usize) -> usize
 {
     let mut at = d as u32;
     let mut passed = 0u32;
-    let mut i = 0;
-    while i < 166 {
-        passed += (pilots[i] <= at) as u32;
+    for pilot in pilots {
+        passed += (*pilot <= at) as u32;
         at += 1;
-        i += 1;
     }
-    d + wide32(passed)
+    d + passed as usize
 }
 
 // The data number of a used number that is no pilot: the pilots below it are taken off.
@@ -78,10 +72,8 @@ pub fn data_of_used(pilots: &[u32], used: usize) -> usize
 {
     let limit = used as u32;
     let mut below = 0u32;
-    let mut i = 0;
-    while i < 166 {
-        below += (pilots[i] < limit) as u32;
-        i += 1;
+    for pilot in pilots {
+        below += (*pilot < limit) as u32;
     }
-    used - wide32(below)
+    used - below as usize
 }

@@ -1,6 +1,6 @@
 -- Points in buffers: what is put is there, and nothing else changes.
 use Rattle.base.proofs.Prelude.{◌≡◌, refl, sym, ap, ap₂, ◌∙◌, List, ℕ, zero, suc, ◌+◌, ◌*◌, ◌/◌, ◌%◌, ◌<◌, arith, eqb, length, get_or, set, length-set}
-use Rattle.base.proofs.Prelude.{replicate, length-replicate, eqb-true, eqb-false}
+use Rattle.base.proofs.Prelude.{replicate, eqb-true, eqb-false}
 use Rattle.base.proofs.{Test.cases, Tabulate.{length_tabulate, get_d_tabulate, tabulated}}
 use native.Mathlib.Nat.{add-zero, add-suc}
 use lib.{ListN.get_or-replicate, Seq.{get_or-set_same, get_or-set_other}, Ieee.{Float, nan}}
@@ -119,10 +119,7 @@ puts_as place place' source source' (suc m) l e f =
     ap (λ (b : List Float). put_point b (place m) (source m)) (puts_as place place' source source' m l (λ j h. e j (omega arith)) (λ j h. f j (omega arith)))
     ∙ ap₂ (put_point (puts place' source' m l)) (e m (omega arith)) (f m (omega arith))
 
--- ---- a buffer cleared from the front
-
-pub cleared_all : (l : List Float) (n : ℕ) → l ≡ tabulate n (λ k. zero32) → l ≡ replicate n zero32
-cleared_all l n e = e ∙ sym (tabulated nan (replicate n zero32) n (λ k. zero32) (length-replicate n zero32) (λ k h. get_or-replicate n k zero32 nan h))
+-- ---- a buffer cleared
 
 pub point_cleared : (n k : ℕ) → k * 2 + 1 < n → point_at (replicate n zero32) k ≡ zero_point
 unfolding point_at

@@ -35,7 +35,5 @@ pub fn put_point(floats: &mut [f32], n: usize, p: Point)
 pub fn clear(floats: &mut [f32])
     ensures { floats.new ≡ replicate (length floats.old) zero32 }
 {
-    for j in 0..floats.len() {
-        floats[j] = 0.0;
-    }
+    floats.fill(0.0);
 }

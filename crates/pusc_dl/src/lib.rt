@@ -1,54 +1,20 @@
 // PUSC downlink: where the points of a subchannel lie, by the inner permutation of its major group, and the reverse.
 #![tactic(auto)]
 
-ghost use Rattle.std.specs.Prelude.{◌≡◌, false, ◌*◌, ◌/◌, ◌%◌, ◌<◌};
-ghost use Rattle.base.specs.Steps.{entry, unrotate as Unrotate};
+ghost use Rattle.std.specs.Prelude.{◌≡◌, false, ◌*◌, ◌<◌};
 ghost use Rattle.clusters.specs.Cluster.{is_cluster_pilot};
 ghost use Rattle.clusters.specs.Group.{group_size, of_size};
+ghost use Rattle.clusters.specs.Table.{base12_inverse, base8_inverse};
 ghost use Rattle.pusc_dl.specs.Inner.{group_data, group_subchannel, group_index};
 ghost use Rattle.pusc_dl.specs.Map.{group_used, used_group, used_data, spot_of, address_of};
 
-use base::{rotate, unrotate, wide, wide16};
+use base::{rotate, unrotate};
 use carriers::{Address, Spot};
 use clusters::{
     BASE_8, BASE_8_INVERSE, BASE_12, BASE_12_INVERSE, CLUSTER_STARTS, Logical, Physical,
     RENUMBERING, RENUMBERING_INVERSE, SUBCHANNEL_STARTS, cluster_data, cluster_place,
     cluster_start, group_in, group_size, renumber, subchannel_start, turned_base, unrenumber,
 };
-
-// The quotient and the remainder by a group's size, each by a constant.
-fn size_quotient(g: usize, x: usize) -> usize
-    requires { x < 24 * group_size g }
-    ensures { (result ≡ x / group_size g) × (result < 24) }
-{
-    if group_size(g) == 12 { x / 12 } else { x / 8 }
-}
-
-fn size_remainder(g: usize, x: usize) -> usize
-    ensures { (result ≡ x % group_size g) × (result < group_size g) × (result < 12) }
-{
-    if group_size(g) == 12 { x % 12 } else { x % 8 }
-}
-
-// y moved back by c, modulo a group's size.
-fn size_unrotate(g: usize, c: usize, y: usize) -> usize
-    requires { y < 65536 }
-    ensures { (result ≡ Unrotate (group_size g) c y) × (result < group_size g) × (result < 12) }
-{
-    size_remainder(g, y + (group_size(g) - size_remainder(g, c)))
-}
-
-// The entry of the table for a group's size.
-fn of_size(g: usize, twelve: [u8; 12], eight: [u8; 8], i: usize) -> usize
-    requires { i < group_size g }
-    ensures { (result ≡ entry (of_size (group_size g) twelve eight) i) × (result < 256) }
-{
-    if group_size(g) == 12 {
-        wide(twelve[i])
-    } else {
-        wide(eight[i])
-    }
-}
 
 // The group data number of index k, below 24, of subchannel s, counted in the group.
 fn group_data(g: usize, cell: usize, s: usize, k: usize) -> usize
@@ -57,22 +23,34 @@ fn group_data(g: usize, cell: usize, s: usize, k: usize) -> usize
 {
     let size = group_size(g);
     let n = rotate(24, 13 * s, k);
-    n * size + wide16(turned_base(&BASE_12, &BASE_8, g, cell, s + n))
+    n * size + usize::from(turned_base(&BASE_12, &BASE_8, g, cell, s + n))
 }
 
-// The reverse: the subchannel, counted in the group, and the index, below 24, of a group data number.
+// The reverse, in a group of SIZE subchannels, by the inverse of its base: the subchannel, counted in the group, and the index,
+// below 24, of a group data number. The size is a constant, since it is divided by.
+fn address_by<const SIZE: usize>(inverse: &[u8; SIZE], cell: usize, d: usize) -> Address
+    requires { (0 < SIZE) × (SIZE < 13) × (d < 24 * SIZE) × (inverse.now ≡ of_size SIZE base12_inverse base8_inverse) }
+    ensures subchannel_value { (result.subchannel ≡ group_subchannel SIZE cell d) × (result.index ≡ group_index SIZE cell d) }
+    ensures subchannel_bound { (result.subchannel < SIZE) × (result.index < 24) }
+{
+    let n = d / SIZE;
+    let place = unrotate(SIZE, cell, d % SIZE);
+    let s = unrotate(SIZE, n, usize::from(inverse[place]));
+    Address {
+        subchannel: s,
+        index: unrotate(24, 13 * s, n),
+    }
+}
+
 fn group_address(g: usize, cell: usize, d: usize) -> Address
     requires { d < 24 * group_size g }
     ensures subchannel_value { (result.subchannel ≡ group_subchannel (group_size g) cell d) × (result.index ≡ group_index (group_size g) cell d) }
     ensures subchannel_bound { (result.subchannel < group_size g) × (result.index < 24) }
 {
-    let n = size_quotient(g, d);
-    let place = size_unrotate(g, cell, size_remainder(g, d));
-    let i = of_size(g, BASE_12_INVERSE, BASE_8_INVERSE, place);
-    let s = size_unrotate(g, n, i);
-    Address {
-        subchannel: s,
-        index: unrotate(24, 13 * s, n),
+    if group_size(g) == 12 {
+        address_by(&BASE_12_INVERSE, cell, d)
+    } else {
+        address_by(&BASE_8_INVERSE, cell, d)
     }
 }
 

@@ -1,6 +1,8 @@
 -- What a mask lights, by computed tests over all 64 masks.
 use Rattle.base.proofs.{Prelude.{◌≡◌, refl, ap, ◌∙◌, Bool, true, false, List, ℕ, ◌+◌, ◌*◌, ◌/◌, ◌%◌, ◌<◌, arith, eqb, ltb, eqb→eq}, Table.all_at}
-use Rattle.base.proofs.Tabulate.{entry_of}
+use Rattle.base.proofs.Prelude.{[], ◌++◌, ◌-◌, length, take, drop, ltb-true, ltb-false}
+use Rattle.base.proofs.{Tabulate.{entry_of, tabulated}, Test.cases}
+use Rattle.std.proofs.{Math.Seq.take-append_seam, lemmas.List.{length-append, length-drop, drop_all, get_or_append_left, get_or-append_right}}
 use mathlib.Core.Bool.{not}
 use lib.Bits.{bit_and}
 use mir.Val.{bool_byte}
@@ -53,6 +55,30 @@ cluster-lit once bits e e' cell mask p h l =
     ap (bit_in mask) (entry_of bits 240 _ e' j (omega arith) ∙ entry_of once 120 group_bit e (j % 120) (omega arith))
     ∙ bit_lit mask (group_in cluster_starts logical.0) h (cluster_runs.group_lt logical.0 (renumbering.logical_lt 0 (at (j % 120)) (omega arith)))
     ∙ ap lit (same_logical cell p ∙ ap (λ (x : ℕ). renumber cell (at x)) same)
+
+-- a row of 120 laid into a row twice as long, from its first place on and from its middle on
+pub twice_over : (once fresh a b : List ℕ) → a ≡ once → b ≡ once → length once ≡ 120 → length fresh ≡ 240
+    → take 120 (a ++ drop 120 fresh) ++ (b ++ drop 120 (drop 120 (a ++ drop 120 fresh))) ≡ tabulate 240 (λ j. entry once (j % 120))
+twice_over once fresh a b e e' l m =
+    rw (e, e', first, rest) (tabulated 0 (once ++ (once ++ [])) 240 _ (omega (arith, length-append once (once ++ []), length-append once [])) at)
+  where
+    first : take 120 (once ++ drop 120 fresh) ≡ once
+    first = rw (← l) (take-append_seam once (drop (length once) fresh))
+
+    rest : drop 120 (drop 120 (once ++ drop 120 fresh)) ≡ []
+    rest =
+        let all = once ++ drop 120 fresh in
+        drop_all 120 (drop 120 all) (omega (arith, length-append once (drop 120 fresh), length-drop 120 fresh, length-drop 120 all))
+
+    at : (k : ℕ) → k < 240 → entry (once ++ (once ++ [])) k ≡ entry once (k % 120)
+    at k h =
+        cases (ltb k 120)
+        (λ e. let lt = ltb-true k 120 e in
+        let same : k ≡ k % 120 = omega arith in
+        get_or_append_left once (once ++ []) 0 k (omega arith) ∙ ap (entry once) same)
+        (λ e. let le = ltb-false k 120 e in
+        let same : k - 120 ≡ k % 120 = omega arith in
+        get_or-append_right once (once ++ []) 120 k 0 l le ∙ get_or_append_left once [] 0 (k - 120) (omega arith) ∙ ap (entry once) same)
 
 -- what holds of both holds of the choice
 either : (P : ℕ → Type 0) {x y : ℕ} (b : Bool) → P x → P y → P (pick b x y)

@@ -77,10 +77,8 @@ fn group_bits() -> [u8; 120]
 {
     let table = RENUMBERING;
     let mut bits = [0; 120];
-    let mut p = 0;
-    while p < 120 {
+    for p in 0..120 {
         bits[p] = group_bit(renumber(&table, 0, Physical(p)));
-        p += 1;
     }
     bits
 }
@@ -90,12 +88,8 @@ fn twice(once: &[u8; 120]) -> [u8; 240]
     ensures { result ≡ tabulate 240 (λ j. entry once.now (j % 120)) }
 {
     let mut row = [0; 240];
-    let mut i = 0;
-    while i < 120 {
-        row[i] = once[i];
-        row[i + 120] = once[i];
-        i += 1;
-    }
+    row[..120].copy_from_slice(once);
+    row[120..].copy_from_slice(once);
     row
 }
 
@@ -110,10 +104,8 @@ pub fn lit_clusters(cell: usize, mask: usize) -> [u8; 120]
     let own = mask as u8;
     let turn = 13 * cell % 120;
     let mut lit = [0; 120];
-    let mut p = 0;
-    while p < 120 {
+    for p in 0..120 {
         lit[p] = (own & bits[p + turn] != 0) as u8;
-        p += 1;
     }
     lit
 }

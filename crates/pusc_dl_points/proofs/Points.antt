@@ -1,23 +1,21 @@
 -- The points of a cluster, by the reverse: from the inverses of the bases and what is noted of the cluster.
-use Rattle.base.proofs.Prelude.{◌≡◌, refl, sym, ap, ◌∙◌, true, List, [], ◌∷◌, ℕ, ◌+◌, ◌-◌, ◌*◌, ◌/◌, ◌%◌, ◌<◌, ◌≤◌, arith, digits_div, digits_mod}
+use Rattle.base.proofs.Prelude.{◌≡◌, refl, sym, ap, ◌∙◌, true, List, [], ◌∷◌, ℕ, ◌+◌, ◌-◌, ◌*◌, ◌/◌, ◌%◌, ◌<◌, ◌≤◌, arith, mod-lt, div-add-mod', div-lt_iff_lt-mul, digits_div, digits_mod}
 use Rattle.base.proofs.Prelude.{eqb, ltb, eqb→eq, ltb→lt, eq-eqb, ne_eqb, lt-ltb, le-ltb}
 use Rattle.base.proofs.{Table.all_at, Tabulate.entry_of, Rank.{rank_run, rank_most}}
+use native.Mathlib.Nat.{mod-add-mod, mul-add-div_right}
 use lib.Bits.{bit_and}
 use Rattle.base.specs.{Steps.{entry, unrotate}, Rank.rank, Tabulate.tabulate, Model.Starts}
 use Rattle.clusters.specs.{Cluster.{renumber, cluster_place}, Group.{cluster_starts, subchannel_starts, group_in, group_size, of_size, base_inverse}}
 use Rattle.clusters.specs.{declared.Physical.Physical, declared.Logical.Logical}
 use Rattle.pusc_dl.specs.{Inner.{group_subchannel, group_index}, Map.{address_of, logical_of, used_group, used_data}}
 use Rattle.pusc_dl_lit.specs.Lit.{has_group}
-use Rattle.pusc_dl_points.specs.Model.{turned_inverse, inverse_entry, point_of_data, subchannel_rank, group_rank, logical_entry, cluster_entry}
+use Rattle.pusc_dl_points.specs.Model.{turned_inverse, inverse_entry, InverseFrom, point_of_data, subchannel_rank, group_rank, logical_entry, cluster_entry}
 use Rattle.pusc_dl_points.specs.Model.{cluster_number}
 use Rattle.clusters.proofs.{Tables.{b12_perm, b8_perm, all_pairs}, Cluster.{OnPlace, on_place}, Group.{size_most, cluster_runs, subchannel_runs}}
 use Rattle.clusters.proofs.Law.{renumbering}
 use Rattle.pusc_dl.proofs.Inner.{group_inner}
 
 -- ---- the inverses of the bases
-
-pub index_is : (n s : ℕ) → (n + 11 * s) % 24 ≡ unrotate 24 (13 * s) n
-index_is n s = omega arith
 
 pub inverse_12 : (cell x : ℕ) → x < 24 → (inverse_entry cell x ≡ turned_inverse 12 cell x) × (inverse_entry cell x < 12)
 unfolding inverse_entry turned_inverse base_inverse of_size
@@ -27,19 +25,44 @@ pub inverse_8 : (cell x : ℕ) → 24 ≤ x → (inverse_entry cell x ≡ turned
 unfolding inverse_entry turned_inverse base_inverse of_size
 inverse_8 cell x h = rw (le-ltb x 24 h) (refl, b8_perm.from_lt (unrotate 8 cell (x % 8)) (omega arith))
 
--- the entries of their row
-module _ (cell : ℕ) (row : List ℕ) (t : Starts 48 (inverse_entry cell) row) (x : ℕ) where
-  pub entry_12 : x < 24 → (entry row x ≡ turned_inverse 12 cell x) × (entry row x < 12)
-  entry_12 h = rw (t x (omega arith)) (inverse_12 cell x h)
+-- in their row 24 entries are those of a size
+module _ (cell : ℕ) (row : List ℕ) (t : Starts 48 (inverse_entry cell) row) where
+  pub from_12 : InverseFrom 12 cell 0 row
+  from_12 x h = let e : 0 + x ≡ x = omega arith in rw (e, t x (omega arith)) (inverse_12 cell x h)
 
-  pub entry_8 : 24 ≤ x → x < 48 → (entry row x ≡ turned_inverse 8 cell x) × (entry row x < 8)
-  entry_8 h l = rw (t x l) (inverse_8 cell x h)
+  pub from_8 : InverseFrom 8 cell 24 row
+  unfolding turned_inverse
+  from_8 x h =
+      let own = inverse_8 cell (24 + x) (omega arith) in
+      let same : (24 + x) % 8 ≡ x % 8 = omega arith in
+      rw (t (24 + x) (omega arith)) (rw same at own.0, own.1)
+
+-- the twelve data numbers of a cluster, by the quotient and the remainder of the first: their quotients, and the entries of their remainders
+pub turn_is : (size i r a s t : ℕ) → i < 2 * size → a ≡ i → s ≡ size → t ≡ size → a * 12 / s + (a * 12 % t + r) / size ≡ (i * 12 + r) / size
+turn_is size i r a s t h ea es et =
+    let pos : 0 < size = omega arith in
+    let d = i * 12 in
+    rw (ea, es, et) (sym (mul-add-div_right pos (d / size) (d % size + r)) ∙ ap (λ (x : ℕ). x / size) (omega (arith, div-add-mod' d size)))
+
+pub quotient_lt : (size i r : ℕ) → i < 2 * size → r < 12 → (i * 12 + r) / size < 24
+quotient_lt size i r h l = let pos : 0 < size = omega arith in (div-lt_iff_lt-mul pos).1 (omega arith)
+
+pub entry_at : (size cell start i w r : ℕ) (row : List ℕ) → InverseFrom size cell start row → i < 2 * size → size < 13 → r < 12 → w ≡ i * 12 % size
+    → (entry row (start + w + r) ≡ turned_inverse size cell (i * 12 + r)) × (entry row (start + w + r) < size)
+unfolding turned_inverse
+entry_at size cell start i w r row t hi hs hr e =
+    let pos : 0 < size = omega arith in
+    let lt = mod-lt (i * 12) pos in
+    let own = t (w + r) (omega arith) in
+    let at : start + w + r ≡ start + (w + r) = omega arith in
+    let same : (w + r) % size ≡ (i * 12 + r) % size = rw e (mod-add-mod (i * 12) size r) in
+    rw at (rw same at own.0, own.1)
 
 -- the point of data number d, by its quotient and the entry of its remainder
-pub number_of : (size cell first n d x b r : ℕ) → n ≡ d / size → x % size ≡ d % size → b ≡ turned_inverse size cell x
+pub number_of : (size cell first d n b r : ℕ) → n ≡ d / size → b ≡ turned_inverse size cell d
     → r ≡ first + (unrotate size n b * 48 + unrotate 24 (13 * unrotate size n b) n) → r ≡ first + point_of_data size cell d
 unfolding turned_inverse point_of_data group_subchannel group_index
-number_of size cell first n d x b r en ex eb er = er ∙ rw (eb, ex, en)
+number_of size cell first d n b r en eb er = er ∙ rw (eb, en)
 
 -- ---- the ranks of the groups' first subchannels, over all masks
 
@@ -61,6 +84,9 @@ starts_lt g h = ltb→lt _ _ (all_at (λ g. ltb (entry subchannel_starts g) 60) 
 
 pub rank_small : (mask g : ℕ) → g < 6 → group_rank mask g < 60
 rank_small mask g h = omega (arith, rank_most (λ s. has_group mask (group_in subchannel_starts s)) (entry subchannel_starts g), starts_lt g h)
+
+pub rank_at : (ranks : List ℕ) (mask g : ℕ) → ranks ≡ tabulate 6 (group_rank mask) → g < 6 → (entry ranks g ≡ group_rank mask g) × (entry ranks g < 60)
+rank_at ranks mask g e h = rw (entry_of ranks 6 (group_rank mask) e g h) (refl, rank_small mask g h)
 
 -- ---- a logical cluster: what is noted of it, and how it is read
 

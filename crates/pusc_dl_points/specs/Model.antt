@@ -1,5 +1,5 @@
 -- How the points of a cluster are found fast. No reader needs this to know what the calls do.
-use Rattle.std.specs.Prelude.{ℕ, ◌+◌, ◌-◌, ◌*◌, ◌%◌, ltb}
+use Rattle.std.specs.Prelude.{◌≡◌, List, ℕ, ◌+◌, ◌-◌, ◌*◌, ◌%◌, ◌<◌, ltb}
 use Rattle.base.specs.Choice.{pick}
 use Rattle.base.specs.Steps.{entry, unrotate}
 use Rattle.base.specs.Rank.{rank}
@@ -18,6 +18,10 @@ turned_inverse size cell x = base_inverse size (unrotate size cell (x % size))
 -- the inverses of both bases, turned back by the cell, in one row: that of 12 twice over, then that of 8 three times, so that twelve in a row need no reduction
 unfoldable pub inverse_entry : (cell x : ℕ) → ℕ
 inverse_entry cell x = pick (ltb x 24) (turned_inverse 12 cell x) (turned_inverse 8 cell x)
+
+-- 24 entries of such a row, from a place on, are those of a size
+abbrev pub InverseFrom : (size cell start : ℕ) (inverses : List ℕ) → Type 0
+InverseFrom size cell start inverses = (x : ℕ) → x < 24 → (entry inverses (start + x) ≡ turned_inverse size cell x) × (entry inverses (start + x) < size)
 
 -- the number of the point of a group's data number, 48 a subchannel of the group
 unfoldable pub point_of_data : (size cell d : ℕ) → ℕ

@@ -1,16 +1,16 @@
 // The points of a cluster of PUSC downlink, counted among those of the lit subchannels: the reverse, a cluster at a time.
 #![tactic(auto)]
 
-ghost use Rattle.std.specs.Prelude.{◌≡◌, true, ◌+◌, ◌*◌, ◌%◌, ◌<◌};
+ghost use Rattle.std.specs.Prelude.{◌≡◌, true, ◌+◌, ◌*◌, ◌≤◌, ◌<◌};
 ghost use Rattle.base.specs.Steps.{unrotate as Unrotate};
 ghost use Rattle.base.specs.Tabulate.{tabulate};
 ghost use Rattle.base.specs.Model.{Starts};
 ghost use Rattle.clusters.specs.Table.{base12_inverse, base8_inverse};
 ghost use Rattle.pusc_dl.specs.Map.{used_group};
 ghost use Rattle.pusc_dl_lit.specs.Lit.{has_group};
-ghost use Rattle.pusc_dl_points.specs.Model.{inverse_entry, point_of_data, group_rank, logical_entry, cluster_entry, cluster_number};
+ghost use Rattle.pusc_dl_points.specs.Model.{inverse_entry, InverseFrom, point_of_data, group_rank, logical_entry, cluster_entry, cluster_number};
 
-use base::{reduce16, unrotate, wide16};
+use base::{reduce16, unrotate};
 use clusters::{
     BASE_8_INVERSE, BASE_12_INVERSE, CLUSTER_STARTS, Logical, Physical, RENUMBERING, cluster_start,
     group_in, renumber,
@@ -28,10 +28,8 @@ pub fn inverses(cell: usize) -> [u16; 48]
     let twelve = BASE_12_INVERSE;
     let eight = BASE_8_INVERSE;
     let mut inverses = [0; 48];
-    let mut x = 0;
-    while x < 48 {
+    for x in 0..48 {
         inverses[x] = inverse_entry(&twelve, &eight, cell, x);
-        x += 1;
     }
     inverses
 }
@@ -43,10 +41,10 @@ fn inverse_entry(twelve: &[u8; 12], eight: &[u8; 8], cell: usize, x: usize) -> u
 {
     if x < 24 {
         let i = unrotate(12, cell, x % 12);
-        twelve[i] as u16
+        u16::from(twelve[i])
     } else {
         let i = unrotate(8, cell, x % 8);
-        eight[i] as u16
+        u16::from(eight[i])
     }
 }
 
@@ -57,10 +55,8 @@ fn group_ranks(mask: usize) -> [u16; 6]
 {
     let lower = LOWER_GROUPS;
     let mut ranks = [0; 6];
-    let mut g = 0;
-    while g < 6 {
+    for g in 0..6 {
         ranks[g] = lit_subchannels(mask & lower[g]) as u16;
-        g += 1;
     }
     ranks
 }
@@ -83,52 +79,43 @@ pub fn clusters(cell: usize, mask: usize) -> [u16; 120]
     let table = RENUMBERING;
     let ranks = group_ranks(mask);
     let mut clusters = [0; 120];
-    let mut p = 0;
-    while p < 120 {
+    for p in 0..120 {
         let logical = renumber(&table, cell, Physical(p));
         clusters[p] = logical_entry(&ranks, mask, logical);
-        p += 1;
     }
     clusters
 }
 
-// The number of a point of a group, counted from `first` on: n is the quotient of its data number by the group's size, m the
-// remainder of n by it, and b where in B its place stands.
-fn group_number(size: u16, first: u16, n: u16, m: u16, b: u16) -> u16
-    requires { (0 < size) × (size < 13) × (first < 4096) × (n < 24) × (m ≡ n % size) × (b < size) }
-    ensures { result ≡ first + (Unrotate size n b * 48 + Unrotate 24 (13 * Unrotate size n b) n) }
+// The number of a point of a group of SIZE subchannels, counted from `first` on: n is the quotient of its data number by the size, a
+// constant, since it is divided by, and b where in B its place stands.
+fn group_number<const SIZE: u16>(first: u16, n: u16, b: u16) -> u16
+    requires { (0 < SIZE) × (SIZE < 13) × (first < 4096) × (n < 24) × (b < SIZE) }
+    ensures { result ≡ first + (Unrotate SIZE n b * 48 + Unrotate 24 (13 * Unrotate SIZE n b) n) }
 {
-    let s = reduce16(size, b + (size - m));
+    let s = reduce16(SIZE, b + (SIZE - n % SIZE));
     first + (s * 48 + (n + 11 * s) % 24)
 }
 
-// The numbers of the points of cluster i of a group of 12 subchannels, from `first` on.
-fn twelve_numbers(cell: usize, first: u16, i: u16, inverses: &[u16; 48]) -> [u16; 12]
-    requires { (first < 4096) × (i < 24) × Starts 48 (inverse_entry cell) inverses.now }
-    ensures { result ≡ tabulate 12 (λ r. first + point_of_data 12 cell (i * 12 + r)) }
+// The numbers of the points of cluster i of a group of SIZE subchannels, from `first` on, by the inverse of its base, of which 24
+// entries stand from `start` on.
+fn group_numbers<const SIZE: u16>(
+    cell: usize,
+    first: u16,
+    i: u16,
+    start: usize,
+    inverses: &[u16; 48],
+) -> [u16; 12]
+    requires { (first < 4096) × (i < 2 * SIZE) × (SIZE < 13) × (start ≤ 24) × InverseFrom SIZE cell start inverses.now }
+    ensures { result ≡ tabulate 12 (λ r. first + point_of_data SIZE cell (i * 12 + r)) }
 {
-    let m = reduce16(12, i);
+    let data = usize::from(i) * 12;
+    let turn = (data / usize::from(SIZE)) as u16;
+    let place = (data % usize::from(SIZE)) as u16;
+    let from = start + usize::from(place);
     let mut numbers = [0; 12];
-    let mut r = 0;
-    while r < 12 {
-        numbers[r] = group_number(12, first, i, m, inverses[r]);
-        r += 1;
-    }
-    numbers
-}
-
-// The numbers of a cluster's points in a group of 8: its twelve data numbers have two quotients.
-fn eight_numbers(cell: usize, first: u16, i: u16, inverses: &[u16; 48]) -> [u16; 12]
-    requires { (first < 4096) × (i < 16) × Starts 48 (inverse_entry cell) inverses.now }
-    ensures { result ≡ tabulate 12 (λ r. first + point_of_data 8 cell (i * 12 + r)) }
-{
-    let from = 24 + wide16(i) * 12 % 8;
-    let mut numbers = [0; 12];
-    let mut r = 0;
-    while r < 12 {
-        let n = (i * 12 + r as u16) / 8;
-        numbers[r] = group_number(8, first, n, n % 8, inverses[from + r]);
-        r += 1;
+    for r in 0..12 {
+        let n = turn + (place + r as u16) / SIZE;
+        numbers[r] = group_number::<SIZE>(first, n, inverses[from + r]);
     }
     numbers
 }
@@ -150,8 +137,8 @@ pub fn cluster_points(
     let first = entry / 64 * 48 + offset as u16 * 24;
     let i = entry % 32;
     if entry / 32 % 2 == 0 {
-        twelve_numbers(cell, first, i, inverses)
+        group_numbers::<12>(cell, first, i, 0, inverses)
     } else {
-        eight_numbers(cell, first, i, inverses)
+        group_numbers::<8>(cell, first, i, 24, inverses)
     }
 }

@@ -16,6 +16,13 @@ pub record Turn (cell : ℕ) (clusters bases : List ℕ) (g s k n : ℕ) : Type 
   pub k_lt : k < 24
   pub n_is : n ≡ rotate 24 (13 * s) k
 
+-- as the code finds them: the turn of the subchannel is reduced before it is added
+pub turn : (cell : ℕ) (clusters bases : List ℕ) (g s k n : ℕ) → Starts (2 * group_size g) (group_cluster cell g) clusters
+    → bases ≡ tabulate 24 (λ n. turned_base g cell (s + n)) → g < 6 → s < group_size g → k < 24 → n ≡ (k + 13 * s % 24) % 24
+    → Turn cell clusters bases g s k n
+turn cell clusters bases g s k n starts turned hg hs hk e =
+    record { starts = starts; turned = turned; group_lt = hg; s_lt = hs; k_lt = hk; n_is = omega arith }
+
 module _ {cell : ℕ} {clusters bases : List ℕ} {g s k n : ℕ} (t : Turn cell clusters bases g s k n) where
   abbrev d : ℕ
   d = group_data (group_size g) cell s k

@@ -12,7 +12,7 @@ ghost use Rattle.clusters.specs.Model.{turned_base};
 ghost use Rattle.pusc_dl.specs.Map.{spot_of};
 ghost use Rattle.pusc_dl_rows.specs.Model.{group_cluster, group_spot};
 
-use base::{reduce, wide16};
+use base::reduce;
 use clusters::{
     BASE_8, BASE_12, Logical, RENUMBERING_INVERSE, SUBCHANNEL_STARTS, cluster_place, cluster_start,
     group_in, group_size, subchannel_start, turned_base, unrenumber,
@@ -27,11 +27,9 @@ fn group_clusters(cell: usize, g: usize) -> [u16; 24]
     let start = cluster_start(g);
     let count = 2 * group_size(g);
     let mut clusters = [0; 24];
-    let mut i = 0;
-    while i < count {
+    for i in 0..count {
         let physical = unrenumber(&inverse, cell, Logical(start + i));
         clusters[i] = (physical.0 * 14) as u16;
-        i += 1;
     }
     clusters
 }
@@ -44,10 +42,8 @@ fn group_bases(g: usize, cell: usize, s: usize) -> [u16; 24]
     let twelve = BASE_12;
     let eight = BASE_8;
     let mut bases = [0; 24];
-    let mut n = 0;
-    while n < 24 {
+    for n in 0..24 {
         bases[n] = turned_base(&twelve, &eight, g, cell, s + n);
-        n += 1;
     }
     bases
 }
@@ -64,7 +60,7 @@ fn spot_numbers(d: usize, clusters: &[u16; 24]) -> SpotNumbers
     requires { (d / 12 < 24) × (entry clusters.now (d / 12) < 1680) }
     ensures { (result.first ≡ entry clusters.now (d / 12) + cluster_place 0 (d % 12)) × (result.second ≡ 2048 + (entry clusters.now (d / 12) + cluster_place 1 (d % 12))) }
 {
-    let cluster = wide16(clusters[d / 12]);
+    let cluster = usize::from(clusters[d / 12]);
     let r = d % 12;
     SpotNumbers {
         first: (cluster + cluster_place(0, r)) as u16,
@@ -82,13 +78,11 @@ fn group_spots(cell: usize, g: usize, s: usize) -> [u16; 48]
     let size = group_size(g);
     let turn = 13 * s % 24;
     let mut row = [0; 48];
-    let mut k = 0;
-    while k < 24 {
+    for k in 0..24 {
         let n = reduce(24, k + turn);
-        let both = spot_numbers(n * size + wide16(bases[n]), &clusters);
+        let both = spot_numbers(n * size + usize::from(bases[n]), &clusters);
         row[k] = both.first;
         row[k + 24] = both.second;
-        k += 1;
     }
     row
 }

@@ -7,7 +7,7 @@ ghost use Rattle.pusc_ul.specs.Tile.{tile_of, tile_subchannel, is_tile_pilot, pl
 ghost use Rattle.pusc_ul.specs.Map.{spot_of, address_of};
 ghost use Rattle.pusc_ul.specs.Model.{tile_of_seventy};
 
-use base::{reduce, wide};
+use base::reduce;
 use carriers::{Address, Spot};
 
 // Q of document 01, as document 000 prints it, and its inverse.
@@ -24,15 +24,17 @@ pub const TILE_PERMUTATION_INVERSE: [u8; 70] = [
 ];
 
 // Tile t of a subchannel, counted from the first of its seventy tiles, by a copy of Q, which a loop takes once.
+#[tactic(auto, unfolding(crate::specs::Model::tile_of_seventy))]
 pub fn tile_of_seventy(permutation: &[u8; 70], cell: usize, subchannel: usize, t: usize) -> usize
     requires { (permutation.now ≡ tile_permutation) × (cell < 70) × (subchannel < 70) × (t < 6) }
     ensures { (result ≡ tile_of_seventy cell subchannel t) × (result < 70) }
 {
     let i = reduce(70, subchannel + t);
-    reduce(70, wide(permutation[i]) + cell)
+    reduce(70, usize::from(permutation[i]) + cell)
 }
 
 // Tile t of a subchannel.
+#[tactic(auto, unfolding(crate::specs::Tile::tile_of, crate::specs::Model::tile_of_seventy))]
 fn tile(cell: usize, subchannel: usize, t: usize) -> usize
     requires { (cell < 70) × (subchannel < 70) × (t < 6) }
     ensures { (result ≡ tile_of cell subchannel t) × (result < 420) }
@@ -41,12 +43,13 @@ fn tile(cell: usize, subchannel: usize, t: usize) -> usize
 }
 
 // The reverse: the subchannel that has a tile, by a copy of the inverse of Q, which a loop takes once.
+#[tactic(auto, unfolding(crate::specs::Tile::tile_subchannel))]
 pub fn tile_subchannel(inverse: &[u8; 70], cell: usize, tile: usize) -> usize
     requires { (inverse.now ≡ tile_permutation_inverse) × (cell < 70) × (tile < 420) }
     ensures { (result ≡ tile_subchannel cell tile) × (result < 70) }
 {
     let x = reduce(70, tile % 70 + (70 - cell));
-    reduce(70, wide(inverse[x]) + (70 - tile / 70))
+    reduce(70, usize::from(inverse[x]) + (70 - tile / 70))
 }
 
 // A data carrier of a subchannel's tiles: its symbol in the slot, its tile t, and its place in the tile.
@@ -57,47 +60,46 @@ struct DataCarrier {
     carrier: usize,
 }
 
+#[tactic(auto, unfolding(crate::specs::Tile::place_symbol, crate::specs::Tile::place_tile, crate::specs::Tile::place_carrier))]
 fn data_carrier(q: usize) -> DataCarrier
     requires { q < 48 }
     ensures symbol_value { (result.symbol ≡ place_symbol q) × (result.tile ≡ place_tile q) × (result.carrier ≡ place_carrier q) }
     ensures tile_bound { (result.tile < 6) × (result.carrier < 4) }
 {
-    if q < 12 {
-        DataCarrier {
+    match q {
+        0..12 => DataCarrier {
             symbol: 0,
             tile: q / 2,
             carrier: q % 2 + 1,
-        }
-    } else if q < 36 {
-        DataCarrier {
+        },
+        12..36 => DataCarrier {
             symbol: 1,
             tile: (q - 12) / 4,
             carrier: (q - 12) % 4,
-        }
-    } else {
-        DataCarrier {
+        },
+        _ => DataCarrier {
             symbol: 2,
             tile: (q - 36) / 2,
             carrier: (q - 36) % 2 + 1,
-        }
+        },
     }
 }
 
 // The reverse: the data place of a carrier that is no pilot.
+#[tactic(auto, unfolding(crate::specs::Tile::data_place, crate::specs::Tile::is_tile_pilot))]
 pub fn data_place(offset: usize, t: usize, carrier: usize) -> usize
     requires { (offset < 3) × (t < 6) × (carrier < 4) × (is_tile_pilot offset carrier ≡ false) }
     ensures { (result ≡ data_place offset t carrier) × (result < 48) }
 {
-    if offset == 0 {
-        t * 2 + (carrier - 1)
-    } else if offset == 1 {
-        12 + (t * 4 + carrier)
-    } else {
-        36 + (t * 2 + (carrier - 1))
+    match offset {
+        0 => t * 2 + (carrier - 1),
+        1 => 12 + (t * 4 + carrier),
+        _ => 36 + (t * 2 + (carrier - 1)),
     }
 }
 
 // Where point `index` of a subchannel lies.
+#[tactic(auto, unfolding(crate::specs::Map::spot_of))]
 pub fn spot(cell: usize, subchannel: usize, index: usize) -> Spot
     requires { (cell < 70) × (subchannel < 70) × (index < 48) }
     ensures { result ≡ spot_of cell subchannel index }
@@ -111,20 +113,15 @@ pub fn spot(cell: usize, subchannel: usize, index: usize) -> Spot
 }
 
 // Whether a used number is a pilot in a symbol of a slot.
+#[tactic(auto, unfolding(crate::specs::Tile::is_tile_pilot))]
 pub fn is_pilot(offset: usize, used: usize) -> bool
     ensures { result ≡ is_tile_pilot offset used }
 {
-    let carrier = used % 4;
-    if offset == 1 {
-        return false;
-    }
-    if carrier == 0 {
-        return true;
-    }
-    carrier == 3
+    offset != 1 && matches!(used % 4, 0 | 3)
 }
 
 // The reverse: the point that lies on a carrier that is no pilot.
+#[tactic(auto, using(crate::proofs::Law::pilot_carrier), unfolding(crate::specs::Map::address_of))]
 pub fn address(cell: usize, offset: usize, used: usize) -> Address
     requires { (cell < 70) × (offset < 3) × (used < 1680) × (is_tile_pilot offset used ≡ false) }
     ensures { result ≡ address_of cell offset used }

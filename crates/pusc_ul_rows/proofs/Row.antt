@@ -1,7 +1,7 @@
 -- The carriers of a subchannel, eight for each tile.
 use Rattle.base.proofs.Prelude.{◌≡◌, ap, ◌∙◌, false, List, ℕ, ◌+◌, ◌*◌, ◌/◌, ◌%◌, ◌<◌, ◌≤◌, arith, eqb, ltb, length, set, replicate, length-set}
 use Rattle.base.proofs.Prelude.{length-replicate, eqb-true, eqb-false, ltb-true, ltb-false}
-use Rattle.base.proofs.{Test.cases, Tabulate.tabulated, LeaveOut.{skip_below, skip_above, skip_le}}
+use Rattle.base.proofs.{Test.cases, Tabulate.{tabulated, written_none, written_next, written_starts}, LeaveOut.{skip_below, skip_above, skip_le}}
 use lib.Seq.{get_or-set_same, get_or-set_other}
 use Rattle.base.specs.{Steps.entry, Tabulate.tabulate}
 use Rattle.carriers.specs.{Band.{pusc_band, carrier_of}, Model.carrier_number}
@@ -100,3 +100,6 @@ tiles_all {f = f} {row = row} w h = tabulated 0 row 48 f w.long (λ k k_lt. w.en
 pub start_lt : (t : ℕ) → t < 6 → carrier_of pusc_band (t * 280) < 2048
 unfolding carrier_of
 start_lt t h = omega (arith, skip_le 840 (t * 280))
+
+-- a loop that writes a row from its first entry on
+pub ruleset written = (written_none, written_next, written_starts)

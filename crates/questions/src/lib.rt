@@ -2,98 +2,79 @@
 #![tactic(auto)]
 
 ghost use Rattle.std.specs.Prelude.{◌≡◌};
+ghost use Rattle.refusal.specs.Refusal.{refusal_in};
 ghost use Rattle.modes.specs.Setup.{alone, lent};
 ghost use Rattle.modes.specs.Model.{Ranged};
 ghost use Rattle.questions.specs.Model.{slot_refusal, grid_refusal, ground_refusal, empty_refusal, look_refusal};
 
 use modes::Setup;
+use refusal::{Refusal, ask};
 
-// The number of the first of questions 1, 2, 3, 17 and 4 that is answered no, or 0.
-pub fn slot_refusal(setup: Setup, mask: usize, slot: usize) -> u8
-    ensures { result ≡ slot_refusal (alone setup) mask slot }
+// Questions 1, 2, 3, 17 and 4.
+pub fn ask_slot(setup: Setup, mask: usize, slot: usize) -> Result<(), Refusal>
+    ensures { refusal_in result ≡ slot_refusal (alone setup) mask slot }
 {
-    let k = lengths::mask_refusal(setup, mask);
-    if k != 0 {
-        return k;
-    }
-    if 512 <= slot {
-        return 4;
-    }
-    0
+    lengths::ask_mask(setup, mask)?;
+    ask(slot < 512, Refusal::Slot)
 }
 
-// The number of question 9, which comes last in each call, where it is answered no, or 0.
-pub fn grid_refusal(setup: Setup, grid: usize) -> u8
+// Question 9, which comes last in each call.
+pub fn ask_grid(setup: Setup, grid: usize) -> Result<(), Refusal>
     requires { Ranged (alone setup) }
-    ensures { result ≡ grid_refusal (alone setup) grid }
+    ensures { refusal_in result ≡ grid_refusal (alone setup) grid }
 {
-    if grid != 2 * lengths::grid_points(setup) {
-        return 9;
-    }
-    0
+    ask(grid == 2 * lengths::grid_points(setup), Refusal::Grid)
 }
 
-// The number of the first of ground's questions, 1, 2, 3, 17, 4, 20, 9, that is answered no, or 0.
-pub fn ground_refusal(setup: Setup, mask: usize, slot: usize, pilots: &[u32], grid: usize) -> u8
-    ensures { result ≡ ground_refusal (lent setup pilots.now) mask slot grid }
+// Ground's questions: 1, 2, 3, 17, 4, 20, 9.
+pub fn ask_ground(
+    setup: Setup,
+    mask: usize,
+    slot: usize,
+    pilots: &[u32],
+    grid: usize,
+) -> Result<(), Refusal>
+    ensures { refusal_in result ≡ ground_refusal (lent setup pilots.now) mask slot grid }
 {
-    let k = slot_refusal(setup, mask, slot);
-    if k != 0 {
-        return k;
-    }
-    if !modes::is_lent(setup, pilots) {
-        return 20;
-    }
-    grid_refusal(setup, grid)
+    ask_slot(setup, mask, slot)?;
+    ask(modes::is_lent(setup, pilots), Refusal::Pilots)?;
+    ask_grid(setup, grid)
 }
 
-// The number of the first of empty's questions, 1, 2, 3, 17, 4, 20, 8, 9, that is answered no, or 0.
-pub fn empty_refusal(
+// Empty's questions: 1, 2, 3, 17, 4, 20, 8, 9.
+pub fn ask_empty(
     setup: Setup,
     mask: usize,
     slot: usize,
     pilots: &[u32],
     points: usize,
     grid: usize,
-) -> u8
-    ensures { result ≡ empty_refusal (lent setup pilots.now) mask slot points grid }
+) -> Result<(), Refusal>
+    ensures { refusal_in result ≡ empty_refusal (lent setup pilots.now) mask slot points grid }
 {
-    let k = slot_refusal(setup, mask, slot);
-    if k != 0 {
-        return k;
-    }
-    if !modes::is_lent(setup, pilots) {
-        return 20;
-    }
-    if points != 96 * mask::lit_subchannels(setup, mask) {
-        return 8;
-    }
-    grid_refusal(setup, grid)
+    ask_slot(setup, mask, slot)?;
+    ask(modes::is_lent(setup, pilots), Refusal::Pilots)?;
+    ask(
+        points == 96 * mask::lit_subchannels(setup, mask),
+        Refusal::Points,
+    )?;
+    ask_grid(setup, grid)
 }
 
-// The number of the first of look's questions, 1, 2, 3, 17, 4, 7, 20, 9, that is answered no, or 0.
-pub fn look_refusal(
+// Look's questions: 1, 2, 3, 17, 4, 7, 20, 9.
+pub fn ask_look(
     setup: Setup,
     mask: usize,
     symbol: usize,
     carrier: i32,
     pilots: &[u32],
     grid: usize,
-) -> u8
-    ensures { result ≡ look_refusal (lent setup pilots.now) mask symbol carrier grid }
+) -> Result<(), Refusal>
+    ensures { refusal_in result ≡ look_refusal (lent setup pilots.now) mask symbol carrier grid }
 {
-    let k = lengths::mask_refusal(setup, mask);
-    if k != 0 {
-        return k;
-    }
-    if 512 * modes::symbols(setup) <= symbol {
-        return 4;
-    }
-    if !centre::in_range(setup.size, carrier) {
-        return 7;
-    }
-    if !modes::is_lent(setup, pilots) {
-        return 20;
-    }
-    grid_refusal(setup, grid)
+    lengths::ask_mask(setup, mask)?;
+    ask(symbol < 512 * modes::symbols(setup), Refusal::Slot)?;
+    ask(centre::in_range(setup.size, carrier), Refusal::Carrier)?;
+    ask(modes::is_lent(setup, pilots), Refusal::Pilots)?;
+    ask_grid(setup, grid)
 }

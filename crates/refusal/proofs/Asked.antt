@@ -39,6 +39,9 @@ module _ {A : Type 0} (r : Result A Refusal) (e : Refusal) (f : IsErrAnd r (λ y
   pub number_on : (n : ℕ) → number_of e ≡ n → refusal_in r ≡ n
   number_on n h = let p = err_from_is_err_and r f in rw (p.1, p.2) h
 
+pub refusal_on : {A : Type 0} (r : Result A Refusal) (e : Refusal) → IsErrAnd r (λ y. y ≡ e) → refusal_in r ≡ number_of e
+refusal_on r e f = number_on r e f _ refl
+
 -- by what a result says, its number
 pub number_in : {A : Type 0} (r : Result A Refusal) → refusal_in r ≡ refusal_of (answer_of r)
 number_in (Ok a) = refl

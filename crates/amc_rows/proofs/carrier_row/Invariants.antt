@@ -1,11 +1,7 @@
 -- `amc_rows::carrier_row` meets its contract.
-use Rattle.base.proofs.{Prelude.{refl, ◌∙◌, ◌+◌, ◌-◌, arith, rules}, Tabulate.{Written, written_none, written_next}}
+use Rattle.base.proofs.{Prelude.{◌+◌}, Tabulate.{Written}}
 use Rattle.base.specs.Steps.{entry}
-use Rattle.amc_rows.proofs.Row.{entry_few, row_entry}
 use Rattle.amc_rows.proofs.carrier_row.Given as goal
 
 abbrev pub invariant-loop-i : goal.invariant-loop-i
 invariant-loop-i l = Written 48 (λ k. entry l.table k + l.step) l.row l.i
-
-abbrev pub decreases-loop-i : goal.decreases-loop-i
-decreases-loop-i l = 48 - l.i

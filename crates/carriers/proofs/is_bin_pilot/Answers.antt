@@ -1,5 +1,4 @@
 -- `carriers::is_bin_pilot` meets its contract.
-use Rattle.base.proofs.Prelude.{rules}
 use Rattle.carriers.specs.Bin.{is_bin_pilot}
 use Rattle.carriers.proofs.is_bin_pilot.Goals as goal
 

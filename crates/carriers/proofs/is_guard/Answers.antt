@@ -1,5 +1,5 @@
 -- `carriers::is_guard` meets its contract.
-use Rattle.base.proofs.Prelude.{lt-ltb, le-ltb, rules}
+use Rattle.base.proofs.Prelude.{lt-ltb, le-ltb}
 use Rattle.carriers.specs.Band.{is_guard}
 use Rattle.carriers.proofs.is_guard.Goals as goal
 

@@ -3,41 +3,21 @@ use Rattle.base.proofs.Prelude.{refl, lit<, lt-ltb, le-ltb}
 use Rattle.clusters.specs.Group.{group_in}
 use Rattle.clusters.proofs.group_in.Goals as goal
 
-pub bounds-starts-1 : goal.bounds-starts-1
-unfolding group_in
-bounds-starts-1 c = lit< tt
-
 pub returns-then-x-starts : goal.returns-then-x-starts
 unfolding group_in
 returns-then-x-starts c = rw (lt-ltb _ _ c.if-x-starts.true) (refl, lit< tt)
-
-pub bounds-starts-2 : goal.bounds-starts-2
-unfolding group_in
-bounds-starts-2 c = lit< tt
 
 pub returns-then-x-starts-2 : goal.returns-then-x-starts-2
 unfolding group_in
 returns-then-x-starts-2 c = rw (le-ltb _ _ c.if-x-starts.false, lt-ltb _ _ c.if-x-starts-2.true) (refl, lit< tt)
 
-pub bounds-starts-3 : goal.bounds-starts-3
-unfolding group_in
-bounds-starts-3 c = lit< tt
-
 pub returns-then-x-starts-3 : goal.returns-then-x-starts-3
 unfolding group_in
 returns-then-x-starts-3 c = rw (le-ltb _ _ c.if-x-starts.false, le-ltb _ _ c.if-x-starts-2.false, lt-ltb _ _ c.if-x-starts-3.true) (refl, lit< tt)
 
-pub bounds-starts-4 : goal.bounds-starts-4
-unfolding group_in
-bounds-starts-4 c = lit< tt
-
 pub returns-then-x-starts-4 : goal.returns-then-x-starts-4
 unfolding group_in
 returns-then-x-starts-4 c = rw (le-ltb _ _ c.if-x-starts.false, le-ltb _ _ c.if-x-starts-2.false, le-ltb _ _ c.if-x-starts-3.false, lt-ltb _ _ c.if-x-starts-4.true) (refl, lit< tt)
-
-pub bounds-starts-5 : goal.bounds-starts-5
-unfolding group_in
-bounds-starts-5 c = lit< tt
 
 pub returns-then-x-starts-5 : goal.returns-then-x-starts-5
 unfolding group_in

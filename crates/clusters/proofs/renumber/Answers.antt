@@ -1,5 +1,5 @@
 -- `clusters::renumber` meets its contract.
-use Rattle.base.proofs.Prelude.{◌≡◌, ℕ, ◌+◌, ◌*◌, ◌%◌, arith, rules}
+use Rattle.base.proofs.Prelude.{◌≡◌, ℕ, ◌+◌, ◌*◌, ◌%◌, arith}
 use Rattle.clusters.specs.Cluster.{renumber}
 use Rattle.clusters.proofs.{Tables.r_perm}
 use Rattle.clusters.proofs.renumber.Goals as goal
@@ -11,8 +11,5 @@ same_place p cell i e = omega arith
 pub returns : goal.returns
 unfolding renumber
 returns c =
-    let start = c in
-    let i = c.reduce-i.ensures in (
-      rw (c.wide.ensures.0, start.requires.0, same_place start.args.p.0 start.args.cell _ i.0),
-      rw (c.wide.ensures.0, start.requires.0) (r_perm.to_lt _ i.1),
-    )
+    let i = c.reduce-i.ensures in
+    rw (c.from.ensures, c.requires.0) (rw (same_place c.args.p.0 c.args.cell _ i.0), r_perm.to_lt _ i.1)

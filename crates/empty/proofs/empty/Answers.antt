@@ -1,5 +1,6 @@
 -- `empty::empty` meets its contract.
-use Rattle.base.proofs.Prelude.{sym, ◌∙◌, arith, rules}
+use Rattle.base.proofs.Prelude.{refl, sym, ◌∙◌, arith}
+use Rattle.refusal.proofs.Asked.{refusal_on, number_ne0}
 use Rattle.modes.proofs.ByMode.{ranged_alone}
 use Rattle.lengths.proofs.Refusal.{mask_few}
 use Rattle.questions.proofs.Refusal.{empty_numbered, empty_accepted}
@@ -8,22 +9,22 @@ use Rattle.grid.proofs.Outcome.{refused_leaves, accepted_anew}
 use Rattle.empty.proofs.{Rows.first_all}
 use Rattle.empty.proofs.empty.Goals as goal
 
-pub returns-then-refusal-ne0 : goal.returns-then-refusal-ne0
+pub returns-in_err-ask_empty : goal.returns-in_err-ask_empty
 unfolding empty_of
-returns-then-refusal-ne0 c = refused_leaves _ _ _ (empty_numbered _ _ _ _ _ _) _ _ c.empty_refusal-refusal.ensures c.if-refusal-ne0.true
+returns-in_err-ask_empty c =
+    rw (refusal_on _ _ c.from_residual.ensures.1) (refused_leaves _ _ _ (empty_numbered _ _ _ _ _ _) _ _ c.in_err-ask_empty.ensures (number_ne0 _))
 
 pub take_off-requires : goal.take_off-requires
 take_off-requires c =
-    let a = empty_accepted _ _ _ _ _ _ c.empty_refusal-refusal.ensures c.if-refusal-ne0.false in
+    let a = empty_accepted _ _ _ _ _ 0 c.in_ok-ask_empty.ensures refl in
     record { valid = a.fits.lit.valid; mask_bound = (mask_few a.fits.lit, a.fits.slot_lt, a.points_long, a.fits.grid_long) }
 
 pub returns : goal.returns
 unfolding empty_of
 returns c =
-    let else = c in
-    let a = empty_accepted _ _ _ _ _ _ else.empty_refusal-refusal.ensures else.if-refusal-ne0.false in
-    accepted_anew _ _ _ (empty_numbered _ _ _ _ _ _) _ (sym else.empty_refusal-refusal.ensures ∙ else.if-refusal-ne0.false) _
+    let a = empty_accepted _ _ _ _ _ 0 c.in_ok-ask_empty.ensures refl in
+    accepted_anew _ _ _ (empty_numbered _ _ _ _ _ _) _ (sym c.in_ok-ask_empty.ensures) _
     (c.take_off.ensures ∙ first_all _ a.fits.lit.valid _ _ _ _ _ (omega (arith, c.grid_points-all.ensures.0)))
 
 pub grid_points-all-requires : goal.grid_points-all-requires
-grid_points-all-requires c = ranged_alone (empty_accepted _ _ _ _ _ _ c.empty_refusal-refusal.ensures c.if-refusal-ne0.false).fits.lit.valid
+grid_points-all-requires c = ranged_alone (empty_accepted _ _ _ _ _ 0 c.in_ok-ask_empty.ensures refl).fits.lit.valid

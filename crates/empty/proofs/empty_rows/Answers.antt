@@ -1,4 +1,4 @@
-use Rattle.base.proofs.Prelude.{◌∙◌, ◌-◌, rules}
+use Rattle.base.proofs.Prelude.{◌∙◌, rules}
 use Rattle.modes.specs.{Setup.alone, Model.own}
 use Rattle.modes.proofs.Lent.{valid_alone}
 use Rattle.empty.proofs.Rows.{SlotTurn, slot-start, slot_next, slot_done}
@@ -6,18 +6,15 @@ use Rattle.empty.proofs.empty_rows.Goals as goal
 
 pub empty_row-requires : goal.empty_row-requires
 empty_row-requires c =
-    let start = c in
-    record { unlent = start.requires.unlent; slot_bound = (start.requires.mask_bound.1, rw c.symbols-symbols.ensures at c.loop-row-test.true, c.loop-row.invariant.1.long ∙ start.requires.mask_bound.2, start.requires.mask_bound.3); lit_runs = (c.lit_runs-lit.ensures, c.run_table-runs.ensures, c.place_table-places.ensures) }
+    record { unlent = c.requires.unlent; slot_bound = (c.requires.mask_bound.1, rw c.symbols-symbols.ensures at c.loop-row-test.true, c.loop-row.invariant.1.long ∙ c.requires.mask_bound.2, c.requires.mask_bound.3); lit_runs = (c.lit_runs-lit.ensures, c.run_table-runs.ensures, c.place_table-places.ensures) }
 
 pub loop-row-preserved : goal.loop-row-preserved
 loop-row-preserved c =
-    let start = c in
-    slot_next (valid_alone start.requires.unlent) start.args.mask start.args.slot start.args.carriers start.args.grid.now start.args.points.now c.loop-row.invariant (rw c.symbols-symbols.ensures at c.loop-row-test.true) _ c.empty_row.ensures
+    slot_next (valid_alone c.requires.unlent) c.args.mask c.args.slot c.args.carriers c.args.grid.now c.args.points.now c.loop-row.invariant (rw c.symbols-symbols.ensures at c.loop-row-test.true) _ c.empty_row.ensures
 
 pub returns : goal.returns
 returns c =
-    let start = c in
-    slot_done (valid_alone start.requires.unlent) start.args.mask start.args.slot start.args.carriers start.args.grid.now start.args.points.now c.loop-row.invariant (rw c.symbols-symbols.ensures at c.loop-row-test.false) start.requires.mask_bound.2
+    slot_done (valid_alone c.requires.unlent) c.args.mask c.args.slot c.args.carriers c.args.grid.now c.args.points.now c.loop-row.invariant (rw c.symbols-symbols.ensures at c.loop-row-test.false) c.requires.mask_bound.2
 
 pub lit_runs-lit-requires : goal.lit_runs-lit-requires
 lit_runs-lit-requires c = search (own, rules)

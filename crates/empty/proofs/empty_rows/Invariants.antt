@@ -1,5 +1,5 @@
 -- `empty::empty_rows` meets its contract.
-use Rattle.base.proofs.Prelude.{◌∙◌, ◌-◌, rules}
+use Rattle.base.proofs.Prelude.{◌∙◌, rules}
 use Rattle.modes.specs.{Setup.alone, Model.own}
 use Rattle.modes.proofs.Lent.{valid_alone}
 use Rattle.empty.proofs.Rows.{SlotTurn, slot-start, slot_next, slot_done}
@@ -7,6 +7,3 @@ use Rattle.empty.proofs.empty_rows.Given as goal
 
 abbrev pub invariant-loop-row : goal.invariant-loop-row
 invariant-loop-row l = SlotTurn (alone l.setup) l.mask l.slot l.carriers l.grid l.initial.points l.points l.row
-
-abbrev pub decreases-loop-row : goal.decreases-loop-row
-decreases-loop-row l = l.symbols - l.row

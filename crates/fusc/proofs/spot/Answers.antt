@@ -1,6 +1,4 @@
 -- `fusc::spot` meets its contract.
-use Rattle.base.proofs.Prelude.{rules}
-use Rattle.fusc.specs.Map.{spot_of}
 use Rattle.fusc.proofs.{Law.data_inner}
 use Rattle.fusc.proofs.spot.Goals as goal
 
@@ -8,7 +6,3 @@ pub used_of_data-requires : goal.used_of_data-requires
 used_of_data-requires c =
     let p = c.requires in
     (p.3, rw c.data_number-d.ensures ((data_inner c.args.cell).number_lt _ _ p.1 p.2))
-
-pub returns : goal.returns
-unfolding spot_of
-returns c = rw (c.used_of_data.ensures, c.data_number-d.ensures)

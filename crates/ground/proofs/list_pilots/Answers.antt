@@ -10,27 +10,21 @@ use Rattle.ground.proofs.list_pilots.Goals as goal
 
 pub carrier-requires : goal.carrier-requires
 carrier-requires c =
-    let start = c in
-    let f = few (ranged_alone start.requires.valid) in
-    let in-loop = c in
-    (rw c.band-band.ensures (omega arith), omega (arith, c.wide32-used.ensures, entry_used start.requires.valid start.requires.mode_value.0 in-loop.loop-i.i (omega (arith, in-loop.loop-i-test.true))))
+    let f = few (ranged_alone c.requires.valid) in
+    (rw c.band-band.ensures (omega arith), omega (arith, entry_used c.requires.valid c.requires.mode_value.0 c.loop-i.i (omega (arith, c.loop-i-test.true))))
 
 pub put_point-requires : goal.put_point-requires
 put_point-requires c =
-    let start = c in
-    let in-loop = c in
-    rw (c.carrier.ensures, c.wide32-used.ensures)
-    (omega (arith, entry_in start.requires.valid start.requires.mode_value.0 _ in-loop.band-band.ensures in-loop.loop-i.i (omega (arith, in-loop.loop-i-test.true)), putting_long in-loop.loop-i.invariant, start.requires.mode_value.1))
+    rw (c.carrier.ensures)
+    (omega (arith, entry_in c.requires.valid c.requires.mode_value.0 _ c.band-band.ensures c.loop-i.i (omega (arith, c.loop-i-test.true)), putting_long c.loop-i.invariant, c.requires.mode_value.1))
 
 pub loop-i-preserved : goal.loop-i-preserved
 loop-i-preserved c =
-    let in-loop = c in
-    putting_next in-loop.loop-i.invariant (omega (arith, in-loop.loop-i-test.true)) _ (c.carrier.ensures ∙ ap (carrier_of _) c.wide32-used.ensures) _ refl _ c.put_point.ensures
+    putting_next c.loop-i.invariant (omega (arith, c.loop-i-test.true)) _ (c.carrier.ensures) _ refl _ c.put_point.ensures
 
 pub returns : goal.returns
 returns c =
-    let start = c in
-    list_put start.requires.valid start.requires.mode_value.0 _ _ _ _ c.band-band.ensures _ start.requires.mode_value.1 _ (putting_done c.loop-i.invariant (omega (arith, c.loop-i-test.false)))
+    list_put c.requires.valid c.requires.mode_value.0 _ _ _ _ c.band-band.ensures _ c.requires.mode_value.1 _ (putting_done c.loop-i.invariant (omega (arith, c.loop-i-test.false)))
 
 pub band-band-requires : goal.band-band-requires
 band-band-requires c = ranged_alone c.requires.valid
@@ -39,7 +33,7 @@ pub loop-i-init : goal.loop-i-init
 loop-i-init c = putting_none _ _ _ _
 
 pub bounds-pilots-i : goal.bounds-pilots-i
-bounds-pilots-i c = let start = c in omega (arith, (accepted _ (list_lent start.requires.valid start.requires.mode_value.0)).long, c.loop-i-test.true)
+bounds-pilots-i c = omega (arith, (accepted _ (list_lent c.requires.valid c.requires.mode_value.0)).long, c.loop-i-test.true)
 
 pub shape_of-grid : goal.shape_of-grid
 shape_of-grid c = putting_long c.loop-i.invariant

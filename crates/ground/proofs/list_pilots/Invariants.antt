@@ -11,6 +11,3 @@ use Rattle.ground.proofs.list_pilots.Given as goal
 
 abbrev pub invariant-loop-i : goal.invariant-loop-i
 invariant-loop-i l = Putting (λ j. carrier_of l.band (entry l.pilots j)) (λ j. l.p) 166 l.initial.grid l.grid l.i
-
-abbrev pub decreases-loop-i : goal.decreases-loop-i
-decreases-loop-i l = 166 - l.i

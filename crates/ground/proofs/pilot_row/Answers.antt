@@ -10,8 +10,7 @@ use Rattle.ground.proofs.pilot_row.Goals as goal
 
 symbol_few : (c : goal.After-symbols) → let a = c.args in a.slot * c.symbols.result + a.row < 4096
 symbol_few c =
-    let start = c in
-    omega (arith, few (own start.requires.unlent), slot_few (own start.requires.unlent) start.args.slot c.symbols.result start.requires.slot_bound.0 c.symbols.ensures, start.requires.slot_bound.1)
+    omega (arith, few (own c.requires.unlent), slot_few (own c.requires.unlent) c.args.slot c.symbols.result c.requires.slot_bound.0 c.symbols.ensures, c.requires.slot_bound.1)
 
 -- the runs of the row's symbol
 shape_is : (c : goal.Then-shape) → let a = c.args in c.symbol_runs-shape.result ≡ runs_of (alone a.setup) (a.slot * symbols (alone a.setup) + a.row)
@@ -37,8 +36,7 @@ shape_is_7 c = let a = c.args in c.symbol_runs-shape.ensures ∙ ap (λ (n : ℕ
 
 pub returns-then-shape : goal.returns-then-shape
 returns-then-shape c =
-    let start = c in
-    none_row _ (valid_alone start.requires.unlent) _ _ _ start.requires.unlent start.args.lit.now start.requires.lit_runs _ start.requires.slot_bound.1 _ (shape_is c) c.if-shape.true _
+    none_row _ (valid_alone c.requires.unlent) _ _ _ c.requires.unlent c.args.lit.now c.requires.lit_runs _ c.requires.slot_bound.1 _ (shape_is c) c.if-shape.true _
 
 run_lt : (c : goal.After-run_lit) → c.loop-i.i < run_count (alone c.args.setup)
 run_lt c = omega (arith, ap (λ (b : Runs). b.count) (shape_is_2 c), c.loop-i-test.true)
@@ -58,27 +56,26 @@ run_lt_5 c = omega (arith, ap (λ (b : Runs). b.count) (shape_is_6 c), c.loop-i-
 -- what a turn puts is 0.0 or the pilot point
 pub bounds-points-run_lit : goal.bounds-points-run_lit
 bounds-points-run_lit c =
-    let start = c in
-    lit_two start.requires.unlent start.args.mask start.args.lit.now start.requires.lit_runs _ (run_lt c) _ c.run_lit.ensures
+    lit_two c.requires.unlent c.args.mask c.args.lit.now c.requires.lit_runs _ (run_lt c) _ c.run_lit.ensures
 
 pub put_pilot-requires : goal.put_pilot-requires
 put_pilot-requires c =
     let then = c.before.before.before in
     let start = then in
-    record { unlent = start.requires.unlent; row_bound = (start.requires.slot_bound.1, run_lt_2 c, ap (λ (b : Runs). b.step) (shape_is_3 c), then.if-shape.false, then.loop-i.invariant.long ∙ start.requires.slot_bound.2) }
+    record { unlent = c.requires.unlent; row_bound = (c.requires.slot_bound.1, run_lt_2 c, ap (λ (b : Runs). b.step) (shape_is_3 c), then.if-shape.false, then.loop-i.invariant.long ∙ c.requires.slot_bound.2) }
 
 pub put_pilot-requires-in-loop-i : goal.put_pilot-requires-in-loop-i
 put_pilot-requires-in-loop-i c =
     let then = c.before.before.before.before.before.before.before in
     let start = then in
     let shape = shape_is_4 c in record {
-      unlent = start.requires.unlent;
+      unlent = c.requires.unlent;
       row_bound = (
-        start.requires.slot_bound.1,
+        c.requires.slot_bound.1,
         run_lt_3 c,
         ap (λ (b : Runs). b.step) shape,
-        rw then.last_pilot-last.ensures (last_in _ (valid_alone start.requires.unlent) start.args.mask start.args.slot start.args.p start.requires.unlent start.args.lit.now start.requires.lit_runs _ start.requires.slot_bound.1 _ shape then.if-shape.false),
-        long_1 _ (valid_alone start.requires.unlent) _ _ _ start.requires.unlent start.args.lit.now start.requires.lit_runs _ start.requires.slot_bound.1 _ shape then.if-shape.false start.requires.slot_bound.2 _ then.loop-i.invariant (run_lt_3 c)
+        rw then.last_pilot-last.ensures (last_in _ (valid_alone c.requires.unlent) c.args.mask c.args.slot c.args.p c.requires.unlent c.args.lit.now c.requires.lit_runs _ c.requires.slot_bound.1 _ shape then.if-shape.false),
+        long_1 _ (valid_alone c.requires.unlent) _ _ _ c.requires.unlent c.args.lit.now c.requires.lit_runs _ c.requires.slot_bound.1 _ shape then.if-shape.false c.requires.slot_bound.2 _ then.loop-i.invariant (run_lt_3 c)
             _ c.run_lit.ensures _ _ c.put_pilot.ensures,
       );
     }
@@ -87,7 +84,7 @@ pub loop-i-preserved : goal.loop-i-preserved
 loop-i-preserved c =
     let then = c.before.before.before.before.before.before.before.before.before.before in
     let start = then in
-    run_next _ (valid_alone start.requires.unlent) _ _ _ start.requires.unlent start.args.lit.now start.requires.lit_runs _ start.requires.slot_bound.1 _ (shape_is_5 c) then.if-shape.false start.requires.slot_bound.2 _ then.loop-i.invariant (run_lt_4 c)
+    run_next _ (valid_alone c.requires.unlent) _ _ _ c.requires.unlent c.args.lit.now c.requires.lit_runs _ c.requires.slot_bound.1 _ (shape_is_5 c) then.if-shape.false c.requires.slot_bound.2 _ then.loop-i.invariant (run_lt_4 c)
     _ c.run_lit.ensures _ _ c.put_pilot.ensures _ then.last_pilot-last.ensures _ c.put_pilot-in-loop-i.ensures
 
 pub overflow_mul-slot : goal.overflow_mul-slot
@@ -104,12 +101,6 @@ run_lit-requires c = run_is c.requires.unlent _ (run_lt_5 c)
 
 pub offset_bounds-points-run_lit : goal.offset_bounds-points-run_lit
 offset_bounds-points-run_lit c = omega (arith, bounds-points-run_lit c)
-
-pub overflow_add-i : goal.overflow_add-i
-overflow_add-i c = omega (arith, c.loop-i-test.true)
-
-pub loop-i-smaller : goal.loop-i-smaller
-loop-i-smaller c = omega (arith, c.loop-i-test.true)
 
 pub shape_of-grid : goal.shape_of-grid
 shape_of-grid c = c.loop-i.invariant.long

@@ -11,6 +11,3 @@ use Rattle.ground.proofs.pilot_row.Given as goal
 
 abbrev pub invariant-loop-i : goal.invariant-loop-i
 invariant-loop-i l = PilotsBelow (alone l.setup) l.mask l.slot (get_or l.points 1 zero_point) l.row (l.i * run_step (alone l.setup)) l.initial.grid l.grid
-
-abbrev pub decreases-loop-i : goal.decreases-loop-i
-decreases-loop-i l = l.shape.count - l.i

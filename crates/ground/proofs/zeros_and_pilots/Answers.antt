@@ -6,8 +6,7 @@ use Rattle.ground.proofs.zeros_and_pilots.Goals as goal
 
 pub loop-row-init : goal.loop-row-init
 loop-row-init c =
-    let start = c in
-    ground_start _ (valid_alone start.requires.unlent) _ _ _ _ start.requires.mask_bound.2 _ c.clear.ensures
+    ground_start _ (valid_alone c.requires.unlent) _ _ _ _ c.requires.mask_bound.2 _ c.clear.ensures
 
 -- a row of the slot
 row_lt : (c : goal.After-pilot_row-arg-1) → c.loop-row.row < symbols (alone c.args.setup)
@@ -18,17 +17,10 @@ row_lt_2 c = rw c.symbols-symbols.ensures at c.loop-row-test.true
 
 pub pilot_row-requires : goal.pilot_row-requires
 pilot_row-requires c =
-    let start = c in
-    record { unlent = start.requires.unlent; slot_bound = (start.requires.mask_bound.1, row_lt c, c.loop-row.invariant.long); lit_runs = c.lit_runs-lit.ensures }
+    record { unlent = c.requires.unlent; slot_bound = (c.requires.mask_bound.1, row_lt c, c.loop-row.invariant.long); lit_runs = c.lit_runs-lit.ensures }
 
 pub lit_runs-lit-requires : goal.lit_runs-lit-requires
-lit_runs-lit-requires c = let start = c in record { ranged = own start.requires.unlent; mask_bound = start.requires.mask_bound.0 }
-
-pub overflow_add-row : goal.overflow_add-row
-overflow_add-row c = omega (arith, few (own c.requires.unlent), row_lt_2 c)
-
-pub loop-row-smaller : goal.loop-row-smaller
-loop-row-smaller c = omega arith
+lit_runs-lit-requires c = record { ranged = own c.requires.unlent; mask_bound = c.requires.mask_bound.0 }
 
 pub loop-row-preserved : goal.loop-row-preserved
 loop-row-preserved c = ground_next _ (valid_alone c.requires.unlent) _ _ _ c.loop-row.invariant (row_lt_2 c) _ c.pilot_row.ensures

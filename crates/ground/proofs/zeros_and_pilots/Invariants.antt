@@ -7,6 +7,3 @@ use Rattle.ground.proofs.zeros_and_pilots.Given as goal
 
 abbrev pub invariant-loop-row : goal.invariant-loop-row
 invariant-loop-row l = GroundTurn (alone l.setup) l.mask l.slot l.p l.grid l.row
-
-abbrev pub decreases-loop-row : goal.decreases-loop-row
-decreases-loop-row l = l.symbols - l.row

@@ -1,13 +1,9 @@
-use Rattle.base.proofs.{Prelude.{refl, ◌-◌, eqb, length, rules}, First.{Asking, asking, asking_next, asked}}
-use Rattle.base.specs.Steps.{entry}
+use Rattle.base.proofs.{Prelude.{refl}, First.{asking_next, asked}}
 use Rattle.pilot_list.proofs.{Entries.in_found}
 use Rattle.pilot_list.proofs.is_pilot.Goals as goal
 
-pub loop-i-init : goal.loop-i-init
-loop-i-init c = asking
-
-pub loop-i-preserved : goal.loop-i-preserved
-loop-i-preserved c = asking_next c.loop-i.invariant c.loop-i-test.true _ refl
+pub loop-pilot-preserved : goal.loop-pilot-preserved
+loop-pilot-preserved c = asking_next c.loop-pilot.invariant c.loop-pilot-test.true _ refl
 
 pub returns : goal.returns
-returns c = in_found _ _ (asked c.loop-i.invariant c.loop-i-test.false)
+returns c = in_found _ _ (asked c.loop-pilot.invariant c.loop-pilot-test.false)

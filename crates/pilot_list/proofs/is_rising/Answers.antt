@@ -1,10 +1,6 @@
-use Rattle.base.proofs.{Prelude.{refl, ◌∙◌, ◌+◌, ◌-◌, leb, rules}, First.{Asking, asking, asking_next, asked}}
-use Rattle.base.specs.Steps.{entry}
+use Rattle.base.proofs.{Prelude.{refl, ◌∙◌}, First.{asking_next, asked}}
 use Rattle.pilot_list.proofs.{Entries.rising_found}
 use Rattle.pilot_list.proofs.is_rising.Goals as goal
-
-pub loop-i-init : goal.loop-i-init
-loop-i-init c = asking
 
 pub loop-i-preserved : goal.loop-i-preserved
 loop-i-preserved c = asking_next c.loop-i.invariant c.loop-i-test.true _ refl

@@ -1,11 +1,7 @@
 -- `pilot_list::is_rising` meets its contract.
-use Rattle.base.proofs.{Prelude.{refl, ◌∙◌, ◌+◌, ◌-◌, leb, rules}, First.{Asking, asking, asking_next, asked}}
+use Rattle.base.proofs.{Prelude.{◌+◌, leb}, First.{Asking}}
 use Rattle.base.specs.Steps.{entry}
-use Rattle.pilot_list.proofs.{Entries.rising_found}
 use Rattle.pilot_list.proofs.is_rising.Given as goal
 
 abbrev pub invariant-loop-i : goal.invariant-loop-i
 invariant-loop-i l = Asking (λ k. leb (entry l.pilots (k + 1)) (entry l.pilots k)) 165 l.falls l.i
-
-abbrev pub decreases-loop-i : goal.decreases-loop-i
-decreases-loop-i l = 165 - l.i

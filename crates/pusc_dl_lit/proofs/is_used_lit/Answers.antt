@@ -1,5 +1,5 @@
 -- `pusc_dl_lit::is_used_lit` meets its contract.
-use Rattle.base.proofs.Prelude.{refl, ap, ◌∙◌, rules}
+use Rattle.base.proofs.Prelude.{ap, ◌∙◌}
 use Rattle.clusters.specs.{Group.{cluster_starts, group_in}, declared.Logical.Logical}
 use Rattle.pusc_dl_lit.specs.Lit.{has_group}
 use Rattle.pusc_dl.specs.Map.{logical_of, used_group}
@@ -10,6 +10,3 @@ unfolding used_group logical_of
 returns c =
     c.has_group.ensures
     ∙ ap (has_group _) (c.group_in.ensures.0 ∙ ap (λ (l : Logical). group_in cluster_starts l.0) c.renumber-logical.ensures.0)
-
-pub renumber-logical-requires : goal.renumber-logical-requires
-renumber-logical-requires c = (refl, search rules, search rules)

@@ -1,24 +1,16 @@
-use Rattle.base.proofs.Prelude.{refl, ◌-◌, ◌<◌, arith, lit<, rules}
+use Rattle.base.proofs.Prelude.{refl, ◌<◌, arith, lit<, rules}
 use Rattle.pusc_ul.specs.Tile.{data_place, is_tile_pilot}
-use Rattle.pusc_ul_rows.specs.Model.{place_number}
-use Rattle.pusc_ul_rows.proofs.Row.{TileTurn, tiles_none, tiles_next, tiles_all, two_of}
+use Rattle.pusc_ul_rows.proofs.Row.{tiles_next, two_of}
 use Rattle.pusc_ul_rows.proofs.carrier_row.Goals as goal
 
 pub loop-t-preserved : goal.loop-t-preserved
 unfolding data_place is_tile_pilot
 loop-t-preserved c =
-    let turn = c in
-    let h : turn.loop-t.t < 6 = search rules in
+    let h : c.loop-t.t < 6 = search rules in
     let first = c.tile_start-first.ensures.0 in
     rw (c.put_two-in-loop-t-3.ensures, c.put_two-in-loop-t-2.ensures, c.put_two-in-loop-t.ensures, c.put_two.ensures)
-    (tiles_next turn.loop-t.invariant h _ _ _ _
+    (tiles_next c.loop-t.invariant h _ _ _ _
     (two_of _ _ _ h 0 1 _ _ (omega arith) (omega arith) (lit< tt) (lit< tt) refl refl (omega (arith, first)))
     (two_of _ _ _ h 1 0 _ _ (omega arith) (omega arith) (lit< tt) (lit< tt) refl refl (omega (arith, first)))
     (two_of _ _ _ h 1 2 _ _ (omega arith) (omega arith) (lit< tt) (lit< tt) refl refl (omega (arith, first)))
     (two_of _ _ _ h 2 1 _ _ (omega arith) (omega arith) (lit< tt) (lit< tt) refl refl (omega (arith, first))))
-
-pub loop-t-init : goal.loop-t-init
-loop-t-init c = tiles_none _
-
-pub returns : goal.returns
-returns c = tiles_all c.loop-t.invariant c.loop-t-test.false
