@@ -64,7 +64,8 @@ pub fn row_strides(setup: Setup) -> Strides
     }
 }
 
-// The numbers of the points on run i of a row of the slot, by rising carrier, where it is lit; not in PUSC uplink.
+// The numbers of the points on run i of a row of the slot, by rising carrier, where it is lit; not in PUSC uplink. As closures
+// handed to the loop over runs the arms are no plainer: each would repeat the contract of the function it calls.
 fn run_numbers(
     setup: Setup,
     mask: usize,

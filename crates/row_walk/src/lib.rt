@@ -35,33 +35,16 @@ pub fn empty_row(
     if carriers <= first {
         return;
     }
-    let shape = runs::symbol_runs(setup, slot * modes::symbols(setup) + row);
-    let all = runs::run_points(shape);
-    let its_places = runs::run_places(shape);
-    let strides = point_numbers::row_strides(setup);
-    let numbers = point_numbers::row_numbers(setup, mask, slot, row, shape.count, runs, places);
+    let own = run_walk::row_runs(setup, slot, row);
+    let numbers = point_numbers::row_numbers(setup, mask, slot, row, own.shape.count, runs, places);
     let band = modes::band(setup);
-    for i in 0..shape.count {
-        let start = first + carriers::carrier(band, i * shape.step);
+    for i in 0..own.shape.count {
+        let start = first + carriers::carrier(band, i * own.shape.step);
         if carriers <= start {
             return;
         }
         run_walk::drop_run(
-            setup,
-            mask,
-            slot,
-            row,
-            i,
-            start,
-            carriers,
-            shape,
-            all,
-            &its_places,
-            lit,
-            strides,
-            &numbers,
-            grid,
-            points,
+            setup, mask, slot, row, i, start, carriers, &own, lit, &numbers, grid, points,
         );
     }
 }

@@ -2,10 +2,13 @@
 use Rattle.std.specs.Prelude.{◌≡◌, List, ℕ, ◌*◌, ◌/◌, ◌%◌, ◌<◌, ◌≤◌, length, Float}
 use Rattle.modes.specs.Setup.{Setup}
 use Rattle.mask.specs.Mask.{lit_subchannels, of_lit_rank}
-use Rattle.runs.specs.Model.{run_step}
+use Rattle.base.specs.Tabulate.{tabulate}
+use Rattle.runs.specs.Model.{run_step, runs_of, run_place, run_points}
+use Rattle.point_numbers.specs.Model.{run_stride, point_stride}
 use Rattle.points.specs.Points.{point_at}
 use Rattle.grid.specs.Row.{used_position}
 use Rattle.grid.specs.Grid.{stands_at}
+use Rattle.run_walk.specs.declared.RowRuns.{RowRuns}
 
 -- where point n of the lit subchannels' points stands in the grid
 abbrev pub point_stands : (setup : Setup) (mask slot n : ℕ) → ℕ
@@ -26,3 +29,11 @@ pub record Took (setup : Setup) (mask slot carriers : ℕ) (grid : List Float) (
 -- where run i of a row starts
 abbrev pub run_start : (setup : Setup) (row i : ℕ) → ℕ
 run_start setup row i = used_position setup row (i * run_step setup)
+
+-- the runs of a row, whose symbol is y, and what is found of them
+pub record RunsOfRow (setup : Setup) (y : ℕ) (own : RowRuns) : Type 0 where
+  pub shape_is : own.shape ≡ runs_of setup y
+  pub all_is : own.all ≡ run_points own.shape
+  pub places_are : own.places ≡ tabulate 12 (run_place own.shape)
+  pub run_is : own.strides.run ≡ run_stride setup
+  pub point_is : own.strides.point ≡ point_stride setup

@@ -1,4 +1,4 @@
-use Rattle.base.proofs.Prelude.{◌≡◌, ap, ◌∙◌, List, ℕ, ◌+◌, ◌<◌, arith}
+use Rattle.base.proofs.Prelude.{ap, ◌∙◌, ℕ, ◌<◌, arith}
 use borrow.Author.Count.{below_more}
 use Rattle.base.specs.Steps.{entry}
 use Rattle.points.specs.Points.{point_at}

@@ -1,9 +1,8 @@
 -- `fusc_walk::drop_points` meets its contract.
-use Rattle.base.proofs.Prelude.{◌≡◌, ap, ◌∙◌, List, ℕ, ◌+◌, ◌-◌, ◌<◌, arith, eqb, eqb-true, eqb-false, rules}
-use Rattle.base.proofs.Test.{cases}
+use Rattle.base.proofs.Prelude.{ℕ, ◌<◌}
 use Rattle.base.specs.Steps.{entry}
 use Rattle.points.specs.Points.{point_at}
-use Rattle.points.proofs.Copy.{Putting, putting_none, putting_long, putting_next}
+use Rattle.points.proofs.Copy.{Putting}
 use Rattle.fusc_walk.proofs.drop_points.Given as goal
 
 abbrev pub invariant-loop-d : goal.invariant-loop-d
