@@ -1,16 +1,17 @@
 -- Placing and its reverse.
-use Rattle.std.specs.Prelude.{ℕ, ◌+◌, ◌*◌, ◌/◌, ℤ}
+use Rattle.std.specs.Prelude.{ℕ, ◌+◌, ◌*◌, ◌/◌, ℤ, Result, Ok, Err}
 use Rattle.base.specs.Choice.{pick}
 use Rattle.base.specs.Answer.{Answer, accepted, refused, ask}
+use Rattle.refusal.specs.declared.Refusal.{Refusal}
+use Rattle.refusal.specs.Refusal.{number_of}
 use Rattle.carriers.specs.declared.Spot.{Spot}
 use Rattle.carriers.specs.declared.Address.{Address}
 use Rattle.carriers.specs.Band.{carrier_of, used_of, is_guard, is_dc}
 use Rattle.centre.specs.Centre.{from_dc, on_row}
 use Rattle.modes.specs.Setup.{Setup}
 use Rattle.map.specs.declared.Placed.{Placed}
-use Rattle.map.specs.declared.Placed.TheVariants.{At, Refused}
 use Rattle.map.specs.declared.Located.{Located}
-use Rattle.map.specs.declared.Located.TheVariants.{Guard, Dc, Pilot, Data, Refused as RefusedToLocate}
+use Rattle.map.specs.declared.Located.TheVariants.{Guard, Dc, Pilot, Data}
 use Rattle.modes.specs.Mode.{symbols, band}
 use Rattle.formulas.specs.Formula.{is_pilot, spot_of, address_of}
 use Rattle.modes.specs.Question.{ask_setup, is_slot, is_subchannel, is_index, is_lent, ask_carrier}
@@ -38,10 +39,13 @@ place_of setup slot subchannel index =
     (ask (is_lent setup) 20
     (accepted (place_at setup slot (spot_of setup slot subchannel index)))))))
 
--- What an answer of `place` says: document 01's values, or its number.
-abbrev pub placed : (answer : Placed) → Answer Place
-placed (At y k) = accepted (record { symbol = y; carrier = k })
-placed (Refused number) = refused number
+-- The code's place; and what an answer of `place` says: document 01's values, or its number.
+abbrev pub placed_at : (p : Placed) → Place
+placed_at p = record { symbol = p.symbol; carrier = p.carrier }
+
+abbrev pub placed : (answer : Result Placed Refusal) → Answer Place
+placed (Ok p) = accepted (placed_at p)
+placed (Err e) = refused (number_of e)
 
 -- what a carrier holds
 pub data Content : Type 0 where
@@ -69,10 +73,13 @@ locate_of setup symbol carrier =
     (ask (is_lent setup) 20
     (accepted (content_of setup symbol (on_row setup.size carrier)))))
 
--- What an answer of `locate` says.
-abbrev pub located : (answer : Located) → Answer Content
-located Guard = accepted guard
-located Dc = accepted dc
-located Pilot = accepted pilot
-located (Data slot subchannel index) = accepted (point slot subchannel index)
-located (RefusedToLocate number) = refused number
+-- The code's content; and what an answer of `locate` says.
+abbrev pub content_at : (content : Located) → Content
+content_at Guard = guard
+content_at Dc = dc
+content_at Pilot = pilot
+content_at (Data slot subchannel index) = point slot subchannel index
+
+abbrev pub located : (answer : Result Located Refusal) → Answer Content
+located (Ok content) = accepted (content_at content)
+located (Err e) = refused (number_of e)
