@@ -1,22 +1,15 @@
--- `zone::zone_refusal` meets its contract.
-use Rattle.base.proofs.Prelude.{sym, ap, ◌∙◌, rules}
-use Rattle.base.specs.Answer.{accepted, refused, refusal_of}
+-- `zone::ask_zone` meets its contract.
+use Rattle.base.proofs.Prelude.{ap, ◌∙◌}
+use Rattle.base.specs.Answer.{refusal_of}
+use Rattle.refusal.proofs.Asked.{number_on, number_in, last_asked}
 use Rattle.zone.specs.Model.{zone_refusal}
 use Rattle.zone.proofs.Number.{fields_no, fields_then}
-use Rattle.zone.proofs.zone_refusal.Goals as goal
+use Rattle.zone.proofs.ask_zone.Goals as goal
 
-pub returns-then-fields-ne0 : goal.returns-then-fields-ne0
+pub returns-in_err-ask_fields : goal.returns-in_err-ask_fields
 unfolding zone_refusal
-returns-then-fields-ne0 c = ap refusal_of (fields_no _ _ _ c.fields_refusal-fields.ensures _ c.if-fields-ne0.true)
-
-pub returns-then-is_order : goal.returns-then-is_order
-unfolding zone_refusal
-returns-then-is_order c =
-    let fields = c in
-    ap refusal_of (fields_then _ _ _ fields.fields_refusal-fields.ensures _ fields.if-fields-ne0.false (accepted tt) (rw (sym c.is_order.ensures ∙ c.if-is_order.true)))
+returns-in_err-ask_fields c = number_on _ _ c.from_residual.ensures.1 _ (ap refusal_of (fields_no _ _ _ _ c.in_err-ask_fields.ensures))
 
 pub returns : goal.returns
 unfolding zone_refusal
-returns c =
-    let fields = c in
-    ap refusal_of (fields_then _ _ _ fields.fields_refusal-fields.ensures _ fields.if-fields-ne0.false (refused 14) (rw (sym c.is_order.ensures ∙ c.if-is_order.false)))
+returns c = number_in _ ∙ ap refusal_of (fields_then _ _ _ c.in_ok-ask_fields.ensures _ (last_asked _ _ c.is_order.ensures _ c.ask.ensures))
