@@ -1,6 +1,8 @@
 -- The questions put to a plan as a list, what a yes to all of them says, and what they come to by what the functions that put them say.
 use Rattle.std.specs.Prelude.{Option, Some, None}
 use Rattle.base.proofs.Prelude.{◌≡◌, refl, sym, ap, ◌∙◌, true, List, [], ◌∷◌, ◌++◌, ℕ, zero, suc, ◌+◌, ◌<◌, ◌≤◌, T, arith, length, take, drop, get_or}
+use native.Mathlib.Numerals.{add-one}
+use lib.{ListN.{drop_of_length-le}, Seq.{drop-cons}}
 use Rattle.base.proofs.{Chain.{Questions, ask_all, first_no, AllYes, counted, all_yes, yes_parts, all_accepted, all_pass, is_refused}, Test.{true_false, up_to}}
 use Rattle.base.specs.{Choice.is_up_to, Answer.{Answer, accepted, refused, refusal_of}}
 use Rattle.refusal.specs.{declared.Refusal.Refusal, Refusal.number_of}
@@ -11,7 +13,7 @@ use Rattle.zone.specs.{declared.Zone.Zone, Zone.{ask_zone, unused}}
 use Rattle.zone.specs.Model.{zone_refusal, Small}
 use Rattle.zone.proofs.{Number.{zone_questions, zone_no, zone_passed}, Judge.{small, small_unused, fusc_not_first}}
 use Rattle.plan.specs.{declared.Plan.Plan, Plan.{is_count, in_places, are_unused, used_zones, ask_zones, ask_plan}, Model.{zones_refusal, plan_refusal}}
-use Rattle.plan.proofs.Places.{used_next, used_none, places_of}
+use Rattle.plan.proofs.Places.{places_of}
 
 -- ---- the zones one after the other
 
@@ -33,19 +35,20 @@ zones_small size before [] k y = small_unused
 zones_small size before (z ∷ zones) zero y = small size z before (yes_parts (zone_questions size before z) (zones_questions size (Some z.mode) zones) y).0
 zones_small size before (z ∷ zones) (suc k) y = zones_small size (Some z.mode) zones k (yes_parts (zone_questions size before z) (zones_questions size (Some z.mode) zones) y).1
 
-module _ (size : ℕ) (before : Option ℕ) (zones : List Zone) (count k : ℕ) (m : count ≤ length zones) where
-  module _ (h : k < count) where
-    pub zones_no : (e : Refusal) → number_of e ≡ zone_refusal size before (get_or zones k unused) → number_of e ≡ zones_refusal size before (drop k (take count zones))
+-- from the k-th zone on
+module _ (size : ℕ) (before : Option ℕ) (zones : List Zone) (k : ℕ) where
+  module _ (h : k < length zones) where
+    pub zones_no : (e : Refusal) → number_of e ≡ zone_refusal size before (get_or zones k unused) → number_of e ≡ zones_refusal size before (drop k zones)
     unfolding zones_refusal ask_zones
-    zones_no e f = rw (used_next zones count k h m) (ap refusal_of (zone_no size before (get_or zones k unused) _ e f))
+    zones_no e f = rw (drop-cons zones k unused h) (ap refusal_of (zone_no size before (get_or zones k unused) _ e f))
 
-    pub zones_next : 0 ≡ zone_refusal size before (get_or zones k unused) → zones_refusal size (Some (get_or zones k unused).mode) (drop (k + 1) (take count zones)) ≡ zones_refusal size before (drop k (take count zones))
+    pub zones_next : 0 ≡ zone_refusal size before (get_or zones k unused) → zones_refusal size (Some (get_or zones k unused).mode) (drop (k + 1) zones) ≡ zones_refusal size before (drop k zones)
     unfolding zones_refusal ask_zones
-    zones_next e = rw (used_next zones count k h m) (ap refusal_of (zone_passed size before (get_or zones k unused) _ e))
+    zones_next e = rw (add-one, drop-cons zones k unused h) (ap refusal_of (zone_passed size before (get_or zones k unused) _ e))
 
-  pub zones_end : count ≤ k → 0 ≡ zones_refusal size before (drop k (take count zones))
+  pub zones_end : length zones ≤ k → 0 ≡ zones_refusal size before (drop k zones)
   unfolding zones_refusal ask_zones
-  zones_end h = rw (used_none zones count k h m)
+  zones_end h = rw (drop_of_length-le zones {i = k} h)
 
 -- ---- the plan
 
