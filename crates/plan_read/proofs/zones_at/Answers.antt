@@ -8,8 +8,8 @@ pub loop-k-init : goal.loop-k-init
 unfolding in_places
 loop-k-init c = begin _ _ _ _ refl
 
-pub returns-in_err-zone_at : goal.returns-in_err-zone_at
-returns-in_err-zone_at c = answer_on _ _ c.from_residual.ensures.1 _ (zone_none c.loop-k.invariant c.loop-k-test.true _ c.in_err-zone_at.ensures)
+pub returns-in_err-found : goal.returns-in_err-found
+returns-in_err-found c = answer_on _ _ c.from_residual.ensures.1 _ (zone_none c.loop-k.invariant c.loop-k-test.true _ c.in_err-found.ensures)
 
 pub returns-in_err-ask_zone : goal.returns-in_err-ask_zone
 returns-in_err-ask_zone c =

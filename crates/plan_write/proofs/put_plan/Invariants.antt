@@ -10,7 +10,4 @@ use Rattle.plan_write.proofs.{Bytes.plan_length}
 use Rattle.plan_write.proofs.put_plan.Given as goal
 
 abbrev pub invariant-loop-k : goal.invariant-loop-k
-invariant-loop-k l = Putting 8 zone_bytes l.initial.dest l.used l.zones l.initial.at l.dest l.at l.k × (l.used ≤ 8) × (l.initial.at + length (each zone_bytes (take l.used l.zones)) ≤ length l.initial.dest)
-
-abbrev pub decreases-loop-k : goal.decreases-loop-k
-decreases-loop-k l = l.used - l.k
+invariant-loop-k l = Putting 8 zone_bytes l.initial.dest l.plan.count l.plan.zones l.initial.at l.dest l.at l.k × (l.plan.count ≤ 8) × (l.initial.at + length (each zone_bytes (take l.plan.count l.plan.zones)) ≤ length l.initial.dest)

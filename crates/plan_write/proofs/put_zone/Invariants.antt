@@ -9,6 +9,3 @@ use Rattle.plan_write.proofs.put_zone.Given as goal
 
 abbrev pub invariant-loop-k : goal.invariant-loop-k
 invariant-loop-k l = Putting 4 encode l.initial.dest 4 l.values l.at l.dest l.next l.k × Within l.values limits × (l.at + length (each encode (take 4 l.values)) ≤ length l.initial.dest)
-
-abbrev pub decreases-loop-k : goal.decreases-loop-k
-decreases-loop-k l = 4 - l.k
