@@ -5,6 +5,3 @@ use Rattle.plan_numbers.proofs.places.Given as goal
 
 abbrev pub invariant-loop-k : goal.invariant-loop-k
 invariant-loop-k l = Placing l.numbers l.zones l.k
-
-abbrev pub decreases-loop-k : goal.decreases-loop-k
-decreases-loop-k l = 8 - l.k

@@ -3,4 +3,4 @@ use Rattle.base.proofs.Prelude.{rules}
 use Rattle.plan_numbers.proofs.plan_in.Goals as goal
 
 pub returns : goal.returns
-returns c = rw c.places-zones.ensures
+returns c = rw c.places.ensures

@@ -7,11 +7,11 @@ use Rattle.plan_text.proofs.put_zones.Goals as goal
 pub loop-k-init : goal.loop-k-init
 loop-k-init c = (put_begin _ _ _ _ _ (search (length_mapped, rules) depth 8), omega arith)
 
-pub shape_of-dest-then-count-k : goal.shape_of-dest-then-count-k
-shape_of-dest-then-count-k c = c.loop-k.invariant.0.kept
+pub shape_of-dest-then-plan-k : goal.shape_of-dest-then-plan-k
+shape_of-dest-then-plan-k c = c.loop-k.invariant.0.kept
 
-pub returns-then-count-k : goal.returns-then-count-k
-returns-then-count-k c = put_all c.loop-k.invariant.0 c.if-count-k.true
+pub returns-then-plan-k : goal.returns-then-plan-k
+returns-then-plan-k c = put_all c.loop-k.invariant.0 c.if-plan-k.true
 
 pub put_line-at-requires : goal.put_line-at-requires
 put_line-at-requires c =

@@ -6,7 +6,4 @@ use Rattle.plan_text.specs.Lines.{line_of}
 use Rattle.plan_text.proofs.put_zones.Given as goal
 
 abbrev pub invariant-loop-k : goal.invariant-loop-k
-invariant-loop-k l = Putting 8 line_of l.initial.dest l.count l.zones 0 l.dest l.at l.k × (l.at ≤ 84 * l.k)
-
-abbrev pub decreases-loop-k : goal.decreases-loop-k
-decreases-loop-k l = 8 - l.k
+invariant-loop-k l = Putting 8 line_of l.initial.dest l.plan.count l.plan.zones 0 l.dest l.at l.k × (l.at ≤ 84 * l.k)

@@ -1,10 +1,9 @@
-use Rattle.base.proofs.Prelude.{◌∙◌, ◌+◌, ◌-◌, ◌≤◌, arith, rules, length, take}
+use Rattle.base.proofs.Prelude.{◌∙◌, arith, rules}
 use Rattle.text.proofs.Laws.{put_three}
 use Rattle.zone.specs.Zone.{unused}
-use Rattle.plan.specs.Plan.{each}
-use Rattle.plan_write.specs.Write.{zone_bytes, plan_bytes}
+use Rattle.plan_write.specs.Write.{plan_bytes}
 use Rattle.plan.proofs.{Places.length_mapped, Judge.{fit_of, all_small, count_most, size_small}}
-use Rattle.plan.proofs.Each.{Putting, put_begin, put_room, put_again, put_all}
+use Rattle.plan.proofs.Each.{put_begin, put_room, put_again, put_all}
 use Rattle.plan_write.proofs.{Bytes.plan_length}
 use Rattle.plan_write.proofs.put_plan.Goals as goal
 

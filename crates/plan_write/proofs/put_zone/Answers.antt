@@ -1,9 +1,8 @@
-use Rattle.base.proofs.Prelude.{◌+◌, ◌-◌, ◌≤◌, arith, length, take, rules}
+use Rattle.base.proofs.Prelude.{arith, rules}
 use Rattle.value.specs.Value.{encode}
-use Rattle.plan.specs.Plan.{each}
 use Rattle.plan_write.specs.Write.{zone_bytes}
-use Rattle.plan_write.proofs.Bytes.{Within, value_small, limits, within}
-use Rattle.plan.proofs.Each.{Putting, put_begin, put_room, put_again, put_all}
+use Rattle.plan_write.proofs.Bytes.{value_small, within}
+use Rattle.plan.proofs.Each.{put_begin, put_room, put_again, put_all}
 use Rattle.plan_write.proofs.put_zone.Goals as goal
 
 pub loop-k-init : goal.loop-k-init

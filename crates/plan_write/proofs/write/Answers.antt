@@ -1,9 +1,9 @@
 -- `plan_write::write` meets its contract.
-use Rattle.base.proofs.Prelude.{◌≡◌, sym, arith, leb}
+use Rattle.base.proofs.Prelude.{sym, arith}
 use lib.Seq.{length-take-le}
 use borrow.Author.Tests.{leb-true}
 use Rattle.refusal.proofs.Asked.{asked_yes}
-use Rattle.plan.proofs.Judge.{Fit, fit_of}
+use Rattle.plan.proofs.Judge.{fit_of}
 use Rattle.plan_write.proofs.Bytes.{plan_51, write_no, write_short, write_done, written_no}
 use Rattle.plan_write.proofs.write.Goals as goal
 
