@@ -1,7 +1,6 @@
 -- What plans come to at the C boundary, and that a written plan's length fits there.
-use Rattle.std.specs.Prelude.{Result, Ok}
+use Rattle.std.specs.Prelude.{Ok}
 use Rattle.base.proofs.Prelude.{◌≡◌, sym, List, ℕ, ◌≤◌}
-use Rattle.refusal.specs.declared.Refusal.{Refusal}
 use Rattle.plan.specs.declared.Plan.{Plan}
 use Rattle.plan_write.specs.Write.{write_of, written}
 use Rattle.plan_write.proofs.Round.{written_51}

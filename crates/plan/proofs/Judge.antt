@@ -120,8 +120,5 @@ places_small (suc n) [] s (suc k) = places_small n [] s k
 places_small (suc n) (z ∷ zones) s zero = s 0
 places_small (suc n) (z ∷ zones) s (suc k) = places_small n zones (λ j. s (suc j)) k
 
-pub none_small : (n k : ℕ) → Small (get_or (in_places n []) k unused)
-none_small n = places_small n [] (λ k. small_unused)
-
 pub all_small : {p : Plan} → Fit p → length p.zones ≡ 8 → (k : ℕ) → Small (get_or p.zones k unused)
 all_small {p} f l k = rw (places_of 8 p.count p.zones l f.unused_are) at (places_small 8 (used_zones p) (fit_small f) k)

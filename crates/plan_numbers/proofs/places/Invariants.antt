@@ -1,6 +1,5 @@
 -- `plan_numbers::places` meets its contract.
-use Rattle.base.proofs.{Prelude.{◌-◌, rules}, Tabulate.at_none}
-use Rattle.plan_numbers.proofs.Laws.{Placing, placing_again, placing_end}
+use Rattle.plan_numbers.proofs.Laws.{Placing}
 use Rattle.plan_numbers.proofs.places.Given as goal
 
 abbrev pub invariant-loop-k : goal.invariant-loop-k

@@ -1,5 +1,4 @@
 -- `plan_numbers::plan_in` meets its contract.
-use Rattle.base.proofs.Prelude.{rules}
 use Rattle.plan_numbers.proofs.plan_in.Goals as goal
 
 pub returns : goal.returns

@@ -1,7 +1,6 @@
-use Rattle.base.proofs.Prelude.{◌-◌, ◌*◌, ◌≤◌, arith, rules}
+use Rattle.base.proofs.Prelude.{arith, rules}
 use Rattle.zone.specs.Zone.{unused}
-use Rattle.plan.proofs.{Places.length_mapped, Each.{Putting, put_begin, put_again, put_all, put_end}}
-use Rattle.plan_text.specs.Lines.{line_of}
+use Rattle.plan.proofs.{Places.length_mapped, Each.{put_begin, put_again, put_all, put_end}}
 use Rattle.plan_text.proofs.put_zones.Goals as goal
 
 pub loop-k-init : goal.loop-k-init

@@ -1,7 +1,6 @@
 -- `plan_text::put_zones` meets its contract: while lines are put, those that are done stand at the start.
-use Rattle.base.proofs.Prelude.{◌-◌, ◌*◌, ◌≤◌, arith, rules}
-use Rattle.zone.specs.Zone.{unused}
-use Rattle.plan.proofs.{Places.length_mapped, Each.{Putting, put_begin, put_again, put_all, put_end}}
+use Rattle.base.proofs.Prelude.{◌*◌, ◌≤◌}
+use Rattle.plan.proofs.{Each.{Putting}}
 use Rattle.plan_text.specs.Lines.{line_of}
 use Rattle.plan_text.proofs.put_zones.Given as goal
 
