@@ -1,5 +1,5 @@
 -- `plan_text::put_line` meets its contract.
-use Rattle.base.proofs.Prelude.{◌∙◌, arith, rules}
+use Rattle.base.proofs.Prelude.{◌∙◌, arith}
 use Rattle.text.proofs.Laws.{put_four}
 use Rattle.plan_text.specs.Lines.{line_of}
 use Rattle.plan_text.proofs.put_line.Goals as goal
