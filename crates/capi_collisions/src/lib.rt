@@ -1,31 +1,27 @@
 // The C calls over collisions. Each returns 0, or document 01's refusal number; on a refusal nothing is written.
 #![tactic(auto)]
 
-ghost use Rattle.std.specs.Prelude.{◌≡◌, ℕ, ◌≤◌, length};
-ghost use Rattle.collision.specs.Collision.{ofusc_of, amc_of};
+ghost use Rattle.std.specs.Prelude.{◌≡◌, ◌≤◌, length};
+ghost use Rattle.collision.specs.Collision.{met, ofusc_of, amc_of};
 ghost use Rattle.capi_collisions.specs.Collision.{CollisionOut, collision_out};
 
 use collision::Collisions;
+use refusal::Refusal;
 
 // Hands an answer over: 0, its marks as bytes and their count, or the refusal's number alone.
-fn hand_over(answer: Collisions, hits: &mut [u8; 48], count: &mut u32) -> u32
-    requires { (length answer.hits ≡ 48) × (answer.count ≤ 48) }
-    ensures { record { refusal = result; hits = hits.new; count = count.new } ≡ collision_out answer hits.old count.old }
+fn hand_over(answer: Result<Collisions, Refusal>, hits: &mut [u8; 48], count: &mut u32) -> u32
+    requires { (length (met answer).hits ≡ 48) × ((met answer).count ≤ 48) }
+    ensures { record { refusal = result; hits = hits.new; count = count.new } ≡ collision_out (met answer) hits.old count.old }
 {
-    let number = answer.refusal;
-    if number != 0 {
-        return number as u32;
+    match answer {
+        Ok(collisions) => {
+            let marks = collisions.hits;
+            *hits = marks.map(|mark| mark as u8);
+            *count = collisions.count as u32;
+            0
+        }
+        Err(refusal) => u32::from(refusal),
     }
-    let marks = answer.hits;
-    let mut bytes = [0u8; 48];
-    let mut k = 0;
-    while k < 48 {
-        bytes[k] = marks[k] as u8;
-        k += 1;
-    }
-    *hits = bytes;
-    *count = answer.count as u32;
-    0
 }
 
 #[unsafe(no_mangle)]

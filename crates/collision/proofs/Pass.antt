@@ -2,10 +2,10 @@
 use Rattle.base.proofs.Prelude.{◌≡◌, refl, ap, ◌∙◌, Bool, true, false, List, ℕ, ◌+◌, ◌<◌, ◌≤◌, arith, set, replicate, length-replicate}
 use Rattle.base.proofs.Tabulate.{WrittenAt, at_none, at_next, all_written}
 use native.Mathlib.Numerals.{add-one}
-use mir.{Syntax.w64, Val.{Fits, bool_byte}}
+use mir.{Val.{bool_byte}}
 use Rattle.base.specs.{Answer.accepted, Tabulate.tabulate}
 use Rattle.collision.specs.Collision.{count_of, answer_of}
-use Rattle.collision.proofs.Count.{one, one_le, count_last, count_le}
+use Rattle.collision.proofs.Count.{one, one_le, count_last}
 
 -- the marks below k are set as they must be, and counted
 pub record Passed (hit : ℕ → Bool) (k : ℕ) (hits : List Bool) (count : ℕ) : Type 0 where
@@ -17,13 +17,13 @@ byte_is : (b : Bool) → bool_byte b ≡ one b
 byte_is true = refl
 byte_is false = refl
 
+pub byte_le : (b : Bool) → bool_byte b ≤ 1
+byte_le b = omega (arith, byte_is b, one_le b)
+
 module _ (hit : ℕ → Bool) where
   pub start : Passed hit 0 (replicate 48 false) 0
   unfolding count_of tabulate
   start = record { marked = at_none (length-replicate 48 false); counted = refl }
-
-  pub fits : (k : ℕ) (hits : List Bool) (count : ℕ) (same : Bool) → Passed hit k hits count → Fits w64 (count + bool_byte same)
-  fits k hits count same p = omega (arith, count_le k hit, p.marked.within, byte_is same, one_le same)
 
   pub step : (k : ℕ) (hits : List Bool) (count : ℕ) (same : Bool) → Passed hit k hits count → k < 48 → same ≡ hit k
       → Passed hit (k + 1) (set hits k same) (count + bool_byte same)

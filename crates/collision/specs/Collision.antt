@@ -1,5 +1,5 @@
 -- Document 01, "Meetings", whose marks are the hits. In optional FUSC one subchannel of a cell is compared with one of a second cell, group by group; in AMC the same index under two cells, index by index.
-use Rattle.std.specs.Prelude.{Bool, false, List, [], ◌∷◌, ℕ, ◌+◌, ◌*◌, eqb}
+use Rattle.std.specs.Prelude.{Bool, false, List, [], ◌∷◌, ℕ, ◌+◌, ◌*◌, eqb, Result, Ok, Err}
 use Rattle.base.specs.Choice.{pick}
 use Rattle.base.specs.Answer.{Answer, accepted, refused, ask}
 use Rattle.base.specs.Steps.{unrotate}
@@ -10,7 +10,14 @@ use Rattle.modes.specs.Setup.{Setup, setup_with}
 use Rattle.modes.specs.Mode.{band}
 use Rattle.formulas.specs.Formula.{spot_of}
 use Rattle.modes.specs.Question.{is_four_sizes, is_cell, is_subchannel}
+use Rattle.refusal.specs.{declared.Refusal.Refusal, Refusal.number_of}
 use Rattle.collision.specs.declared.Collisions.{Collisions}
+
+-- The answer to a request: the first refusal's number, or 0; the 48 marks; how many are set.
+pub record Meetings : Type 0 where
+  pub refusal : ℕ
+  pub hits : List Bool
+  pub count : ℕ
 
 -- how many marks are set
 unfoldable pub count_of : (hits : List Bool) → ℕ
@@ -34,12 +41,17 @@ unfoldable pub amc_hit : (a b j : ℕ) → Bool
 amc_hit a b j = eqb (traffic a j) (traffic b j)
 
 -- The answer is 48 marks and their count; a no gives the number, with marks and count all zero.
-unfoldable pub answer_of : (answer : Answer (ℕ → Bool)) → Collisions
+unfoldable pub answer_of : (answer : Answer (ℕ → Bool)) → Meetings
 answer_of (accepted hit) = record { refusal = 0; hits = tabulate 48 hit; count = count_of (tabulate 48 hit) }
 answer_of (refused number) = record { refusal = number; hits = tabulate 48 (λ k. false); count = 0 }
 
+-- What a result of the code says: 0 with its marks and their count, or its refusal's number with no mark.
+abbrev pub met : (result : Result Collisions Refusal) → Meetings
+met (Ok c) = record { refusal = 0; hits = c.hits; count = c.count }
+met (Err e) = record { refusal = number_of e; hits = tabulate 48 (λ k. false); count = 0 }
+
 -- Spread: size, cell and subchannel twice. The questions are put as for mode 2: it has 2, 3 and 5.
-unfoldable pub ofusc_of : (size a s b t : ℕ) → Collisions
+unfoldable pub ofusc_of : (size a s b t : ℕ) → Meetings
 ofusc_of size a s b t =
     answer_of
     (ask (is_four_sizes size) 2
@@ -50,7 +62,7 @@ ofusc_of size a s b t =
     (accepted (ofusc_hit size a s b t)))))))
 
 -- Adjacent: two cells. Only question 3 is put, as for mode 3, whose cells are the same at every size, and those of modes 4 to 6 (document 02, wish 2).
-unfoldable pub amc_of : (a b : ℕ) → Collisions
+unfoldable pub amc_of : (a b : ℕ) → Meetings
 amc_of a b =
     answer_of
     (ask (is_cell (setup_with 3 2048 a)) 3

@@ -1,1 +1,2 @@
 pub mod Collision
+pub mod Model

@@ -1,5 +1,4 @@
 -- `capi_collisions::bp_amc_collisions` meets its contract.
-use Rattle.base.proofs.Prelude.{rules}
 use Rattle.capi_collisions.proofs.{Collision.amc_whole}
 use Rattle.capi_collisions.proofs.bp_amc_collisions.Goals as goal
 

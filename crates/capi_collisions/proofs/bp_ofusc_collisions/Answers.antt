@@ -1,5 +1,4 @@
 -- `capi_collisions::bp_ofusc_collisions` meets its contract.
-use Rattle.base.proofs.Prelude.{rules}
 use Rattle.capi_collisions.proofs.{Collision.ofusc_whole}
 use Rattle.capi_collisions.proofs.bp_ofusc_collisions.Goals as goal
 

@@ -1,22 +1,14 @@
-use Rattle.base.proofs.{Prelude.{◌-◌, ne_eqb, rules}, Tabulate.{written_none, written_next}}
-use Rattle.capi_collisions.specs.Collision.{collision_out}
-use Rattle.capi_collisions.proofs.Collision.{byte_is, MarksWritten, handed}
+-- `capi_collisions::hand_over` meets its contract.
+use Rattle.base.proofs.Prelude.{◌≡◌, ◌∙◌, get_or, false, rules}
+use mir.Val.{bool_byte}
+use Rattle.capi_collisions.proofs.Collision.{byte_is, handed, refused_out}
 use Rattle.capi_collisions.proofs.hand_over.Goals as goal
 
-pub returns-then-number-ne0 : goal.returns-then-number-ne0
-unfolding collision_out
-returns-then-number-ne0 c = rw (ne_eqb _ _ c.if-number-ne0.true)
+pub returns-in-Ok : goal.returns-in-Ok
+returns-in-Ok c =
+    let p = c.map.ensures.items in
+    handed c.in-Ok.collisions c.args.answer c.in-Ok.is c.requires _ p.long
+    (λ k h. let x = p.at k false 0 h in let e : get_or c.map.result k 0 ≡ bool_byte (get_or c.in-Ok.collisions.hits k false) = search rules in e ∙ byte_is _) _ _
 
-pub loop-k-init : goal.loop-k-init
-loop-k-init c = written_none 48 _
-
-pub overflow_cast-bytes : goal.overflow_cast-bytes
-overflow_cast-bytes c = tt
-
-pub loop-k-preserved : goal.loop-k-preserved
-loop-k-preserved c = written_next c.loop-k.invariant c.loop-k-test.true _ (byte_is _)
-
-pub returns : goal.returns
-returns c =
-    let checked = c in
-    handed _ _ _ c.loop-k.invariant c.loop-k-test.false checked.requires.0 checked.if-number-ne0.false _ _
+pub returns-in-Err : goal.returns-in-Err
+returns-in-Err c = refused_out _ _ _ c.in-Err.is c.from.ensures _ _

@@ -1,50 +1,45 @@
 -- `collision::ofusc` meets its contract.
-use Rattle.base.proofs.{Prelude.{◌≡◌, true, arith, rules}, Test.told_yes, Chain.by_answer}
-use Rattle.modes.specs.{Mode.{width_of, cells_of, subchannels_of}, Question.{is_four_sizes, is_cell, is_subchannel}}
-use Rattle.collision.specs.Collision.{ofusc_of}
-use Rattle.collision.proofs.Outcome.{wide, gives, same_size}
+use Rattle.base.proofs.{Prelude.{arith, rules, ltb-true}}
+use Rattle.refusal.proofs.Asked.{asked, asked_yes}
+use Rattle.modes.specs.{Mode.{width_of, cells_of, subchannels_of}, Question.{is_cell, is_subchannel}}
+use Rattle.collision.specs.Collision.{ofusc_of, answer_of}
+use Rattle.collision.proofs.Outcome.{asked_wide, met_on, met_by, same_size}
 use Rattle.collision.proofs.ofusc.Goals as goal
 
-four : (c : goal.Else-n-subchannel_b) → is_four_sizes c.args.size ≡ true
-four c = told_yes _ c.is_four_sizes.ensures c.if-not-is_four_sizes.false
-
-four_2 : (c : goal.Else-not-is_four_sizes) → is_four_sizes c.args.size ≡ true
-four_2 c = told_yes _ c.is_four_sizes.ensures c.if-not-is_four_sizes.false
-
-four_3 : (c : goal.Else-n-cell_a) → is_four_sizes c.args.size ≡ true
-four_3 c = told_yes _ c.is_four_sizes.ensures c.if-not-is_four_sizes.false
-
-pub ofusc_hits-requires : goal.ofusc_hits-requires
-ofusc_hits-requires c = record { width = (wide _ (four c)).is_width; cell_a_bound = (c.if-n-cell_a.false, c.if-n-cell_b.false); a_lt_n = (c.if-n-subchannel_a.false, c.if-n-subchannel_b.false) }
-
-pub returns-then-not-is_four_sizes : goal.returns-then-not-is_four_sizes
-unfolding ofusc_of is_cell is_subchannel cells_of subchannels_of width_of
-returns-then-not-is_four_sizes c = search (gives, by_answer, rules)
-
 pub overflow_mul-n : goal.overflow_mul-n
-unfolding ofusc_of is_cell is_subchannel cells_of subchannels_of width_of
-overflow_mul-n c = omega (arith, (wide _ (four_2 c)).few)
-
-pub returns-then-n-cell_a : goal.returns-then-n-cell_a
-unfolding ofusc_of is_cell is_subchannel cells_of subchannels_of width_of
-returns-then-n-cell_a c = search (gives, by_answer, rules) depth 8
+overflow_mul-n c = omega (arith, (asked_wide _ _ c.is_four_sizes.ensures _ c.in_ok-ask.ensures).few)
 
 pub overflow_mul-n-2 : goal.overflow_mul-n-2
-unfolding ofusc_of is_cell is_subchannel cells_of subchannels_of width_of
-overflow_mul-n-2 c = omega (arith, (wide _ (four_3 c)).few)
+overflow_mul-n-2 c = omega (arith, (asked_wide _ _ c.is_four_sizes.ensures _ c.in_ok-ask.ensures).few)
 
-pub returns-then-n-cell_b : goal.returns-then-n-cell_b
-unfolding ofusc_of is_cell is_subchannel cells_of subchannels_of width_of
-returns-then-n-cell_b c = search (gives, by_answer, rules) depth 8
+pub ofusc_hits-requires : goal.ofusc_hits-requires
+ofusc_hits-requires c =
+    record {
+      width = (asked_wide _ _ c.is_four_sizes.ensures _ c.in_ok-ask.ensures).is_width;
+      cell_a_bound = (ltb-true _ _ (asked_yes _ _ _ c.in_ok-ask-2.ensures), ltb-true _ _ (asked_yes _ _ _ c.in_ok-ask-3.ensures));
+      a_lt_n = (ltb-true _ _ (asked_yes _ _ _ c.in_ok-ask-4.ensures), ltb-true _ _ (asked_yes _ _ _ c.in_ok-ask-5.ensures));
+    }
 
-pub returns-then-n-subchannel_a : goal.returns-then-n-subchannel_a
-unfolding ofusc_of is_cell is_subchannel cells_of subchannels_of width_of
-returns-then-n-subchannel_a c = search (gives, by_answer, rules) depth 8
+pub returns-in_err-ask : goal.returns-in_err-ask
+unfolding ofusc_of is_cell is_subchannel cells_of subchannels_of width_of answer_of
+returns-in_err-ask c = search (met_on, asked, rules)
 
-pub returns-then-n-subchannel_b : goal.returns-then-n-subchannel_b
-unfolding ofusc_of is_cell is_subchannel cells_of subchannels_of width_of
-returns-then-n-subchannel_b c = search (gives, by_answer, rules) depth 8
+pub returns-in_err-ask-2 : goal.returns-in_err-ask-2
+unfolding ofusc_of is_cell is_subchannel cells_of subchannels_of width_of answer_of
+returns-in_err-ask-2 c = search (met_on, asked, rules)
+
+pub returns-in_err-ask-3 : goal.returns-in_err-ask-3
+unfolding ofusc_of is_cell is_subchannel cells_of subchannels_of width_of answer_of
+returns-in_err-ask-3 c = search (met_on, asked, rules)
+
+pub returns-in_err-ask-4 : goal.returns-in_err-ask-4
+unfolding ofusc_of is_cell is_subchannel cells_of subchannels_of width_of answer_of
+returns-in_err-ask-4 c = search (met_on, asked, rules)
+
+pub returns-in_err-ask-5 : goal.returns-in_err-ask-5
+unfolding ofusc_of is_cell is_subchannel cells_of subchannels_of width_of answer_of
+returns-in_err-ask-5 c = search (met_on, asked, rules)
 
 pub returns : goal.returns
 unfolding ofusc_of is_cell is_subchannel cells_of subchannels_of width_of
-returns c = search (gives, same_size, by_answer, rules) depth 9
+returns c = search (met_by, same_size, asked, rules) depth 9
