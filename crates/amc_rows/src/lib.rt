@@ -9,7 +9,7 @@ ghost use Rattle.amc.specs.Model.{IsShape, sequence_place};
 ghost use Rattle.amc_rows.specs.Model.{EvenWidth, traffic_carrier, subchannel_step, sequence_carrier};
 
 use amc::{SEQUENCE, Shape, bin_symbol, sequence_place};
-use base::reduce16;
+use base::reduce;
 use std::array;
 
 // v of each entry of P.
@@ -93,7 +93,7 @@ pub fn indices(cell: usize) -> [u16; 48]
     let mut indices = [0; 48];
     for i in 0..48 {
         let v = usize::from(places[i]);
-        indices[v] = reduce16(48, i as u16 + back);
+        indices[v] = reduce(48, i as u16 + back);
     }
     indices
 }

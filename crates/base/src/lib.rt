@@ -9,19 +9,6 @@ ghost use Rattle.base.specs.Steps.{rotate as Rotate, unrotate as Unrotate, skip 
 
 use std::ops::Sub;
 
-// An entry of a table, as a number to count with.
-pub fn wide(x: u8) -> usize
-    ensures { (result ≡ x) × (result < 256) }
-{
-    x as usize
-}
-
-pub fn wide16(x: u16) -> usize
-    ensures { (result ≡ x) × (result < 65536) }
-{
-    x as usize
-}
-
 // A type of numbers from 0 on, which are compared and subtracted as numbers are.
 pub trait Whole: Copy + PartialOrd + Sub<Output = Self> {
     // The number that a value is.
@@ -60,14 +47,6 @@ pub fn reduce<T: Whole>(n: T, x: T) -> T
     ensures { (T.number result ≡ T.number x % T.number n) × (T.number result < T.number n) }
 {
     if x < n { x } else { x - n }
-}
-
-// The same at 16 bits.
-pub fn reduce16(n: u16, x: u16) -> u16
-    requires { x < n + n }
-    ensures { (result ≡ x % n) × (result < n) }
-{
-    reduce(n, x)
 }
 
 // x moved on, modulo n.

@@ -5,13 +5,6 @@
 ghost use Rattle.std.specs.Prelude.{◌≡◌, true, ◌<◌, length};
 ghost use Rattle.pilot_list.specs.List.{is_in, is_rising, is_pilot_list, used_of_data, data_of_used};
 
-// A number of 32 bits, as one to count with.
-pub fn wide32(n: u32) -> usize
-    ensures { result ≡ n }
-{
-    n as usize
-}
-
 // Is each entry of a list of 166 larger than the one before?
 fn is_rising(pilots: &[u32]) -> bool
     requires { length pilots.now ≡ 166 }

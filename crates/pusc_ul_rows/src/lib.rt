@@ -9,7 +9,7 @@ ghost use Rattle.pusc_ul.specs.Table.{tile_permutation};
 ghost use Rattle.pusc_ul.specs.Tile.{tile_subchannel};
 ghost use Rattle.pusc_ul_rows.specs.Model.{place_number, tile_start, put_two, tile_points, row_number, TileRow};
 
-use base::reduce16;
+use base::reduce;
 use pusc_ul::{
     TILE_PERMUTATION, TILE_PERMUTATION_INVERSE, data_place, tile_of_seventy, tile_subchannel,
 };
@@ -80,8 +80,8 @@ fn put_numbers(row: &mut [u16; 1680], tiles: &[u16; 120], cell: usize, offset: u
     let q = data_place(offset, m % 6, m / 6 + (offset != 1) as usize) as u16;
     let back = (70 - m % 6) as u16;
     for x in 0..70 {
-        let s = reduce16(70, tiles[x] + back);
-        row[m * 70 + x] = s * 48 + reduce16(48, s * 35 % 48 + q);
+        let s = reduce(70, tiles[x] + back);
+        row[m * 70 + x] = s * 48 + reduce(48, s * 35 % 48 + q);
     }
 }
 

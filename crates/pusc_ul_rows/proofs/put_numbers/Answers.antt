@@ -15,5 +15,5 @@ loop-x-preserved c =
     let next : c.args.m * 70 + (x + 1) ≡ c.args.m * 70 + x + 1 = omega arith in
     rw next
     (written_next c.loop-x.invariant (omega (arith, few_points c.args.offset)) _
-    (rw (c.reduce16.ensures.0, c.data_place-q.ensures.0, carrier_is c.args.offset (c.args.m / 6))
-    (number_at _ _ _ x _ _ c.requires.offset_bound.1 h (c.requires.offset_bound.2 x h) c.reduce16-s.ensures.0)))
+    (rw (c.reduce.ensures.0, c.data_place-q.ensures.0, carrier_is c.args.offset (c.args.m / 6))
+    (number_at _ _ _ x _ _ c.requires.offset_bound.1 h (c.requires.offset_bound.2 x h) c.reduce-s.ensures.0)))
