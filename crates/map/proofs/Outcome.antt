@@ -1,7 +1,5 @@
 -- What placing and locating come to at each of their returns.
-use Rattle.base.proofs.Prelude.{◌≡◌, sym, ap, ◌∙◌, subst, Bool, true, false, ℕ, ◌*◌, ◌/◌, ◌<◌, ◌≤◌, lt-ltb}
-use Rattle.base.proofs.Test.{told_no}
-use mathlib.Core.Bool.{not}
+use Rattle.base.proofs.Prelude.{◌≡◌, sym, ap, ◌∙◌, Bool, true, false, ℕ, ◌*◌, ◌/◌, ◌<◌, ◌≤◌}
 use lib.IntN.{ℤ}
 use mir.{Syntax.w32, Val.{SFits, to_z, of_z}, ValLaws.to_z-of_z}
 use Rattle.std.specs.Result.{IsErrAnd}
@@ -13,9 +11,9 @@ use Rattle.map.specs.{declared.Placed.Placed, declared.Located.Located}
 use Rattle.carriers.specs.{declared.Address.Address, declared.Band.Band, Band.{used_of, is_guard, is_dc}, declared.Spot.Spot}
 use Rattle.carriers.proofs.Guards.{used_left, used_lt}
 use Rattle.centre.specs.Centre.{in_range, on_row}
-use Rattle.modes.specs.{Setup.{Setup, setup_with}, Mode.{subchannels, symbols, band}, Question.{is_slot, is_subchannel, is_index, is_lent}}
+use Rattle.modes.specs.{Setup.{Setup, setup_with}, Mode.{subchannels, symbols, band}}
 use Rattle.formulas.specs.Formula.{is_pilot, spot_of, address_of}
-use Rattle.modes.specs.Model.{setup_refusal, Ranged, Valid}
+use Rattle.modes.specs.Model.{Ranged, Valid}
 use Rattle.map.specs.Place.{Place, placed, located, Content, guard, dc, pilot, point, used_carrier, place_at, place_of, data_at, content_of, locate_of}
 use Rattle.modes.proofs.{ByMode.ranged_alone, Whole.band_law, Outcome.carrier_same}
 use Rattle.map.proofs.Law.{place_accepts, locate_accepts}

@@ -1,5 +1,5 @@
 -- What the name of a mode says of its number, and of a choice by the mode.
-use Rattle.std.proofs.Common.{◌≡◌, refl, sym, ap, ◌∙◌, true, false, ℕ, zero, suc, ◌<◌, ◌≤◌, arith, Result, Ok, Err}
+use Rattle.std.proofs.Common.{◌≡◌, refl, sym, ap, ◌∙◌, true, false, ℕ, arith, Result, Ok, Err}
 use Rattle.base.proofs.{Prelude.{Bool, eqb, eqb-true, eqb-false}, Test.{cases}}
 use Rattle.refusal.specs.declared.Refusal.{Refusal}
 use Rattle.refusal.specs.declared.Refusal.TheVariants as no

@@ -1,7 +1,6 @@
 -- What the questions of a setup and of a carrier come to at each of their returns.
-use Rattle.base.proofs.Prelude.{◌≡◌, refl, sym, ap, ◌∙◌, Bool, true, false, ℕ, ◌<◌, ◌≤◌, arith}
+use Rattle.base.proofs.Prelude.{◌≡◌, refl, sym, ap, ◌∙◌, Bool, true, ℕ, ◌<◌, ◌≤◌, arith}
 use Rattle.base.proofs.{Test.{told_yes}, Chain.{all_yes, is_refused, has_passed}}
-use mathlib.Core.Bool.{not}
 use lib.IntN.{ℤ}
 use mir.{Syntax.w32, Val.{SFits, to_z, of_z}, ValLaws.to_z-of_z}
 use Rattle.base.specs.Answer.{Answer, accepted, refused, ask, refusal_of}

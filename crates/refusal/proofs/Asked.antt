@@ -1,9 +1,9 @@
 -- What a question comes to where it is put with `?`.
-use Rattle.std.proofs.Common.{◌≡◌, refl, sym, ap, ◌∙◌, Bool, true, false, ℕ, arith, Result, Ok, Err}
+use Rattle.std.proofs.Common.{◌≡◌, refl, ap, ◌∙◌, Bool, true, false, ℕ, arith, Result, Ok, Err}
 use Rattle.base.proofs.Prelude.{ltb, eqb, ◌*◌}
 use Rattle.std.specs.Result.{IsErrAnd}
 use Rattle.std.proofs.lemmas.Result.{err_from_is_err_and}
-use Rattle.base.specs.{Choice.pick, Answer.{Answer, accepted, refused, ask, refusal_of}}
+use Rattle.base.specs.{Answer.{Answer, accepted, refused, ask, refusal_of}}
 use Rattle.refusal.specs.declared.Refusal.{Refusal}
 use Rattle.refusal.specs.declared.Refusal.TheVariants as no
 use Rattle.refusal.specs.Refusal.{number_of, answer_of, refusal_in}

@@ -1,6 +1,6 @@
 -- What a call of the code answers, as an answer of document 01: a value, or the number of the question that was answered no.
 use Rattle.std.specs.Prelude.{ℕ, Result, Ok, Err}
-use Rattle.base.specs.Answer.{Answer, accepted, refused, refusal_of}
+use Rattle.base.specs.Answer.{Answer, accepted, refused}
 use Rattle.refusal.specs.declared.Refusal.{Refusal}
 use Rattle.refusal.specs.declared.Refusal.TheVariants as no
 

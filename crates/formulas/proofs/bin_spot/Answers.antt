@@ -1,5 +1,4 @@
 -- `formulas::bin_spot` meets its contract.
-use Rattle.base.proofs.Prelude.{rules}
 use Rattle.formulas.proofs.bin_spot.Goals as goal
 
 pub returns : goal.returns

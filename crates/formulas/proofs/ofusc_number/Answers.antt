@@ -1,5 +1,4 @@
 -- `formulas::ofusc_number` meets its contract.
-use Rattle.base.proofs.Prelude.{rules}
 use Rattle.formulas.proofs.{Asks.ofusc_asks}
 use Rattle.formulas.proofs.ofusc_number.Goals as goal
 

@@ -1,5 +1,5 @@
 -- `lengths::grid_length` meets its contract.
-use Rattle.base.proofs.Prelude.{ap, ℕ, ◌*◌, arith, rules}
+use Rattle.base.proofs.Prelude.{ap, ℕ, ◌*◌}
 use Rattle.refusal.proofs.Asked.{number_ne0}
 use Rattle.modes.specs.Setup.{setup_with}
 use Rattle.modes.proofs.Outcome.{now_ranged}

@@ -1,5 +1,5 @@
 -- `lengths::grid_points` meets its contract.
-use Rattle.base.proofs.Prelude.{arith, rules}
+use Rattle.base.proofs.Prelude.{arith}
 use Rattle.lengths.proofs.{Refusal.grid_is}
 use Rattle.lengths.proofs.grid_points.Goals as goal
 

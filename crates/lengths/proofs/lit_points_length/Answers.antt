@@ -1,5 +1,5 @@
 -- `lengths::lit_points_length` meets its contract.
-use Rattle.base.proofs.Prelude.{refl, arith, rules}
+use Rattle.base.proofs.Prelude.{refl, arith}
 use Rattle.refusal.proofs.Asked.{number_ne0}
 use Rattle.modes.specs.Setup.{setup_with}
 use Rattle.mask.proofs.Law.{lit_few}

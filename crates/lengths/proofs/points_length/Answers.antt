@@ -1,5 +1,5 @@
 -- `lengths::points_length` meets its contract.
-use Rattle.base.proofs.Prelude.{ap, ℕ, ◌*◌, arith, rules}
+use Rattle.base.proofs.Prelude.{ap, ℕ, ◌*◌, arith}
 use Rattle.refusal.proofs.Asked.{number_ne0}
 use Rattle.modes.specs.Setup.{setup_with}
 use Rattle.modes.proofs.{ByMode.few, Outcome.now_ranged}

@@ -1,7 +1,6 @@
 -- `map::at` meets its contract.
-use Rattle.base.proofs.Prelude.{arith, rules}
+use Rattle.base.proofs.Prelude.{arith}
 use Rattle.centre.proofs.Law.{number_read}
-use Rattle.modes.specs.Mode.{band}
 use Rattle.map.specs.Place.{used_carrier, place_at}
 use Rattle.modes.proofs.{ByMode.{slot_few, few}, Outcome.{size_few, column_below}}
 use Rattle.map.proofs.at.Goals as goal

@@ -2,7 +2,6 @@
 use Rattle.base.proofs.Prelude.{arith, rules}
 use Rattle.map.proofs.Outcome.{content_left, content_used, no_pilot, content_guard, content_dc, content_pilot, content_point}
 use Rattle.modes.proofs.{ByMode.ranged_alone, Whole.band_law}
-use Rattle.modes.specs.Mode.{band}
 use Rattle.map.proofs.content.Goals as goal
 
 pub is_guard-requires : goal.is_guard-requires

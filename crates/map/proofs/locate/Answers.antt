@@ -43,4 +43,4 @@ pub returns : goal.returns
 returns c =
     let below = ltb-true c.args.symbol (512 * c.symbols.result) (asked_yes _ _ _ c.in_ok-ask.ensures) in
     locate_done _ _ c.ranges.carrier _ c.in_range.ensures (asked_yes _ _ _ c.in_ok-ask-2.ensures) _ c.column-column.ensures _
-        (now_valid _ c.in_ok-ask_setup.ensures _ c.is_lent.ensures _ c.in_ok-ask-3.ensures) (subst (λ (n : ℕ). c.args.symbol < 512 * n) c.symbols.ensures below) _ c.content.ensures
+    (now_valid _ c.in_ok-ask_setup.ensures _ c.is_lent.ensures _ c.in_ok-ask-3.ensures) (subst (λ (n : ℕ). c.args.symbol < 512 * n) c.symbols.ensures below) _ c.content.ensures

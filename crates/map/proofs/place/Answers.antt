@@ -4,7 +4,7 @@ use Rattle.refusal.proofs.Asked.{asked_yes, asked, no_asked}
 use Rattle.modes.specs.Setup.{lent, alone}
 use Rattle.modes.specs.Question.{is_slot, is_subchannel, is_index}
 use Rattle.map.specs.Place.{place_of}
-use Rattle.modes.proofs.{ByMode.ranged_alone, Outcome.{now_valid, refuses, lets_pass}}
+use Rattle.modes.proofs.{Outcome.{now_valid, refuses, lets_pass}}
 use Rattle.map.proofs.Outcome.{placed_on, place_done, spot_asks, subchannel_in}
 use Rattle.map.proofs.place.Goals as goal
 
@@ -38,11 +38,11 @@ spot-spot-requires c =
 pub at-requires : goal.at-requires
 at-requires c =
     let asks =
-        spot_asks _ _ _ _ c.spot-spot.result (now_valid (lent c.args.setup c.args.pilots.now) c.in_ok-ask_setup.ensures _ c.is_lent.ensures _ c.in_ok-ask-4.ensures) (ltb-true c.args.slot 512 (asked_yes _ _ _ c.in_ok-ask.ensures))
-            (subchannel_in (alone c.args.setup) 0 _ 0 _ c.subchannels.ensures (ltb-true c.args.subchannel c.subchannels.result (asked_yes _ _ _ c.in_ok-ask-2.ensures))) (ltb-true c.args.index 48 (asked_yes _ _ _ c.in_ok-ask-3.ensures)) c.spot-spot.ensures in
+    spot_asks _ _ _ _ c.spot-spot.result (now_valid (lent c.args.setup c.args.pilots.now) c.in_ok-ask_setup.ensures _ c.is_lent.ensures _ c.in_ok-ask-4.ensures) (ltb-true c.args.slot 512 (asked_yes _ _ _ c.in_ok-ask.ensures))
+    (subchannel_in (alone c.args.setup) 0 _ 0 _ c.subchannels.ensures (ltb-true c.args.subchannel c.subchannels.result (asked_yes _ _ _ c.in_ok-ask-2.ensures))) (ltb-true c.args.index 48 (asked_yes _ _ _ c.in_ok-ask-3.ensures)) c.spot-spot.ensures in
     record { ranged = asks.0; slot_bound = asks.1 }
 
 pub returns : goal.returns
 returns c =
     place_done _ _ _ _ (now_valid (lent c.args.setup c.args.pilots.now) c.in_ok-ask_setup.ensures _ c.is_lent.ensures _ c.in_ok-ask-4.ensures) (ltb-true c.args.slot 512 (asked_yes _ _ _ c.in_ok-ask.ensures))
-        (subchannel_in (alone c.args.setup) 0 _ 0 _ c.subchannels.ensures (ltb-true c.args.subchannel c.subchannels.result (asked_yes _ _ _ c.in_ok-ask-2.ensures))) (ltb-true c.args.index 48 (asked_yes _ _ _ c.in_ok-ask-3.ensures)) _ c.spot-spot.ensures _ c.at.ensures
+    (subchannel_in (alone c.args.setup) 0 _ 0 _ c.subchannels.ensures (ltb-true c.args.subchannel c.subchannels.result (asked_yes _ _ _ c.in_ok-ask-2.ensures))) (ltb-true c.args.index 48 (asked_yes _ _ _ c.in_ok-ask-3.ensures)) _ c.spot-spot.ensures _ c.at.ensures

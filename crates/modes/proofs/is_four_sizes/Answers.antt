@@ -1,5 +1,5 @@
 -- `modes::is_four_sizes` meets its contract.
-use Rattle.base.proofs.Prelude.{arith, rules, ne_eqb}
+use Rattle.base.proofs.Prelude.{arith, ne_eqb}
 use Rattle.modes.specs.Question.{is_four_sizes}
 use Rattle.modes.proofs.is_four_sizes.Goals as goal
 

@@ -1,7 +1,6 @@
 -- `modes::offset_of` meets its contract.
-use Rattle.base.proofs.Prelude.{sym, arith, rules}
+use Rattle.base.proofs.Prelude.{sym, arith}
 use native.Mathlib.Nat.{div-mul-le_self, mod-eq-sub-div-mul}
-use Rattle.modes.specs.Mode.{symbols}
 use Rattle.modes.proofs.offset_of.Goals as goal
 
 pub overflow_sub-result : goal.overflow_sub-result

@@ -1,8 +1,6 @@
 -- `questions::ask_grid` meets its contract.
-use Rattle.base.proofs.Prelude.{arith}
 use Rattle.refusal.proofs.Asked.{last_number, same_times}
 use Rattle.questions.specs.{Question.is_grid, Model.grid_refusal}
-use Rattle.lengths.proofs.Refusal.{grid_few}
 use Rattle.questions.proofs.ask_grid.Goals as goal
 
 pub returns : goal.returns

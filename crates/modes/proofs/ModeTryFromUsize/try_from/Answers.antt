@@ -1,5 +1,5 @@
 -- The mode of a number meets its contract.
-use Rattle.base.proofs.Prelude.{rules, arith, ne_eqb, le-ltb}
+use Rattle.base.proofs.Prelude.{arith, ne_eqb, le-ltb}
 use borrow.Author.Tests.{le-leb}
 use Rattle.modes.specs.{Named.named, Mode.shape_of}
 use Rattle.modes.proofs.ModeTryFromUsize.try_from.Goals as goal
