@@ -8,7 +8,8 @@ ghost use Rattle.burst_owner.specs.Model.{Accepted, marked, marked_by};
 
 use burst::Burst;
 
-// The owner's position in the list, or 64 for none, and how many bursts were looked at.
+// The owner's position in the list, or 64 for none, a number since the burst law compares it with `no_owner`; and how many
+// bursts were looked at.
 #[derive(Clone, Copy)]
 pub struct Owned {
     pub owner: usize,
