@@ -31,7 +31,7 @@ fn put_line(dest: &mut [u8], at: usize, zone: Zone) -> usize
     put_field(dest, after_slots, zone.mask, b'\n')
 }
 
-// Puts a line for each zone of the plan.
+// Puts a line for each zone of the plan, whose count is not asked here: it may be above the eight places.
 fn put_zones(dest: &mut [u8], plan: Plan) -> usize
     requires { 672 ≤ length dest.old }
     ensures { Put dest.old 0 (lines_of (used_zones plan)) result dest.new }
