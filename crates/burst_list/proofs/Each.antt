@@ -1,9 +1,12 @@
 -- The questions put to a list, one burst after the other: as a list of tests, and what each number that they come to says.
-use Rattle.base.proofs.Prelude.{◌≡◌, refl, sym, ◌∙◌, true, false, List, [], ◌∷◌, ℕ, zero, suc, ◌+◌, ◌-◌, ◌%◌, ◌<◌, ◌≤◌, arith, T, length, eq-eqb}
+use Rattle.base.proofs.Prelude.{◌≡◌, refl, sym, ◌∙◌, true, false, List, [], ◌∷◌, ℕ, zero, suc, ◌+◌, ◌-◌, ◌%◌, ◌<◌, ◌≤◌, arith, T, length, eq-eqb, eqb, leb}
 use Rattle.base.proofs.Prelude.{eqb-true}
-use Rattle.base.proofs.{Test.{cases, both_true}, Chain.{Questions, ask_all, first_no, counted, is_refused, has_passed}}
+use Rattle.base.proofs.{Test.{cases, both_true, and_is}, Chain.{Questions, ask_all, first_no, counted, is_refused, has_passed}}
 use borrow.Author.{Tests.{le-leb, leb-true}, Count.{below_none, below_more}}
+use mathlib.Core.Bool.{◌&&◌}
 use Rattle.base.specs.Answer.{Answer, accepted, refused}
+use Rattle.refusal.specs.{declared.Refusal.Refusal, Refusal.number_of}
+use Rattle.refusal.proofs.Asked.{number_ne0}
 use Rattle.burst.specs.Burst.{burst_at, is_inside}
 use Rattle.burst_list.specs.{List.{burst_count, is_list, is_apart, ask_each, ask_list}, Model.list_refusal}
 
@@ -12,6 +15,11 @@ module _ (numbers : List ℕ) where
   pub list_is : length numbers % 4 ≡ 0 → length numbers ≤ 256 → is_list numbers ≡ true
   unfolding is_list
   list_is e h = rw (eq-eqb (length numbers % 4) 0 e, le-leb (length numbers) 256 h)
+
+  -- its test, as the code has it
+  pub list_test : (eqb (length numbers % 4) 0 && leb (length numbers) 256) ≡ is_list numbers
+  unfolding is_list
+  list_test = and_is (eqb (length numbers % 4) 0) (leb (length numbers) 256)
 
   pub list_of : is_list numbers ≡ true → (length numbers % 4 ≡ 0) × (length numbers ≤ 256)
   unfolding is_list
@@ -39,13 +47,13 @@ module _ (subchannel_end slot_end : ℕ) (numbers : List ℕ) where
   unfolding list_refusal
   number_is = rw (each_is {A = Unit {0}} (burst_count numbers) 0 (accepted tt))
 
-  -- by the number that a function gave
-  module _ {A : Type 0} (rest : Answer A) (k : ℕ) (e : k ≡ list_refusal subchannel_end slot_end numbers) where
-    pub list_no : (k ≡ 0 → ⊥) → refused k ≡ ask_list subchannel_end slot_end numbers rest
-    list_no ne = rw (each_is (burst_count numbers) 0 rest) (is_refused whole (each_counted (burst_count numbers) 0) rest k (e ∙ number_is) ne)
+  -- by what the function that puts them says
+  module _ {A : Type 0} (rest : Answer A) where
+    pub list_no : (e : Refusal) → number_of e ≡ list_refusal subchannel_end slot_end numbers → refused (number_of e) ≡ ask_list subchannel_end slot_end numbers rest
+    list_no e f = rw (each_is (burst_count numbers) 0 rest) (is_refused whole (each_counted (burst_count numbers) 0) rest (number_of e) (f ∙ number_is) (number_ne0 e))
 
-    pub list_then : k ≡ 0 → rest ≡ ask_list subchannel_end slot_end numbers rest
-    list_then z = rw (each_is (burst_count numbers) 0 rest) (has_passed whole (each_counted (burst_count numbers) 0) rest k (e ∙ number_is) z)
+    pub list_then : 0 ≡ list_refusal subchannel_end slot_end numbers → rest ≡ ask_list subchannel_end slot_end numbers rest
+    list_then e = rw (each_is (burst_count numbers) 0 rest) (has_passed whole (each_counted (burst_count numbers) 0) rest 0 (e ∙ number_is) refl)
 
   -- a burst that both questions let pass
   pub record Passed (i : ℕ) : Type 0 where
@@ -96,5 +104,5 @@ module _ (subchannel_end slot_end : ℕ) (numbers : List ℕ) where
   list_yes e = by_list (λ n. absurd (omega arith)) (λ l i h p t n. absurd (omega (arith, is_overlapping l h p t n))) (λ l p. (l, p))
 
   -- so it is not long
-  pub list_most : {n : ℕ} → n ≡ list_refusal subchannel_end slot_end numbers → n ≡ 0 → length numbers ≤ 256
-  list_most e z = (list_of numbers (list_yes (sym e ∙ z)).0).1
+  pub list_most : 0 ≡ list_refusal subchannel_end slot_end numbers → length numbers ≤ 256
+  list_most e = (list_of numbers (list_yes (sym e)).0).1

@@ -3,10 +3,12 @@
 
 ghost use Rattle.std.specs.Prelude.{◌≡◌, ◌<◌};
 ghost use Rattle.base.specs.First.{is_none};
+ghost use Rattle.refusal.specs.Refusal.{refusal_in};
 ghost use Rattle.burst.specs.Model.{edges_overlap};
 ghost use Rattle.burst_list.specs.Model.{list_refusal, edges_at};
 
 use burst::Edges;
+use refusal::{Refusal, ask};
 
 // Does a burst overlap none of those before a position in the columns? Each of them is asked, so that there is no branch to
 // guess, and many can be asked at once. A burst's subchannels are asked before its slots are read: the compiled loop reads in
@@ -23,8 +25,7 @@ fn is_apart(
     ensures { result ≡ is_none (λ j. edges_overlap (edges_at starts.now ends.now slot_starts.now slot_ends.now j) edges) i }
 {
     let mut overlaps = false;
-    let mut j = 0;
-    while j < i {
+    for j in 0..i {
         overlaps = overlaps
             | burst::is_shared(starts[j], ends[j], edges.start, edges.end)
                 & burst::is_shared(
@@ -33,36 +34,29 @@ fn is_apart(
                     edges.slot_start,
                     edges.slot_end,
                 );
-        j += 1;
     }
     !overlaps
 }
 
-// The number of the first question put to a list that is answered no, or 0, given
-// the numbers after the zone's last subchannel and last slot.
+// The questions put to a list, given the numbers after the zone's last subchannel and last slot.
 // The edges of the bursts so far stand in columns; a burst's are kept before it is asked, so that the next one finds them
 // written. Each column is an array of its own, so that it is cleared without a call.
-pub fn list_refusal(subchannel_end: usize, slot_end: usize, bursts: &[u32]) -> u8
+pub fn ask_list(subchannel_end: usize, slot_end: usize, bursts: &[u32]) -> Result<(), Refusal>
     requires { (subchannel_end < 65536) × (slot_end < 65536) }
-    ensures { result ≡ list_refusal subchannel_end slot_end bursts.now }
+    ensures { refusal_in result ≡ list_refusal subchannel_end slot_end bursts.now }
 {
-    if bursts.len() % 4 != 0 {
-        return 18;
-    }
-    if 256 < bursts.len() {
-        return 18;
-    }
-    let count = bursts.len() / 4;
+    let numbers = bursts.len();
+    ask((numbers % 4 == 0) & (numbers <= 256), Refusal::Burst)?;
     let mut starts = [0u16; 64];
     let mut ends = [0u16; 64];
     let mut slot_starts = [0u16; 64];
     let mut slot_ends = [0u16; 64];
-    let mut i = 0;
-    while i < count {
+    for i in 0..numbers / 4 {
         let burst = burst::burst_at(bursts, i);
-        if !burst::is_inside(subchannel_end, slot_end, burst) {
-            return 18;
-        }
+        ask(
+            burst::is_inside(subchannel_end, slot_end, burst),
+            Refusal::Burst,
+        )?;
         let edges = Edges {
             start: burst.subchannel as u16,
             end: burst::end_of(burst.subchannel, burst.subchannels) as u16,
@@ -73,10 +67,10 @@ pub fn list_refusal(subchannel_end: usize, slot_end: usize, bursts: &[u32]) -> u
         ends[i] = edges.end;
         slot_starts[i] = edges.slot_start;
         slot_ends[i] = edges.slot_end;
-        if !is_apart(&starts, &ends, &slot_starts, &slot_ends, i, edges) {
-            return 19;
-        }
-        i += 1;
+        ask(
+            is_apart(&starts, &ends, &slot_starts, &slot_ends, i, edges),
+            Refusal::Overlap,
+        )?;
     }
-    0
+    Ok(())
 }

@@ -14,11 +14,11 @@ use Rattle.burst_owner.specs.{declared.Owned.Owned, Owner.{position, no_owner, o
 
 -- the first owner, of its position
 module _ (numbers : List ℕ) (slot s : ℕ) {p : ℕ} (e : p ≡ position numbers slot s) where
-  pub owner_some : p < burst_count numbers → ◌≡◌ {A = Owned} (record { refusal = 0; owner = p; looked = p + 1 }) (record { refusal = 0; owner = owner_at numbers slot s; looked = looked_at numbers slot s })
+  pub owner_some : p < burst_count numbers → ◌≡◌ {A = Owned} (record { owner = p; looked = p + 1 }) (record { owner = owner_at numbers slot s; looked = looked_at numbers slot s })
   unfolding owner_at looked_at
   owner_some h = rw (← e, lt-ltb p (burst_count numbers) h)
 
-  pub owner_none : burst_count numbers ≤ p → ◌≡◌ {A = Owned} (record { refusal = 0; owner = no_owner; looked = p }) (record { refusal = 0; owner = owner_at numbers slot s; looked = looked_at numbers slot s })
+  pub owner_none : burst_count numbers ≤ p → ◌≡◌ {A = Owned} (record { owner = no_owner; looked = p }) (record { owner = owner_at numbers slot s; looked = looked_at numbers slot s })
   unfolding owner_at looked_at
   owner_none h =
       let all : p ≡ burst_count numbers = omega (arith, first_most (λ i. is_covering (burst_at numbers i) slot s) (burst_count numbers)) in

@@ -8,10 +8,10 @@ ghost use Rattle.burst_owner.specs.Model.{Accepted, marked, marked_by};
 
 use burst::Burst;
 
-// What asking for an owner answers: the first refusal, or 0; the owner's position in the list, or 64; how many bursts were looked at.
+// The owner's position in the list, or 64 for none, a number since the burst law compares it with `no_owner`; and how many
+// bursts were looked at.
 #[derive(Clone, Copy)]
 pub struct Owned {
-    pub refusal: u8,
     pub owner: usize,
     pub looked: usize,
 }
@@ -22,12 +22,10 @@ fn position(bursts: &[u32], slot: usize, subchannel: usize) -> usize
     ensures { result ≡ Position bursts.now slot subchannel }
 {
     let count = bursts.len() / 4;
-    let mut i = 0;
-    while i < count {
+    for i in 0..count {
         if burst::is_covering(burst::burst_at(bursts, i), slot, subchannel) {
             return i;
         }
-        i += 1;
     }
     count
 }
@@ -35,19 +33,17 @@ fn position(bursts: &[u32], slot: usize, subchannel: usize) -> usize
 // The first burst that covers a subchannel in a slot, in an accepted list.
 pub fn first_owner(slot: usize, subchannel: usize, bursts: &[u32]) -> Owned
     requires { length bursts.now ≤ 256 }
-    ensures { result ≡ record { refusal = 0; owner = owner_at bursts.now slot subchannel; looked = looked_at bursts.now slot subchannel } }
+    ensures { result ≡ record { owner = owner_at bursts.now slot subchannel; looked = looked_at bursts.now slot subchannel } }
 {
     let count = bursts.len() / 4;
     let i = position(bursts, slot, subchannel);
     if i < count {
         return Owned {
-            refusal: 0,
             owner: i,
             looked: i + 1,
         };
     }
     Owned {
-        refusal: 0,
         owner: 64,
         looked: i,
     }
@@ -58,10 +54,8 @@ fn mark(row: &mut [u8; 192], first: usize, many: usize, value: u8)
     requires { (length row.old ≡ 192) × (first + many ≤ 192) }
     ensures { row.new ≡ marked first many value row.old }
 {
-    let mut m = 0;
-    while m < many {
+    for m in 0..many {
         row[first + m] = value;
-        m += 1;
     }
 }
 
@@ -86,12 +80,9 @@ pub fn marked_row(bursts: &[u32], slot: usize) -> [u8; 192]
     requires { Accepted bursts.now }
     ensures { result ≡ tabulate 192 (owner_at bursts.now slot) }
 {
-    let count = bursts.len() / 4;
     let mut row = [64u8; 192];
-    let mut i = 0;
-    while i < count {
+    for i in 0..bursts.len() / 4 {
         mark_burst(&mut row, burst::burst_at(bursts, i), slot, i as u8);
-        i += 1;
     }
     row
 }

@@ -1,5 +1,9 @@
 -- The answers of the three calls, by what their questions come to.
-use Rattle.base.proofs.{Prelude.{◌≡◌, sym, ap, ◌∙◌, List, [], ℕ, ◌<◌, ◌≤◌, arith, ltb, ltb-false}, Test.cases}
+use Rattle.base.proofs.{Prelude.{◌≡◌, sym, ap, ◌∙◌, List, ℕ, ◌<◌, ◌≤◌, arith, ltb, ltb-false}, Test.cases}
+use Rattle.std.specs.Prelude.{Result, Ok}
+use Rattle.std.specs.Result.{IsErrAnd}
+use Rattle.std.proofs.lemmas.Result.{err_from_is_err_and}
+use Rattle.refusal.specs.{declared.Refusal.Refusal, Refusal.number_of}
 use Rattle.base.proofs.Tabulate.{get_d_tabulate, tabulated, length_tabulate}
 use Rattle.base.specs.{Answer.{Answer, accepted, refused}, Tabulate.tabulate}
 use Rattle.modes.specs.{Mode.subchannels, Question.is_subchannel}
@@ -10,9 +14,9 @@ use Rattle.burst.specs.Burst.{burst_at, is_covering}
 use Rattle.burst.proofs.Cover.{inside_covers}
 use Rattle.burst_list.specs.Model.{list_refusal}
 use Rattle.burst_list.proofs.Each.{list_no, list_then, list_yes}
-use Rattle.burst_owner.specs.{declared.Owned.Owned, Owner.{no_owner, owner_at}, Model.Accepted}
+use Rattle.burst_owner.specs.{declared.Owned.Owned, Owner.{owner_at}, Model.Accepted}
 use Rattle.burst_owner.proofs.Row.{no-owner}
-use Rattle.bursts.specs.{declared.OwnerRow.OwnerRow, Burst.ask_bursts, Owner.{owned, row_at, owner_row}}
+use Rattle.bursts.specs.{Burst.ask_bursts, Owner.{owner_said, owned, row_said, row_at, owner_row}}
 
 module _ (size : ℕ) (zone : Zone) where
   -- where a zone's own questions are all answered yes, it is small
@@ -20,21 +24,21 @@ module _ (size : ℕ) (zone : Zone) where
   zone_limits e = ((few (fields_ranged size zone e)).subchannels_few, fields_slots size zone e)
 
   -- what the list's questions ask of it
-  pub list_asks : {n s : ℕ} → n ≡ fields_refusal size zone → n ≡ 0 → s ≡ subchannels (setup_of size zone) → (s < 65536) × (zone.slots < 65536)
-  list_asks e z q = let limits = zone_limits (sym e ∙ z) in (omega arith, omega arith)
+  pub list_asks : {s : ℕ} → 0 ≡ fields_refusal size zone → s ≡ subchannels (setup_of size zone) → (s < 65536) × (zone.slots < 65536)
+  list_asks e q = let limits = zone_limits (sym e) in (omega arith, omega arith)
 
   -- those of the list, by the subchannels that a function counted
-  module _ (numbers : List ℕ) (s : ℕ) (q : s ≡ subchannels (setup_of size zone)) (k : ℕ) (e : k ≡ list_refusal s zone.slots numbers) (rest : Answer (Unit {0})) where
-    pub bursts_no : (k ≡ 0 → ⊥) → refused k ≡ ask_bursts size zone numbers rest
-    bursts_no ne = rw (← q) (list_no s zone.slots numbers rest k e ne)
+  module _ (numbers : List ℕ) (s : ℕ) (q : s ≡ subchannels (setup_of size zone)) (rest : Answer (Unit {0})) where
+    pub bursts_no : (e : Refusal) → number_of e ≡ list_refusal s zone.slots numbers → refused (number_of e) ≡ ask_bursts size zone numbers rest
+    bursts_no e f = rw (← q) (list_no s zone.slots numbers rest e f)
 
-    pub bursts_then : k ≡ 0 → rest ≡ ask_bursts size zone numbers rest
-    bursts_then z = rw (← q) (list_then s zone.slots numbers rest k e z)
+    pub bursts_then : 0 ≡ list_refusal s zone.slots numbers → rest ≡ ask_bursts size zone numbers rest
+    bursts_then e = rw (← q) (list_then s zone.slots numbers rest e)
 
   -- a list that is accepted
   module _ (numbers : List ℕ) where
-    pub zone_accepted : {n s k : ℕ} → n ≡ fields_refusal size zone → n ≡ 0 → s ≡ subchannels (setup_of size zone) → k ≡ list_refusal s zone.slots numbers → k ≡ 0 → Accepted numbers
-    zone_accepted {s = s} e z q l y = record { subchannel_end = s; slot_end = zone.slots; at_most_192 = omega (arith, zone_limits (sym e ∙ z)); no_refusal = sym l ∙ y }
+    pub zone_accepted : {s : ℕ} → 0 ≡ fields_refusal size zone → s ≡ subchannels (setup_of size zone) → 0 ≡ list_refusal s zone.slots numbers → Accepted numbers
+    zone_accepted {s} e q l = record { subchannel_end = s; slot_end = zone.slots; at_most_192 = omega (arith, zone_limits (sym e)); no_refusal = sym l }
 
     -- its row has none past the mode's last subchannel
     module _ (l : list_refusal (subchannels (setup_of size zone)) zone.slots numbers ≡ 0) (slot : ℕ) where
@@ -48,20 +52,20 @@ module _ (size : ℕ) (zone : Zone) where
           (λ c. absurd (omega (arith, ltb-false k _ f, inside_covers (burst_at numbers i) _ _ ((list_yes _ _ numbers l).1 i h).inside slot k c)))
           (λ n. n))).0)
 
-    pub row_yes : (s : ℕ) → s ≡ subchannels (setup_of size zone) → (k : ℕ) → k ≡ list_refusal s zone.slots numbers → k ≡ 0 → (slot : ℕ) (owners : List ℕ) → owners ≡ tabulate 192 (owner_at numbers slot)
-        → (answer : Answer (Unit {0})) → accepted tt ≡ answer → record { refusal = 0; owners = owners } ≡ owner_row (row_at size zone slot numbers) answer
-    row_yes s q k l y slot owners e answer f =
+    pub row_yes : (s : ℕ) → s ≡ subchannels (setup_of size zone) → 0 ≡ list_refusal s zone.slots numbers → (slot : ℕ) (owners : List ℕ) → owners ≡ tabulate 192 (owner_at numbers slot)
+        → (answer : Answer (Unit {0})) → accepted tt ≡ answer → row_said (Ok owners) ≡ owner_row (row_at size zone slot numbers) answer
+    row_yes s q l slot owners e answer f =
         let row = row_at size zone slot numbers in
-        rw (e ∙ tabulated 0 _ 192 row (length_tabulate 192 (owner_at numbers slot)) (λ j h. get_d_tabulate 192 (owner_at numbers slot) j 0 h ∙ row_is (rw q at (sym l ∙ y)) slot j)) (ap (owner_row row) f)
+        rw (e ∙ tabulated 0 _ 192 row (length_tabulate 192 (owner_at numbers slot)) (λ j h. get_d_tabulate 192 (owner_at numbers slot) j 0 h ∙ row_is (rw q at (sym l)) slot j)) (ap (owner_row row) f)
 
--- the outcomes by their answer
-module _ (owner looked : ℕ) (r : Owned) (answer : Answer (Unit {0})) where
-  pub owned_no : (n : ℕ) → r ≡ record { refusal = n; owner = no_owner; looked = 0 } → refused n ≡ answer → r ≡ owned owner looked answer
-  owned_no n e f = e ∙ ap (owned owner looked) f
+-- the outcomes by their answer: what a `?` returns, and the owner that was found
+module _ (owner looked : ℕ) (answer : Answer (Unit {0})) where
+  pub owned_no : (r : Result Owned Refusal) (e : Refusal) → IsErrAnd r (λ y. y ≡ e) → refused (number_of e) ≡ answer → owner_said r ≡ owned owner looked answer
+  owned_no r e g f = let p = err_from_is_err_and r g in rw (p.1, p.2) (ap (owned owner looked) f)
 
-  pub owned_yes : r ≡ record { refusal = 0; owner = owner; looked = looked } → accepted tt ≡ answer → r ≡ owned owner looked answer
-  owned_yes e f = e ∙ ap (owned owner looked) f
+  pub owned_yes : (r : Owned) → r ≡ record { owner = owner; looked = looked } → accepted tt ≡ answer → owner_said (Ok r) ≡ owned owner looked answer
+  owned_yes r e f = ap (λ (o : Owned). owner_said (Ok o)) e ∙ ap (owned owner looked) f
 
-module _ (row : ℕ → ℕ) (r : OwnerRow) (answer : Answer (Unit {0})) where
-  pub row_no : (n : ℕ) → r ≡ record { refusal = n; owners = tabulate 192 (λ s. no_owner) } → refused n ≡ answer → r ≡ owner_row row answer
-  row_no n e f = e ∙ ap (owner_row row) f
+module _ (row : ℕ → ℕ) (answer : Answer (Unit {0})) where
+  pub row_no : (r : Result (List ℕ) Refusal) (e : Refusal) → IsErrAnd r (λ y. y ≡ e) → refused (number_of e) ≡ answer → row_said r ≡ owner_row row answer
+  row_no r e g f = let p = err_from_is_err_and r g in rw (p.1, p.2) (ap (owner_row row) f)

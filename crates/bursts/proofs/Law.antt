@@ -10,12 +10,12 @@ use Rattle.burst.specs.Burst.{burst_at, is_covering, is_inside, is_overlap}
 use Rattle.burst.proofs.Cover.{inside_covers, inside_first, inside_is, overlap_is, overlap_common}
 use Rattle.burst_list.specs.{List.{burst_count, is_list, is_apart}, Model.list_refusal}
 use Rattle.burst_list.proofs.Each.{list_is, list_of, list_then, Passes, list_yes, all_pass, is_overlapping, by_list}
-use Rattle.burst_owner.specs.{declared.Owned.Owned, Owner.{no_owner, owner_at, looked_at}}
+use Rattle.burst_owner.specs.{Owner.{no_owner, owner_at, looked_at}}
 use Rattle.burst_owner.proofs.Row.{alone, owner_here, by-owner}
-use Rattle.bursts.specs.{declared.OwnerRow.OwnerRow, Burst.{ask_bursts, check_of}}
-use Rattle.bursts.specs.Owner.{ask_owner, owned, owner_of, row_at, ask_owners, owner_row, owners_of}
+use Rattle.bursts.specs.Burst.{ask_bursts, check_of}
+use Rattle.bursts.specs.Owner.{OwnerAnswer, ask_owner, owned, owner_of, row_at, RowAnswer, ask_owners, owner_row, owners_of}
 use Rattle.bursts.specs.Law.{Covers, masked, Masks, FirstFit, Fit, Overlapping, BurstLaw}
-use Rattle.zone.proofs.Number.{field_questions, fields_no, fields_then}
+use Rattle.zone.proofs.Number.{field_questions, fields_first, fields_then}
 use Rattle.bursts.proofs.Answer.{zone_limits}
 
 -- the outcomes by their answer
@@ -41,11 +41,11 @@ module _ (size : ℕ) (zone : Zone) (numbers : List ℕ) where
   -- The check: the list's number, where the zone's is 0.
   check_is : fields_refusal size zone ≡ 0 → list ≡ check_of size zone numbers
   unfolding check_of list_refusal
-  check_is z = ap refusal_of (fields_then size zone _ refl _ z _ refl)
+  check_is z = ap refusal_of (fields_then size zone _ (sym z) _ refl)
 
   zone_first : (fields_refusal size zone ≡ 0 → ⊥) → check_of size zone numbers ≡ fields_refusal size zone
   unfolding check_of
-  zone_first n = sym (ap refusal_of (fields_no size zone _ refl _ n))
+  zone_first n = sym (ap refusal_of (fields_first size zone _ n))
 
   check_yes : check_of size zone numbers ≡ 0 → (fields_refusal size zone ≡ 0) × (list ≡ 0)
   unfolding check_of fields_refusal list_refusal
@@ -146,10 +146,10 @@ module _ (size : ℕ) (zone : Zone) (numbers : List ℕ) where
       few = (list_fit a.list_passed).at_most_64
 
       list_passes : accepted tt ≡ ask_bursts {A = Unit {0}} size zone numbers (accepted tt)
-      list_passes = list_then end zone.slots numbers (accepted tt) list refl a.list_passed
+      list_passes = list_then end zone.slots numbers (accepted tt) (sym a.list_passed)
 
     module _ (s : ℕ) where
-      abbrev outcome : Owned
+      abbrev outcome : OwnerAnswer
       outcome = owner_of size zone slot s numbers
 
       owner_number : outcome.refusal ≡ refusal_of (ask_owner {A = Unit {0}} size zone slot s numbers (accepted tt))
@@ -162,7 +162,7 @@ module _ (size : ℕ) (zone : Zone) (numbers : List ℕ) where
 
       owner_is : Answered → s < end → outcome ≡ record { refusal = 0; owner = owner_at numbers slot s; looked = looked_at numbers slot s }
       unfolding owner_of is_slot is_subchannel
-      owner_is a k = sym (ap (owned (owner_at numbers slot s) (looked_at numbers slot s)) (fields_then size zone _ refl _ a.zone_passed (accepted tt) (rw (lt-ltb slot 512 a.slot_lt, lt-ltb s end k) (list_passes a))))
+      owner_is a k = sym (ap (owned (owner_at numbers slot s) (looked_at numbers slot s)) (fields_then size zone _ (sym a.zone_passed) (accepted tt) (rw (lt-ltb slot 512 a.slot_lt, lt-ltb s end k) (list_passes a))))
 
       owner_yes : outcome.refusal ≡ 0 → Answered × (outcome ≡ record { refusal = 0; owner = owner_at numbers slot s; looked = looked_at numbers slot s })
       unfolding fields_refusal list_refusal is_slot is_subchannel
@@ -180,7 +180,7 @@ module _ (size : ℕ) (zone : Zone) (numbers : List ℕ) where
       unfolding owner_of
       by_answer f g =
           cases (eqb outcome.refusal 0)
-          (λ t. let y = owner_yes (eqb-true _ 0 t) in f y.0 (ap (λ (o : Owned). o.owner) y.1) (ap (λ (o : Owned). o.looked) y.1))
+          (λ t. let y = owner_yes (eqb-true _ 0 t) in f y.0 (ap (λ (o : OwnerAnswer). o.owner) y.1) (ap (λ (o : OwnerAnswer). o.looked) y.1))
           (λ n. let h = (owned_by (owner_at numbers slot s) (looked_at numbers slot s) (ask_owner size zone slot s numbers (accepted tt))).1 (λ e. eqb-false _ 0 n (owner_number ∙ e)) in g (eqb-false _ 0 n) h.0 h.1)
 
       only_owner : (i : ℕ) → outcome.refusal ≡ 0 → i < burst_count numbers → Covers numbers i slot s → (outcome.owner ≡ i) × (outcome.looked ≡ i + 1)
@@ -213,7 +213,7 @@ module _ (size : ℕ) (zone : Zone) (numbers : List ℕ) where
           (λ n o l. o)
 
     -- The row of a slot's owners is either that of an accepted list, or a refusal's.
-    abbrev rows : OwnerRow
+    abbrev rows : RowAnswer
     rows = owners_of size zone slot numbers
 
     rows_number : rows.refusal ≡ refusal_of (ask_owners {A = Unit {0}} size zone slot numbers (accepted tt))
@@ -226,7 +226,7 @@ module _ (size : ℕ) (zone : Zone) (numbers : List ℕ) where
 
     row_is : Answered → rows ≡ record { refusal = 0; owners = tabulate 192 (row_at size zone slot numbers) }
     unfolding owners_of is_slot
-    row_is a = sym (ap (owner_row (row_at size zone slot numbers)) (fields_then size zone _ refl _ a.zone_passed (accepted tt) (rw (lt-ltb slot 512 a.slot_lt) (list_passes a))))
+    row_is a = sym (ap (owner_row (row_at size zone slot numbers)) (fields_then size zone _ (sym a.zone_passed) (accepted tt) (rw (lt-ltb slot 512 a.slot_lt) (list_passes a))))
 
     row_yes : rows.refusal ≡ 0 → Answered
     unfolding fields_refusal list_refusal is_slot
@@ -239,7 +239,7 @@ module _ (size : ℕ) (zone : Zone) (numbers : List ℕ) where
     unfolding owners_of
     by_row f g =
         cases (eqb rows.refusal 0)
-        (λ t. let a = row_yes (eqb-true _ 0 t) in f a (ap (λ (o : OwnerRow). o.owners) (row_is a)))
+        (λ t. let a = row_yes (eqb-true _ 0 t) in f a (ap (λ (o : RowAnswer). o.owners) (row_is a)))
         (λ n. g (eqb-false _ 0 n) ((row_by (row_at size zone slot numbers) (ask_owners size zone slot numbers (accepted tt))).1 (λ e. eqb-false _ 0 n (rows_number ∙ e))))
 
     row_long : length rows.owners ≡ 192
@@ -253,15 +253,15 @@ module _ (size : ℕ) (zone : Zone) (numbers : List ℕ) where
       unfolding row_at is_subchannel
       row_owner l =
           by_row
-          (λ a e. at_is _ e ∙ rw (lt-ltb s end l) (sym (ap (λ (o : Owned). o.owner) (owner_is s a l))))
-          (λ n e. by_answer s (λ a o k. absurd (n (ap (λ (o : OwnerRow). o.refusal) (row_is a)))) (λ m o k. at_is _ e ∙ sym o))
+          (λ a e. at_is _ e ∙ rw (lt-ltb s end l) (sym (ap (λ (o : OwnerAnswer). o.owner) (owner_is s a l))))
+          (λ n e. by_answer s (λ a o k. absurd (n (ap (λ (o : RowAnswer). o.refusal) (row_is a)))) (λ m o k. at_is _ e ∙ sym o))
 
       row_past : end ≤ s → entry rows.owners s ≡ no_owner
       unfolding row_at is_subchannel
       row_past l = by_row (λ a e. at_is _ e ∙ rw (le-ltb s end l)) (λ n e. at_is _ e)
 
       refused-row : (rows.refusal ≡ 0 → ⊥) → entry rows.owners s ≡ no_owner
-      refused-row n = by_row (λ a e. absurd (n (ap (λ (o : OwnerRow). o.refusal) (row_is a)))) (λ m e. at_is _ e)
+      refused-row n = by_row (λ a e. absurd (n (ap (λ (o : RowAnswer). o.refusal) (row_is a)))) (λ m e. at_is _ e)
 
   -- What is asked, and what is answered, goes by mode, cell and slots: the mask has its own question alone.
   module _ (m n : ℕ) (both : Masks zone.mode m n) where

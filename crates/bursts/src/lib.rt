@@ -2,23 +2,16 @@
 #![tactic(auto)]
 
 ghost use Rattle.std.specs.Prelude.{◌≡◌};
-ghost use Rattle.base.specs.Tabulate.{tabulate};
+ghost use Rattle.refusal.specs.Refusal.{refusal_in};
 ghost use Rattle.modes.specs.Mode.{subchannels as Subchannels};
 ghost use Rattle.zone.specs.Zone.{setup_of};
-ghost use Rattle.burst_owner.specs.Owner.{no_owner};
 ghost use Rattle.bursts.specs.Burst.{check_of};
-ghost use Rattle.bursts.specs.Owner.{owner_of, owners_of};
+ghost use Rattle.bursts.specs.Owner.{owner_said, owner_of, row_said, owners_of};
 
 use burst_owner::Owned;
 use modes::Setup;
+use refusal::{Refusal, ask};
 use zone::Zone;
-
-// What asking for a slot's owners answers: the first refusal, or 0; for each subchannel the owner's position, or 64.
-#[derive(Clone, Copy)]
-pub struct OwnerRow {
-    pub refusal: u8,
-    pub owners: [u8; 192],
-}
 
 // The subchannels of a zone's mode and size.
 fn subchannels(size: usize, zone: Zone) -> usize
@@ -31,77 +24,38 @@ fn subchannels(size: usize, zone: Zone) -> usize
     })
 }
 
-// Is a list of bursts fit for its zone? Answers the number of the first question that is answered no, or 0.
-pub fn check(size: usize, zone: Zone, bursts: &[u32]) -> u8
-    ensures { result ≡ check_of size zone bursts.now }
+// Is a list of bursts fit for its zone?
+pub fn check(size: usize, zone: Zone, bursts: &[u32]) -> Result<(), Refusal>
+    ensures { refusal_in result ≡ check_of size zone bursts.now }
 {
-    let fields = zone::fields_refusal(size, zone);
-    if fields != 0 {
-        return fields;
-    }
-    burst_list::list_refusal(subchannels(size, zone), zone.slots, bursts)
-}
-
-// A refusal has no owner, and has looked at none.
-fn refused(number: u8) -> Owned
-    ensures { result ≡ record { refusal = number; owner = no_owner; looked = 0 } }
-{
-    Owned {
-        refusal: number,
-        owner: 64,
-        looked: 0,
-    }
+    zone::ask_fields(size, zone)?;
+    burst_list::ask_list(subchannels(size, zone), zone.slots, bursts)
 }
 
 // Who owns a subchannel in a slot, or the first refusal.
-pub fn owner(size: usize, zone: Zone, slot: usize, subchannel: usize, bursts: &[u32]) -> Owned
-    ensures { result ≡ owner_of size zone slot subchannel bursts.now }
+pub fn owner(
+    size: usize,
+    zone: Zone,
+    slot: usize,
+    subchannel: usize,
+    bursts: &[u32],
+) -> Result<Owned, Refusal>
+    ensures { owner_said result ≡ owner_of size zone slot subchannel bursts.now }
 {
-    let fields = zone::fields_refusal(size, zone);
-    if fields != 0 {
-        return refused(fields);
-    }
-    if 512 <= slot {
-        return refused(4);
-    }
+    zone::ask_fields(size, zone)?;
+    ask(slot < 512, Refusal::Slot)?;
     let subchannels = subchannels(size, zone);
-    if subchannels <= subchannel {
-        return refused(5);
-    }
-    let list = burst_list::list_refusal(subchannels, zone.slots, bursts);
-    if list != 0 {
-        return refused(list);
-    }
-    burst_owner::first_owner(slot, subchannel, bursts)
+    ask(subchannel < subchannels, Refusal::Subchannel)?;
+    burst_list::ask_list(subchannels, zone.slots, bursts)?;
+    Ok(burst_owner::first_owner(slot, subchannel, bursts))
 }
 
-// The row of a refusal is all 64.
-fn refused_row(number: u8) -> OwnerRow
-    ensures { result ≡ record { refusal = number; owners = tabulate 192 (λ s. no_owner) } }
+// Who owns each subchannel of a slot, by the position in the list, or 64 for none; or the first refusal.
+pub fn owners(size: usize, zone: Zone, slot: usize, bursts: &[u32]) -> Result<[u8; 192], Refusal>
+    ensures { row_said result ≡ owners_of size zone slot bursts.now }
 {
-    OwnerRow {
-        refusal: number,
-        owners: [64u8; 192],
-    }
-}
-
-// Who owns each subchannel of a slot, or the first refusal.
-pub fn owners(size: usize, zone: Zone, slot: usize, bursts: &[u32]) -> OwnerRow
-    ensures { result ≡ owners_of size zone slot bursts.now }
-{
-    let fields = zone::fields_refusal(size, zone);
-    if fields != 0 {
-        return refused_row(fields);
-    }
-    if 512 <= slot {
-        return refused_row(4);
-    }
-    let list = burst_list::list_refusal(subchannels(size, zone), zone.slots, bursts);
-    if list != 0 {
-        return refused_row(list);
-    }
-    OwnerRow {
-        refusal: 0,
-        owners: burst_owner::marked_row(bursts, slot),
-    }
+    zone::ask_fields(size, zone)?;
+    ask(slot < 512, Refusal::Slot)?;
+    burst_list::ask_list(subchannels(size, zone), zone.slots, bursts)?;
+    Ok(burst_owner::marked_row(bursts, slot))
 }

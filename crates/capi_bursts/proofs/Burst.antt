@@ -1,20 +1,27 @@
--- What the owner of a subchannel comes to at the C boundary.
-use Rattle.base.proofs.Prelude.{◌≡◌, List, ℕ, ◌≤◌, eq-eqb, ne_eqb}
+-- What the owner of a subchannel and a row of owners come to at the C boundary.
+use Rattle.std.specs.Prelude.{Ok}
+use Rattle.base.proofs.Prelude.{◌≡◌, ap, List, ℕ, ◌≤◌, ne_eqb}
+use Rattle.refusal.specs.{declared.Refusal.Refusal, Refusal.number_of}
+use Rattle.refusal.proofs.Asked.{number_ne0}
+use Rattle.base.specs.Tabulate.{tabulate}
 use Rattle.zone.specs.declared.Zone.{Zone}
-use Rattle.burst_owner.specs.declared.Owned.{Owned}
-use Rattle.bursts.specs.Owner.{owner_of}
+use Rattle.burst_owner.specs.{declared.Owned.Owned, Owner.no_owner}
+use Rattle.bursts.specs.Owner.{OwnerAnswer, RowAnswer, owner_said, owner_of}
 use Rattle.bursts.proofs.Law.{owner_most}
-use Rattle.capi_bursts.specs.Burst.{owner_out}
+use Rattle.capi_bursts.specs.Burst.{owner_out, owners_out}
+use Rattle.c_boundary.specs.Row.{row_out}
 
 -- an owner and how many were looked at are small
-pub owner_small : (size : ℕ) (zone : Zone) (slot s : ℕ) (numbers : List ℕ) {r : Owned} → r ≡ owner_of size zone slot s numbers → (r.owner ≤ 64) × (r.looked ≤ 64)
-owner_small size zone slot s numbers e = rw e (owner_most size zone numbers slot s)
+pub owner_small : (size : ℕ) (zone : Zone) (slot s : ℕ) (numbers : List ℕ) {found : Owned} → owner_said (Ok found) ≡ owner_of size zone slot s numbers → (found.owner ≤ 64) × (found.looked ≤ 64)
+owner_small size zone slot s numbers {found} e =
+    rw (ap (λ (o : OwnerAnswer). o.owner) e, ap (λ (o : OwnerAnswer). o.looked) e) (owner_most size zone numbers slot s)
 
-module _ (answer r : Owned) (e : r ≡ answer) (owner looked : ℕ) where
-  pub owner_no : (r.refusal ≡ 0 → ⊥) → record { refusal = r.refusal; owner = owner; looked = looked } ≡ owner_out answer owner looked
+-- a refusal writes nothing
+module _ (e : Refusal) {n : ℕ} (f : n ≡ number_of e) where
+  pub owner_no : {answer : OwnerAnswer} (owner looked : ℕ) → record { refusal = number_of e; owner = no_owner; looked = 0 } ≡ answer → record { refusal = n; owner = owner; looked = looked } ≡ owner_out answer owner looked
   unfolding owner_out
-  owner_no h = rw (← e, ne_eqb r.refusal 0 h)
+  owner_no owner looked h = rw (← h, ne_eqb (number_of e) 0 (number_ne0 e), f)
 
-  pub owner_yes : r.refusal ≡ 0 → record { refusal = 0; owner = r.owner; looked = r.looked } ≡ owner_out answer owner looked
-  unfolding owner_out
-  owner_yes h = rw (← e, eq-eqb r.refusal 0 h)
+  pub row_no : {answer : RowAnswer} (row : List ℕ) → record { refusal = number_of e; owners = tabulate 192 (λ s. no_owner) } ≡ answer → record { refusal = n; row = row } ≡ owners_out answer row
+  unfolding row_out
+  row_no row h = rw (← h, ne_eqb (number_of e) 0 (number_ne0 e), f)

@@ -32,8 +32,10 @@ pub extern "C" fn bp_bursts_check(
     ensures { result ≡ check_of size (record { mode = mode; cell = cell; slots = slots; mask = mask }) bursts.now }
 {
     let of = zone(mode, cell, slots, mask);
-    let number = bursts::check(size as usize, of, bursts);
-    number as u32
+    match bursts::check(size as usize, of, bursts) {
+        Ok(()) => 0,
+        Err(refusal) => u32::from(refusal),
+    }
 }
 
 #[unsafe(no_mangle)]
@@ -54,13 +56,14 @@ pub extern "C" fn bp_burst_owner(
     let of = zone(mode, cell, slots, mask);
     let at = slot as usize;
     let on = subchannel as usize;
-    let found = bursts::owner(size as usize, of, at, on, bursts);
-    if found.refusal != 0 {
-        return found.refusal as u32;
+    match bursts::owner(size as usize, of, at, on, bursts) {
+        Ok(found) => {
+            *owner = found.owner as u32;
+            *looked = found.looked as u32;
+            0
+        }
+        Err(refusal) => u32::from(refusal),
     }
-    *owner = found.owner as u32;
-    *looked = found.looked as u32;
-    0
 }
 
 #[unsafe(no_mangle)]
@@ -77,12 +80,11 @@ pub extern "C" fn bp_burst_owners(
     ensures { record { refusal = result; row = owners.new } ≡ owners_out (owners_of size (record { mode = mode; cell = cell; slots = slots; mask = mask }) slot bursts.now) owners.old }
 {
     let of = zone(mode, cell, slots, mask);
-    let found = bursts::owners(size as usize, of, slot as usize, bursts);
-    let number = found.refusal;
-    if number != 0 {
-        return number as u32;
+    match bursts::owners(size as usize, of, slot as usize, bursts) {
+        Ok(row) => {
+            *owners = row;
+            0
+        }
+        Err(refusal) => u32::from(refusal),
     }
-    let row = found.owners;
-    *owners = row;
-    0
 }

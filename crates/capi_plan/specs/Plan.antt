@@ -1,8 +1,7 @@
 -- The outcome of `bp_zone_plan_read` and `bp_zone_plan_write`: the returned number and every out parameter as it is then.
-use Rattle.std.specs.Prelude.{List, ℕ, eqb}
+use Rattle.std.specs.Prelude.{List, ℕ}
 use Rattle.base.specs.Answer.{Answer, accepted, refused}
-use Rattle.base.specs.Choice.{pick}
-use Rattle.plan_read.specs.declared.ReadPlan.{ReadPlan}
+use Rattle.plan.specs.declared.Plan.{Plan}
 use Rattle.plan_write.specs.Write.{AfterWrite}
 use Rattle.plan_numbers.specs.Numbers.{numbers_of}
 
@@ -13,11 +12,9 @@ pub record ReadOut : Type 0 where
   pub zones : List ℕ
 
 -- 0 and the plan, or the refusal's number and every parameter as it was
-unfoldable pub read_out : (answer : ReadPlan) (count size : ℕ) (zones : List ℕ) → ReadOut
-read_out answer count size zones =
-    pick (eqb answer.refusal 0)
-    (record { refusal = 0; count = answer.plan.count; size = answer.plan.size; zones = numbers_of answer.plan.zones })
-    (record { refusal = answer.refusal; count = count; size = size; zones = zones })
+unfoldable pub read_out : (answer : Answer Plan) (count size : ℕ) (zones : List ℕ) → ReadOut
+read_out (accepted plan) count size zones = record { refusal = 0; count = plan.count; size = plan.size; zones = numbers_of plan.zones }
+read_out (refused number) count size zones = record { refusal = number; count = count; size = size; zones = zones }
 
 pub record WriteOut : Type 0 where
   pub refusal : ℕ

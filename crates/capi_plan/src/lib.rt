@@ -2,12 +2,10 @@
 #![tactic(auto)]
 
 ghost use Rattle.std.specs.Prelude.{◌≡◌};
-ghost use Rattle.plan_read.specs.Read.{plan_of, answered};
+ghost use Rattle.plan_read.specs.Read.{plan_of};
 ghost use Rattle.plan_write.specs.Write.{write_of};
 ghost use Rattle.plan_numbers.specs.Numbers.{plan_in};
 ghost use Rattle.capi_plan.specs.Plan.{ReadOut, read_out, WriteOut, write_out};
-
-use plan_write::Written;
 
 #[unsafe(no_mangle)]
 pub extern "C" fn bp_zone_plan_read(
@@ -16,18 +14,17 @@ pub extern "C" fn bp_zone_plan_read(
     size: &mut u32,
     zones: &mut [u32; 32],
 ) -> u32
-    ensures { record { refusal = result; count = count.new; size = size.new; zones = zones.new } ≡ read_out (answered (plan_of bytes.now)) count.old size.old zones.old }
+    ensures { record { refusal = result; count = count.new; size = size.new; zones = zones.new } ≡ read_out (plan_of bytes.now) count.old size.old zones.old }
 {
-    let answer = plan_read::read(bytes);
-    if answer.refusal != 0 {
-        return answer.refusal as u32;
+    match plan_read::read(bytes) {
+        Ok(plan) => {
+            *count = plan.count as u32;
+            *size = plan.size as u32;
+            *zones = plan_numbers::numbers(plan.zones);
+            0
+        }
+        Err(refusal) => u32::from(refusal),
     }
-    let plan = answer.plan;
-    let places = plan.zones;
-    *count = plan.count as u32;
-    *size = plan.size as u32;
-    *zones = plan_numbers::numbers(places);
-    0
 }
 
 #[unsafe(no_mangle)]
@@ -41,12 +38,11 @@ pub extern "C" fn bp_zone_plan_write(
     ensures { record { refusal = result; written = written.new; dest = dest.new } ≡ write_out (write_of (plan_in count size zones.now) dest.old) written.old }
 {
     let plan = plan_numbers::plan_in(count, size, zones);
-    let answer = plan_write::write(plan, dest);
-    match answer {
-        Written::Bytes(n) => {
+    match plan_write::write(plan, dest) {
+        Ok(n) => {
             *written = n as u32;
             0
         }
-        Written::Refused(number) => number as u32,
+        Err(refusal) => u32::from(refusal),
     }
 }

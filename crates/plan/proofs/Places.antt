@@ -4,7 +4,7 @@ use Rattle.base.proofs.Prelude.{drop, get_or, set}
 use Rattle.base.proofs.Test.{both_true}
 use mathlib.Core.List.{map}
 use native.Mathlib.Numerals.{add-one}
-use lib.{ListN.{length-map, drop_of_length-le}, Seq.{drop-cons, get_or-take, length-take-le}}
+use lib.{ListN.{length-map, drop_of_length-le}, Seq.{drop-cons}}
 use Rattle.zone.specs.{declared.Zone.Zone, Zone.{unused, is_unused}}
 use Rattle.zone.proofs.Judge.{unused_is}
 use Rattle.plan.specs.Plan.{in_places, are_unused}
@@ -12,15 +12,6 @@ use Rattle.plan.specs.Plan.{in_places, are_unused}
 -- what owning an array of structs tells of its length
 pub length_mapped : (X Y : Type 0) (f : X → Y) (l : List X) (n : ℕ) → length (map f l) ≡ n → length l ≡ n
 length_mapped X Y f l n e = sym (length-map l f) ∙ e
-
--- the used places from the k-th on
-pub used_next : (zones : List Zone) (count k : ℕ) → k < count → count ≤ length zones → drop k (take count zones) ≡ get_or zones k unused ∷ drop (k + 1) (take count zones)
-used_next zones count k h m =
-    rw (add-one, ← get_or-take count zones k unused h)
-    (drop-cons (take count zones) k unused (rw (length-take-le count zones m) h))
-
-pub used_none : (zones : List Zone) (count k : ℕ) → count ≤ k → count ≤ length zones → drop k (take count zones) ≡ []
-used_none zones count k h m = drop_of_length-le (take count zones) {i = k} (rw (length-take-le count zones m) h)
 
 pub places_length : (n : ℕ) (zones : List Zone) → length (in_places n zones) ≡ n
 unfolding in_places

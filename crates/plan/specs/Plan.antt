@@ -1,11 +1,9 @@
 -- A plan's places, and the questions that are put to a plan in writing; reading puts them one by one.
-use Rattle.std.specs.Prelude.{Bool, true, false, List, [], ◌∷◌, ◌++◌, ℕ, zero, suc, take, drop}
+use Rattle.std.specs.Prelude.{Bool, true, false, List, [], ◌∷◌, ◌++◌, ℕ, zero, suc, take, drop, Option, Some, None}
 use Rattle.base.specs.Choice.{pick, is_up_to}
 use Rattle.base.specs.Answer.{Answer, ask}
 use Rattle.modes.specs.Question.{is_four_sizes}
 use Rattle.zone.specs.declared.Zone.{Zone}
-use Rattle.zone.specs.declared.Before.{Before}
-use Rattle.zone.specs.declared.Before.TheVariants.{First, After}
 use Rattle.zone.specs.Zone.{ask_zone, unused, is_unused}
 use Rattle.plan.specs.declared.Plan.{Plan}
 
@@ -33,13 +31,13 @@ abbrev pub used_zones : (plan : Plan) → List Zone
 used_zones plan = take plan.count plan.zones
 
 -- Each zone in turn is asked 1, 2, 3, 13, 17 and 14.
-unfoldable pub ask_zones : {A : Type 0} → (size : ℕ) (before : Before) (zones : List Zone) (rest : Answer A) → Answer A
+unfoldable pub ask_zones : {A : Type 0} → (size : ℕ) (before : Option ℕ) (zones : List Zone) (rest : Answer A) → Answer A
 ask_zones size before [] rest = rest
-ask_zones size before (zone ∷ zones) rest = ask_zone size before zone (ask_zones size (After zone.mode) zones rest)
+ask_zones size before (zone ∷ zones) rest = ask_zone size before zone (ask_zones size (Some zone.mode) zones rest)
 
 abbrev pub ask_plan : {A : Type 0} → (plan : Plan) (rest : Answer A) → Answer A
 ask_plan plan rest =
     ask (is_count plan.count) 12
     (ask (are_unused (drop plan.count plan.zones)) 12
     (ask (is_four_sizes plan.size) 2
-    (ask_zones plan.size First (used_zones plan) rest)))
+    (ask_zones plan.size None (used_zones plan) rest)))

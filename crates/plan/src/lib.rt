@@ -2,10 +2,12 @@
 #![tactic(auto)]
 
 ghost use Rattle.std.specs.Prelude.{◌≡◌, ◌≤◌, drop};
+ghost use Rattle.refusal.specs.Refusal.{refusal_in};
 ghost use Rattle.plan.specs.Plan.{are_unused, used_zones};
 ghost use Rattle.plan.specs.Model.{zones_refusal, plan_refusal};
 
-use zone::{Before, Zone};
+use refusal::{Refusal, ask};
+use zone::Zone;
 
 // A plan: its zones stand in the first places, unused places are all zero.
 #[derive(Clone, Copy)]
@@ -19,52 +21,33 @@ pub struct Plan {
 fn are_unused(plan: Plan) -> bool
     ensures { result ≡ are_unused (drop plan.count plan.zones) }
 {
-    let count = plan.count;
-    let zones = plan.zones;
-    let mut k = count;
-    while k < 8 {
-        if !zone::is_unused(zones[k]) {
+    for k in plan.count..8 {
+        if !zone::is_unused(plan.zones[k]) {
             return false;
         }
-        k += 1;
     }
     true
 }
 
-// The number of the first question that a zone of the plan answers no, or 0.
-fn zones_refusal(plan: Plan) -> u8
+// The questions put to the zones of a plan, one after the other.
+fn ask_zones(plan: Plan) -> Result<(), Refusal>
     requires { plan.count ≤ 8 }
-    ensures { result ≡ zones_refusal plan.size Before.First (used_zones plan) }
+    ensures { refusal_in result ≡ zones_refusal plan.size None (used_zones plan) }
 {
-    let count = plan.count;
-    let size = plan.size;
-    let zones = plan.zones;
-    let mut prior = Before::First;
-    let mut k = 0;
-    while k < count {
-        let zone = zones[k];
-        let number = zone::zone_refusal(size, prior, zone);
-        if number != 0 {
-            return number;
-        }
-        prior = Before::After(zone.mode);
-        k += 1;
+    let mut prior = None;
+    for zone in &plan.zones[..plan.count] {
+        zone::ask_zone(plan.size, prior, *zone)?;
+        prior = Some(zone.mode);
     }
-    0
+    Ok(())
 }
 
-// The number of the first of a plan's questions that is answered no, or 0.
-pub fn plan_refusal(plan: Plan) -> u8
-    ensures { result ≡ plan_refusal plan }
+// The questions put to a plan.
+pub fn ask_plan(plan: Plan) -> Result<(), Refusal>
+    ensures { refusal_in result ≡ plan_refusal plan }
 {
-    if !base::is_up_to(8, plan.count) {
-        return 12;
-    }
-    if !are_unused(plan) {
-        return 12;
-    }
-    if !modes::is_four_sizes(plan.size) {
-        return 2;
-    }
-    zones_refusal(plan)
+    ask(base::is_up_to(8, plan.count), Refusal::Count)?;
+    ask(are_unused(plan), Refusal::Count)?;
+    ask(modes::is_four_sizes(plan.size), Refusal::Size)?;
+    ask_zones(plan)
 }

@@ -3,13 +3,13 @@ use Rattle.base.proofs.Prelude.{◌≡◌, refl, sym, ap, ◌∙◌, List, [], �
 use Rattle.base.proofs.Tabulate.{WrittenAt, at_next, all_written}
 use native.Mathlib.Numerals.{add-one, add-two, add-three}
 use lib.Seq.{take_all, sets-eq}
-use Rattle.base.specs.Answer.{Answer, accepted, refused}
+use Rattle.base.specs.Answer.{accepted}
 use Rattle.text.specs.Text.{put}
 use Rattle.text.proofs.Laws.{take_put}
 use Rattle.zone.specs.{declared.Zone.Zone, Zone.{values_of, unused}, Model.Small}
 use Rattle.plan.specs.{declared.Plan.Plan, Plan.each}
-use Rattle.plan_read.specs.{declared.ReadPlan.ReadPlan, Read.{plan_with, plan_of, answered}}
-use Rattle.plan.proofs.{Judge.{none_small, all_small, count_most, size_small}, Each.each_more}
+use Rattle.plan_read.specs.Read.{plan_of}
+use Rattle.plan.proofs.{Judge.{all_small, count_most, size_small}, Each.each_more}
 use Rattle.plan_write.proofs.Round.{plan-of}
 use Rattle.plan_numbers.specs.{Numbers.{numbers_of, place_in, places_in}, Model.AllSmall}
 
@@ -62,20 +62,13 @@ module _ (numbers : List ℕ) {zones : List Zone} {k : ℕ} (p : Placing numbers
   unfolding places_in
   placing_end h = all_written p h
 
--- The numbers of a plan that was read are small, and those of a refusal are zero.
+-- The numbers of a plan that was read are small.
 pub record Read-small (p : Plan) : Type 0 where
   pub count_is : p.count ≤ 8
   pub size_is : p.size ≤ 2048
   pub zones_are : AllSmall p.zones
 
-pub read_small : (s : List ℕ) (r : ReadPlan) → r ≡ answered (plan_of s) → Read-small r.plan
-read_small s r e = by (plan_of s) refl
-  where
-    by : (a : Answer Plan) → plan_of s ≡ a → Read-small r.plan
-    by (accepted p) q =
-        let same : r ≡ record { refusal = 0; plan = p } = e ∙ ap answered q in
-        let t = plan-of s q in
-        rw same (record { count_is = count_most p.count t.fit.count_is; size_is = size_small p.size t.fit.size_is; zones_are = all_small t.fit t.eight })
-    by (refused k) q =
-        let same : r ≡ record { refusal = k; plan = plan_with 0 0 [] } = e ∙ ap answered q in
-        rw same (record { count_is = omega arith; size_is = omega arith; zones_are = none_small 8 })
+pub read_small : (s : List ℕ) {p : Plan} → accepted p ≡ plan_of s → Read-small p
+read_small s {p} e =
+    let t = plan-of s (sym e) in
+    record { count_is = count_most p.count t.fit.count_is; size_is = size_small p.size t.fit.size_is; zones_are = all_small t.fit t.eight }

@@ -14,22 +14,14 @@ pub fn numbers(zones: [Zone; 8]) -> [u32; 32]
     ensures { result ≡ numbers_of zones }
 {
     let mut numbers = [0u32; 32];
-    let mut k = 0;
-    while k < 8 {
+    for k in 0..8 {
         let zone = zones[k];
         numbers[4 * k] = zone.mode as u32;
         numbers[4 * k + 1] = zone.cell as u32;
         numbers[4 * k + 2] = zone.slots as u32;
         numbers[4 * k + 3] = zone.mask as u32;
-        k += 1;
     }
     numbers
-}
-
-fn wide(x: u32) -> usize
-    ensures { result ≡ x }
-{
-    x as usize
 }
 
 // The eight places of 32 numbers.
@@ -37,15 +29,13 @@ fn places(numbers: &[u32; 32]) -> [Zone; 8]
     ensures { result ≡ places_in numbers.now }
 {
     let mut zones = [UNUSED; 8];
-    let mut k = 0;
-    while k < 8 {
+    for k in 0..8 {
         zones[k] = Zone {
-            mode: wide(numbers[4 * k]),
-            cell: wide(numbers[4 * k + 1]),
-            slots: wide(numbers[4 * k + 2]),
-            mask: wide(numbers[4 * k + 3]),
+            mode: numbers[4 * k] as usize,
+            cell: numbers[4 * k + 1] as usize,
+            slots: numbers[4 * k + 2] as usize,
+            mask: numbers[4 * k + 3] as usize,
         };
-        k += 1;
     }
     zones
 }
@@ -54,10 +44,9 @@ fn places(numbers: &[u32; 32]) -> [Zone; 8]
 pub fn plan_in(count: u32, size: u32, numbers: &[u32; 32]) -> Plan
     ensures { result ≡ plan_in count size numbers.now }
 {
-    let zones = places(numbers);
     Plan {
         count: count as usize,
         size: size as usize,
-        zones: zones,
+        zones: places(numbers),
     }
 }

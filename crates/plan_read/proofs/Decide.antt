@@ -1,11 +1,12 @@
 -- The first bytes decide: each value looks at three bytes at most, and the last question at whether there is one more.
+use Rattle.std.specs.Prelude.{Option, Some, None}
 use Rattle.base.proofs.{Prelude.{◌≡◌, refl, ap, ◌∙◌, List, [], ◌∷◌, ℕ, zero, suc, ◌+◌, ◌-◌, ◌*◌, ◌≤◌, arith, length, take, drop, ne_eqb}, Test.cases}
 use lib.{ListN.{length-append, length-drop}, Seq.{drop_at, take-add, length-take-le}}
 use Rattle.base.specs.{Choice.pick, Answer.{Answer, accepted, refused, ask}}
 use Rattle.modes.specs.Question.{is_four_sizes}
-use Rattle.value.specs.Value.{Value, value_of, encode_in}
+use Rattle.value.specs.{declared.Value.Value, Value.{value_of, encode_in}}
 use Rattle.value.proofs.Laws.{no_longer, bytes_within, again, first_decide, at_most_three}
-use Rattle.zone.specs.{declared.Zone.Zone, declared.Before.Before, declared.Before.TheVariants.{First, After}, Zone.{zone_of, ask_zone}}
+use Rattle.zone.specs.{declared.Zone.Zone, Zone.{zone_of, ask_zone}}
 use Rattle.plan.specs.Plan.{is_count}
 use Rattle.plan.proofs.Judge.{count_most}
 use Rattle.plan_read.specs.Read.{hand_on, read_value, read_values, read_zones, finish, plan_of}
@@ -39,13 +40,13 @@ values_decided zero k next d j h s = d [] j (omega arith) s
 values_decided (suc n) k next d j h s =
     value_decided (3 * n + k) _ (λ value. values_decided n k (λ values. next (value ∷ values)) (λ values. d (value ∷ values))) j (omega arith) s
 
-zones_decided : {A : Type 0} (count k size : ℕ) (before : Before) (next : List Zone → List ℕ → Answer A) → ((zones : List Zone) → Decided k (next zones))
+zones_decided : {A : Type 0} (count k size : ℕ) (before : Option ℕ) (next : List Zone → List ℕ → Answer A) → ((zones : List Zone) → Decided k (next zones))
     → Decided (12 * count + k) (λ s. read_zones count size before s next)
 unfolding read_zones
 zones_decided zero k size before next d j h s = d [] j (omega arith) s
 zones_decided (suc count) k size before next d j h s =
     values_decided 4 (12 * count + k) _
-    (λ values i l t. let zone = zone_of values in ap (ask_zone size before zone) (zones_decided count k size (After zone.mode) (λ zones. next (zone ∷ zones)) (λ zones. d (zone ∷ zones)) i l t))
+    (λ values i l t. let zone = zone_of values in ap (ask_zone size before zone) (zones_decided count k size (Some zone.mode) (λ zones. next (zone ∷ zones)) (λ zones. d (zone ∷ zones)) i l t))
     j (omega arith) s
 
 finish_decided : (count size : ℕ) (zones : List Zone) → Decided 1 (finish count size zones)
@@ -61,12 +62,12 @@ count_byte s {v} q h = omega (arith, no_longer 3 h, bytes_within 3 s q, simp (le
 abbrev after_count : (count : ℕ) → ℕ
 after_count count = pick (is_count count) 100 0
 
-count_decided : (count : ℕ) → Decided (after_count count) (λ s. ask (is_count count) 12 (read_value s (λ size s₁. ask (is_four_sizes size) 2 (read_zones count size First s₁ (finish count size)))))
+count_decided : (count : ℕ) → Decided (after_count count) (λ s. ask (is_count count) 12 (read_value s (λ size s₁. ask (is_four_sizes size) 2 (read_zones count size None s₁ (finish count size)))))
 count_decided count j h s =
     cases (is_count count)
     (λ e. rw e
     (value_decided 97 _ (λ size i l t.
-    ap (ask (is_four_sizes size) 2) (zones_decided count 1 size First (finish count size) (finish_decided count size) i (omega (arith, count_most count e)) t))
+    ap (ask (is_four_sizes size) 2) (zones_decided count 1 size None (finish count size) (finish_decided count size) i (omega (arith, count_most count e)) t))
     j (rw e at h) s))
     (λ e. rw e)
 

@@ -1,15 +1,12 @@
 -- Reading a plan. Document 01, "Zone plan": count of zones, size, then mode, cell and slots of each; document 02, wish 5: the mask, a fourth value in the plan file.
 -- Start with `plan_of`, near the end: the whole of reading, with its questions in order. It reads values by `read_value` and the zones by `read_zones`,
--- which reads each by `read_zone`, and that its values by `read_values`; `finish` is the last question and the plan. `answered` is what the call `read` gives.
-use Rattle.std.specs.Prelude.{List, [], ◌∷◌, ℕ, zero, suc, eqb, length, drop}
+-- which reads each by `read_zone`, and that its values by `read_values`; `finish` is the last question and the plan.
+use Rattle.std.specs.Prelude.{List, [], ◌∷◌, ℕ, zero, suc, eqb, length, drop, Option, Some, None}
 use Rattle.base.specs.Answer.{Answer, accepted, refused, ask}
 use Rattle.modes.specs.Question.{is_four_sizes}
-use Rattle.value.specs.Value.{Value, value_of}
+use Rattle.value.specs.{declared.Value.Value, Value.value_of}
 use Rattle.zone.specs.declared.Zone.{Zone}
 use Rattle.plan.specs.declared.Plan.{Plan}
-use Rattle.plan_read.specs.declared.ReadPlan.{ReadPlan}
-use Rattle.zone.specs.declared.Before.{Before}
-use Rattle.zone.specs.declared.Before.TheVariants.{First, After}
 use Rattle.zone.specs.Zone.{zone_of, ask_zone}
 use Rattle.plan.specs.Plan.{is_count, in_places}
 
@@ -33,12 +30,12 @@ abbrev pub read_zone : {A : Type 0} → (bytes : List ℕ) (next : Zone → List
 read_zone bytes next = read_values 4 bytes (λ values s₁. next (zone_of values) s₁)
 
 -- Zones are read one after the other, each judged after its four values.
-unfoldable pub read_zones : {A : Type 0} → (count size : ℕ) (before : Before) (bytes : List ℕ) (next : List Zone → List ℕ → Answer A) → Answer A
+unfoldable pub read_zones : {A : Type 0} → (count size : ℕ) (before : Option ℕ) (bytes : List ℕ) (next : List Zone → List ℕ → Answer A) → Answer A
 read_zones zero size before bytes next = next [] bytes
 read_zones (suc count) size before bytes next =
     read_zone bytes (λ zone s₁.
     ask_zone size before zone
-    (read_zones count size (After zone.mode) s₁ (λ zones s₂. next (zone ∷ zones) s₂)))
+    (read_zones count size (Some zone.mode) s₁ (λ zones s₂. next (zone ∷ zones) s₂)))
 
 -- Document 01, "Zone plan": the eight zones of a plan are one value, unused places all zero.
 abbrev pub plan_with : (count size : ℕ) (zones : List Zone) → Plan
@@ -55,9 +52,4 @@ plan_of bytes =
     ask (is_count count) 12
     (read_value s₁ (λ size s₂.
     ask (is_four_sizes size) 2
-    (read_zones count size First s₂ (finish count size)))))
-
--- The answer of `read`: document 01's number, 0 for a plan that is read; with a refusal, count, size and zones all zero.
-abbrev pub answered : (answer : Answer Plan) → ReadPlan
-answered (accepted plan) = record { refusal = 0; plan = plan }
-answered (refused number) = record { refusal = number; plan = plan_with 0 0 [] }
+    (read_zones count size None s₂ (finish count size)))))

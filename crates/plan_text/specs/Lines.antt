@@ -1,9 +1,10 @@
 -- The text that the program `zones` prints. Document 01, "Zone plan": one line a zone, "mode cell slots" in base ten, or "refused N"; document 02, wish 5: the mask last in a line. Every line ends with a line feed.
-use Rattle.std.specs.Prelude.{List, [], ◌∷◌, ◌++◌, ℕ, eqb}
-use Rattle.base.specs.Choice.{pick}
+use Rattle.std.specs.Prelude.{List, [], ◌∷◌, ◌++◌, ℕ, Result, Ok, Err}
+use Rattle.refusal.specs.declared.Refusal.{Refusal}
+use Rattle.refusal.specs.Refusal.{number_of}
 use Rattle.text.specs.Text.{decimal}
 use Rattle.zone.specs.declared.Zone.{Zone}
-use Rattle.plan_read.specs.declared.ReadPlan.{ReadPlan}
+use Rattle.plan.specs.declared.Plan.{Plan}
 use Rattle.plan.specs.Plan.{used_zones, each}
 
 -- The space and the line feed are ASCII's.
@@ -32,5 +33,6 @@ unfoldable pub refusal_line : (number : ℕ) → List ℕ
 refusal_line number = refused_word ++ field number line_feed
 
 -- The text of an answer of `read`: a line for each zone, or the refusal's line.
-unfoldable pub text_of : (answer : ReadPlan) → List ℕ
-text_of answer = pick (eqb answer.refusal 0) (lines_of (used_zones answer.plan)) (refusal_line answer.refusal)
+unfoldable pub text_of : (answer : Result Plan Refusal) → List ℕ
+text_of (Ok plan) = lines_of (used_zones plan)
+text_of (Err refusal) = refusal_line (number_of refusal)

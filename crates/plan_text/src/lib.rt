@@ -2,12 +2,13 @@
 #![tactic(auto)]
 
 ghost use Rattle.std.specs.Prelude.{◌+◌, ◌≤◌, length};
+ghost use Rattle.refusal.specs.Refusal.{number_of};
 ghost use Rattle.text.specs.Text.{Put};
 ghost use Rattle.plan.specs.Plan.{used_zones};
 ghost use Rattle.plan_text.specs.Lines.{field, line_of, lines_of, refusal_line, text_of};
 
 use plan::Plan;
-use plan_read::ReadPlan;
+use refusal::Refusal;
 use zone::Zone;
 
 // Puts a number in base ten and one byte behind it, 21 bytes at most.
@@ -30,41 +31,37 @@ fn put_line(dest: &mut [u8], at: usize, zone: Zone) -> usize
     put_field(dest, after_slots, zone.mask, b'\n')
 }
 
-// Puts a line for each zone of the plan.
+// Puts a line for each zone of the plan, whose count is not asked here: it may be above the eight places.
 fn put_zones(dest: &mut [u8], plan: Plan) -> usize
     requires { 672 ≤ length dest.old }
     ensures { Put dest.old 0 (lines_of (used_zones plan)) result dest.new }
 {
-    let count = plan.count;
-    let zones = plan.zones;
     let mut at = 0;
-    let mut k = 0;
-    while k < 8 {
-        if count <= k {
+    for k in 0..8 {
+        if plan.count <= k {
             return at;
         }
-        at = put_line(dest, at, zones[k]);
-        k += 1;
+        at = put_line(dest, at, plan.zones[k]);
     }
     at
 }
 
 // Puts the line of a refusal.
-fn put_refusal(dest: &mut [u8], number: u8) -> usize
+fn put_refusal(dest: &mut [u8], refusal: Refusal) -> usize
     requires { 672 ≤ length dest.old }
-    ensures { Put dest.old 0 (refusal_line number) result dest.new }
+    ensures { Put dest.old 0 (refusal_line (number_of refusal)) result dest.new }
 {
     let at = text::put_bytes(dest, 0, b"refused ");
-    put_field(dest, at, number as usize, b'\n')
+    put_field(dest, at, u32::from(refusal) as usize, b'\n')
 }
 
 // Puts the text of what reading a plan answers, where eight lines of 84 bytes have room; answers its length.
-pub fn lines(answer: ReadPlan, dest: &mut [u8]) -> usize
+pub fn lines(answer: Result<Plan, Refusal>, dest: &mut [u8]) -> usize
     requires { 672 ≤ length dest.old }
     ensures { Put dest.old 0 (text_of answer) result dest.new }
 {
-    if answer.refusal != 0 {
-        return put_refusal(dest, answer.refusal);
+    match answer {
+        Ok(plan) => put_zones(dest, plan),
+        Err(refusal) => put_refusal(dest, refusal),
     }
-    put_zones(dest, answer.plan)
 }

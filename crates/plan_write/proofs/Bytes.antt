@@ -2,8 +2,13 @@
 use Rattle.base.proofs.Prelude.{◌≡◌, ap, List, [], ◌∷◌, ℕ, zero, suc, ◌+◌, ◌*◌, ◌<◌, ◌≤◌, arith, leb, length, take, get_or}
 use native.Mathlib.Nat.{zero-add}
 use lib.ListN.{length-append, length-take}
-use borrow.Author.Tests.{le-leb, lt-leb}
+use borrow.Author.Tests.{le-leb, lt-leb, leb-true, leb-false}
+use Rattle.std.specs.Prelude.{Result}
+use Rattle.std.specs.Result.{IsErrAnd}
+use Rattle.std.proofs.lemmas.Result.{err_from_is_err_and}
 use Rattle.base.specs.Answer.{accepted, refused, ask}
+use Rattle.refusal.specs.{declared.Refusal.Refusal, Refusal.number_of}
+use Rattle.refusal.proofs.Asked.{asked_no, asked_yes}
 use Rattle.text.specs.Text.{put, Put}
 use Rattle.text.proofs.Laws.{take_put}
 use Rattle.value.specs.Value.{encode_in, encode}
@@ -11,7 +16,7 @@ use Rattle.value.proofs.Laws.{no_longer}
 use Rattle.zone.specs.{declared.Zone.Zone, Zone.{values_of, unused}, Model.Small}
 use Rattle.plan.specs.{declared.Plan.Plan, Plan.{used_zones, each}, Model.plan_refusal}
 use Rattle.plan.proofs.Judge.{Fit, plan_no, plan_passes, count_most, size_small, fit_small}
-use Rattle.plan_write.specs.Write.{zone_bytes, plan_bytes, after_write, write_of}
+use Rattle.plan_write.specs.Write.{zone_bytes, plan_bytes, AfterWrite, after_write, write_of, written}
 
 -- Values of which none is above its limit, each limit below 2^21.
 pub data Within : (values limits : List ℕ) → Type 0 where
@@ -62,20 +67,29 @@ plan_51 {p} f =
 
 -- the answers of writing: a plan's bytes are made first, then copied
 module _ (p : Plan) (d : List ℕ) where
-  pub write_no : {number : ℕ} → number ≡ plan_refusal p → (number ≡ 0 → ⊥) → record { answer = refused number; dest = d } ≡ write_of p d
+  pub write_no : (e : Refusal) → number_of e ≡ plan_refusal p → record { answer = refused (number_of e); dest = d } ≡ write_of p d
   unfolding write_of
-  write_no e h = ap (λ a. after_write a d) (plan_no p _ _ e h)
+  write_no e f = ap (λ a. after_write a d) (plan_no p _ e f)
 
   pub write_fit : Fit p → after_write (ask (leb (length (plan_bytes p)) (length d)) 16 (accepted (plan_bytes p))) d ≡ write_of p d
   unfolding write_of
   write_fit f = ap (λ a. after_write a d) (plan_passes p _ f)
 
-  module _ (f : Fit p) (room : List ℕ) {n : ℕ} {bytes : List ℕ} (w : Put room 0 (plan_bytes p) n bytes) where
-    pub write_short : length d < n → record { answer = refused 16; dest = d } ≡ write_of p d
-    write_short h = rw (lt-leb (length (plan_bytes p)) (length d) (omega (arith, w.next_is))) at (write_fit f)
+  module _ (f : Fit p) (room₀ : List ℕ) {n : ℕ} {bytes : List ℕ} (w : Put room₀ 0 (plan_bytes p) n bytes) where
+    pub write_short : {k : ℕ} → refused k ≡ ask {A = Unit {0}} (leb n (length d)) 16 (accepted tt) → record { answer = refused k; dest = d } ≡ write_of p d
+    write_short {k} h =
+        let no' = asked_no _ 16 k h in
+        let short : length d < n = leb-false n (length d) no'.0 in
+        rw no'.1 (rw (lt-leb (length (plan_bytes p)) (length d) (omega (arith, w.next_is))) at (write_fit f))
 
-    pub write_done : {next : ℕ} {after : List ℕ} → n ≤ length d → Put d 0 (take n bytes) next after → record { answer = accepted next; dest = after } ≡ write_of p d
+    pub write_done : {x : Unit {0}} {next : ℕ} {after : List ℕ} → accepted x ≡ ask (leb n (length d)) 16 (accepted tt) → Put d 0 (take n bytes) next after
+        → record { answer = accepted next; dest = after } ≡ write_of p d
     unfolding put
     write_done h v =
-        let front : take n bytes ≡ plan_bytes p = rw (w.next_is, w.after_is) (take_put room 0 (plan_bytes p) (omega arith)) in
+        let room : n ≤ length d = leb-true n (length d) (asked_yes _ 16 _ h) in
+        let front : take n bytes ≡ plan_bytes p = rw (w.next_is, w.after_is) (take_put room₀ 0 (plan_bytes p) (omega arith)) in
         rw (v.next_is, v.after_is, front, zero-add) (rw (le-leb (length (plan_bytes p)) (length d) (omega (arith, w.next_is))) at (write_fit f))
+
+-- what a `?` of `write` returns
+pub written_no : (d : List ℕ) (r : Result ℕ Refusal) (e : Refusal) → IsErrAnd r (λ y. y ≡ e) → {w : AfterWrite} → record { answer = refused (number_of e); dest = d } ≡ w → written r d ≡ w
+written_no d r e f h = let p = err_from_is_err_and r f in rw (p.1, p.2) h

@@ -1,4 +1,5 @@
 -- Reading and writing undo each other.
+use Rattle.std.specs.Prelude.{Option, Some, None}
 use Rattle.base.proofs.Prelude.{◌≡◌, refl, sym, ap, ◌∙◌, true, List, [], ◌∷◌, ◌++◌, ℕ, zero, suc, ◌<◌, ◌≤◌, arith, eqb, leb, length, take, drop, get_or}
 use Rattle.base.proofs.Prelude.{eqb-true}
 use Rattle.base.proofs.{Chain.{AllYes, ask_yes, same_accepted, yes_parts, yes_both, all_accepted, all_pass}, Tabulate.tabulated}
@@ -7,9 +8,9 @@ use lib.Seq.{drop-append_seam, take-append_seam, take_all, length-take-le}
 use borrow.Author.Tests.{le-leb}
 use Rattle.base.specs.{Answer.{Answer, accepted, refused, ask}, Tabulate.tabulate}
 use Rattle.modes.specs.Question.{is_four_sizes}
-use Rattle.value.specs.Value.{Bytes, Value, value_of, encode}
+use Rattle.value.specs.{declared.Value.Value, Value.{Bytes, value_of, encode}}
 use Rattle.value.proofs.Laws.{read_written, Again, again, again_then}
-use Rattle.zone.specs.{declared.Zone.Zone, declared.Before.Before, declared.Before.TheVariants.{First, After}, Zone.zone_of}
+use Rattle.zone.specs.{declared.Zone.Zone, Zone.zone_of}
 use Rattle.zone.proofs.{Number.zone_questions, Judge.small}
 use Rattle.plan.specs.{declared.Plan.Plan, Plan.{is_count, in_places, used_zones, ask_plan, each}}
 use Rattle.plan.proofs.{Places.{places_are, places_of, places_length}, Judge.{zones_questions, Fit, plan_yes, count_most, size_small}}
@@ -57,7 +58,7 @@ unfolding zone_bytes tabulate
 zone-bytes values e = ap (each encode) (sym (tabulated 0 values 4 (λ k. get_or values k 0) e (λ k h. refl)))
 
 -- From bytes to zones and back.
-zones-of : {A : Type 0} (n size : ℕ) (before : Before) (s : List ℕ) (next : List Zone → List ℕ → Answer A) {a : A}
+zones-of : {A : Type 0} (n size : ℕ) (before : Option ℕ) (s : List ℕ) (next : List Zone → List ℕ → Answer A) {a : A}
     → read_zones n size before s next ≡ accepted a → Was (λ zones. (length zones ≡ n) × AllYes (zones_questions size before zones)) (each zone_bytes) s next a
 unfolding read_zones each
 zones-of zero size before s next e = record { one = []; after = s; is = (refl, tt); bytes = record { length_is = refl; same = λ b. refl }; go_on = e }
@@ -65,25 +66,25 @@ zones-of (suc n) size before s next e =
     let h = values_of 4 s _ e in
     let z = zone_of h.one in
     let p = all_accepted (zone_questions size before z) _ h.go_on in
-    let t = zones-of n size (After z.mode) h.after (λ zones s₂. next (z ∷ zones) s₂) p.1 in
+    let t = zones-of n size (Some z.mode) h.after (λ zones s₂. next (z ∷ zones) s₂) p.1 in
     record {
       one = z ∷ t.one;
       after = t.after;
-      is = (ap suc t.is.0, yes_both (zone_questions size before z) (zones_questions size (After z.mode) t.one) p.0 t.is.1);
+      is = (ap suc t.is.0, yes_both (zone_questions size before z) (zones_questions size (Some z.mode) t.one) p.0 t.is.1);
       bytes = rw (zone-bytes h.one h.is, append_assoc) (again_then {written = each zone_bytes t.one ++ t.after} (each encode h.one) h.bytes t.bytes);
       go_on = t.go_on;
     }
 
-of_zones : {A : Type 0} (size : ℕ) (before : Before) (zones : List Zone) (s : List ℕ) (next : List Zone → List ℕ → Answer A)
+of_zones : {A : Type 0} (size : ℕ) (before : Option ℕ) (zones : List Zone) (s : List ℕ) (next : List Zone → List ℕ → Answer A)
     → AllYes (zones_questions size before zones) → read_zones (length zones) size before (each zone_bytes zones ++ s) next ≡ next zones s
 unfolding read_zones each zone_bytes
 of_zones size before [] s next y = refl
 of_zones size before (z ∷ zones) s next y =
-    let p = yes_parts (zone_questions size before z) (zones_questions size (After z.mode) zones) y in
+    let p = yes_parts (zone_questions size before z) (zones_questions size (Some z.mode) zones) y in
     rw append_assoc
     (of_values (each zone_bytes zones ++ s) _ (within (small size z before p.0))
     ∙ sym (all_pass (zone_questions size before z) _ p.0)
-    ∙ of_zones size (After z.mode) zones s (λ zones₁ s₁. next (z ∷ zones₁) s₁) p.1)
+    ∙ of_zones size (Some z.mode) zones s (λ zones₁ s₁. next (z ∷ zones₁) s₁) p.1)
 
 -- A plan that was read is fit, and written again.
 pub record Plan-of (s : List ℕ) (p : Plan) : Type 0 where
@@ -91,7 +92,7 @@ pub record Plan-of (s : List ℕ) (p : Plan) : Type 0 where
   pub eight : Eight p
   pub bytes : Again (plan_bytes p) s
 
-made : (n size : ℕ) (zones : List Zone) {s : List ℕ} → length zones ≡ n → is_count n ≡ true → is_four_sizes size ≡ true → AllYes (zones_questions size First zones)
+made : (n size : ℕ) (zones : List Zone) {s : List ℕ} → length zones ≡ n → is_count n ≡ true → is_four_sizes size ≡ true → AllYes (zones_questions size None zones)
     → Again (encode n ++ (encode size ++ each zone_bytes zones)) s → Plan-of s (plan_with n size zones)
 unfolding plan_bytes
 made n size zones e c z j b =
@@ -111,7 +112,7 @@ plan-of s e =
     let e₁ = ask_yes (is_count c.one) 12 _ c.go_on in
     let z = value-of c.after _ e₁.1 in
     let e₂ = ask_yes (is_four_sizes z.one) 2 _ z.go_on in
-    let t = zones-of c.one z.one First z.after _ e₂.1 in
+    let t = zones-of c.one z.one None z.after _ e₂.1 in
     let e₃ = ask_yes (eqb (length t.after) 0) 15 _ t.go_on in
     let end : t.after ≡ [] = sym (take_all 0 t.after (omega (arith, eqb-true (length t.after) 0 e₃.0))) in
     let zones : Again (each zone_bytes t.one) z.after = rw (end, append-nil) at t.bytes in
@@ -129,7 +130,7 @@ of_plan p l f =
     ∙ rw f.count_is
     (of_value p.size (each zone_bytes (used_zones p)) _ (omega arith)
     ∙ rw f.size_is
-    (rw (used, append-nil) at (of_zones p.size First (used_zones p) [] (finish p.count p.size) f.judged)
+    (rw (used, append-nil) at (of_zones p.size None (used_zones p) [] (finish p.count p.size) f.judged)
     ∙ ap (λ places. accepted (record { count = p.count; size = p.size; zones = places })) (places_of 8 p.count p.zones l f.unused_are)))
 
 -- An accepted plan written again is the same bytes.

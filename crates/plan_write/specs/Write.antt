@@ -1,13 +1,13 @@
 -- Writing a plan. Document 01: writing puts 12, 2, for each zone in turn 1, 2, 3, 13, 14, then 16; document 02, wish 5: 17 after 13.
-use Rattle.std.specs.Prelude.{List, ◌++◌, ℕ, leb, length, drop}
+use Rattle.std.specs.Prelude.{List, ◌++◌, ℕ, leb, length, drop, Result}
 use Rattle.base.specs.Answer.{Answer, accepted, refused, ask}
+use Rattle.refusal.specs.declared.Refusal.{Refusal}
+use Rattle.refusal.specs.Refusal.{answer_of}
 use Rattle.value.specs.Value.{encode}
 use Rattle.zone.specs.declared.Zone.{Zone}
 use Rattle.zone.specs.Zone.{values_of}
 use Rattle.plan.specs.declared.Plan.{Plan}
 use Rattle.plan.specs.Plan.{used_zones, ask_plan, each}
-use Rattle.plan_write.specs.declared.Written.{Written}
-use Rattle.plan_write.specs.declared.Written.TheVariants.{Bytes, Refused}
 
 -- The bytes of a plan are the count of zones, the size, then mode, cell, slots and mask of each zone.
 unfoldable pub zone_bytes : (zone : Zone) → List ℕ
@@ -35,6 +35,5 @@ unfoldable pub write_of : (plan : Plan) (dest : List ℕ) → AfterWrite
 write_of plan dest = after_write (ask_plan plan (ask (leb (length (plan_bytes plan)) (length dest)) 16 (accepted (plan_bytes plan)))) dest
 
 -- What an answer of `write` says, with the destination that it leaves.
-abbrev pub written : (answer : Written) (dest : List ℕ) → AfterWrite
-written (Bytes number) dest = record { answer = accepted number; dest = dest }
-written (Refused number) dest = record { answer = refused number; dest = dest }
+abbrev pub written : (answer : Result ℕ Refusal) (dest : List ℕ) → AfterWrite
+written answer dest = record { answer = answer_of answer; dest = dest }

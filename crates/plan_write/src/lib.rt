@@ -8,14 +8,8 @@ ghost use Rattle.plan.specs.Model.{plan_refusal};
 ghost use Rattle.plan_write.specs.Write.{zone_bytes, plan_bytes, written, write_of};
 
 use plan::Plan;
+use refusal::{Refusal, ask};
 use zone::Zone;
-
-// What writing a plan answers: how many bytes were written, or the number of the refusal.
-#[derive(Clone, Copy)]
-pub enum Written {
-    Bytes(usize),
-    Refused(u8),
-}
 
 // Puts the values of a zone at a place where they fit; answers the place after them.
 fn put_zone(dest: &mut [u8], at: usize, zone: Zone) -> usize
@@ -24,10 +18,8 @@ fn put_zone(dest: &mut [u8], at: usize, zone: Zone) -> usize
 {
     let values = [zone.mode, zone.cell, zone.slots, zone.mask];
     let mut next = at;
-    let mut k = 0;
-    while k < 4 {
+    for k in 0..4 {
         next = value::write(dest, next, values[k]);
-        k += 1;
     }
     next
 }
@@ -37,30 +29,21 @@ fn put_plan(dest: &mut [u8], plan: Plan) -> usize
     requires { (plan_refusal plan ≡ 0) × (length (plan_bytes plan) ≤ length dest.old) }
     ensures { Put dest.old 0 (plan_bytes plan) result dest.new }
 {
-    let used = plan.count;
-    let zones = plan.zones;
-    let after_count = value::write(dest, 0, used);
+    let after_count = value::write(dest, 0, plan.count);
     let mut at = value::write(dest, after_count, plan.size);
-    let mut k = 0;
-    while k < used {
-        at = put_zone(dest, at, zones[k]);
-        k += 1;
+    for k in 0..plan.count {
+        at = put_zone(dest, at, plan.zones[k]);
     }
     at
 }
 
 // Writes a plan at the destination's start: how many bytes, or the first refusal.
-pub fn write(plan: Plan, dest: &mut [u8]) -> Written
+pub fn write(plan: Plan, dest: &mut [u8]) -> Result<usize, Refusal>
     ensures { written result dest.new ≡ write_of plan dest.old }
 {
-    let number = plan::plan_refusal(plan);
-    if number != 0 {
-        return Written::Refused(number);
-    }
+    plan::ask_plan(plan)?;
     let mut bytes = [0u8; 51];
     let n = put_plan(&mut bytes, plan);
-    if dest.len() < n {
-        return Written::Refused(16);
-    }
-    Written::Bytes(text::put_bytes(dest, 0, &bytes[..n]))
+    ask(n <= dest.len(), Refusal::Room)?;
+    Ok(text::put_bytes(dest, 0, &bytes[..n]))
 }

@@ -2,8 +2,8 @@
 use native.Mathlib.{Nat.{add-zero, add_assoc}, Numerals.add-one, Omega.arith}
 use mathlib.Core.{Logic.{◌⊎◌, inl, inr, ⊎_elim}, Path.{◌≡◌, refl, sym, ap, ◌∙◌}, Bool.{Bool, true, false}}
 use mathlib.Core.List.{List, [], ◌∷◌, ◌++◌, append_assoc, append-nil}
-use lib.{Dec.ltb, ListN.{length, get_or, take, drop, set, length-append, take-append-drop}}
-use lib.Seq.{take-length, take-suc, set_split, drop-cons, set_at, append_snoc, take_at, drop_at, drop-drop, length-take-le}
+use lib.{Dec.ltb, ListN.{length, take, drop, set, length-append, take-append-drop}}
+use lib.Seq.{set_split, append_snoc, take_at, drop_at, drop-drop, length-take-le}
 use borrow.Author.Tests.{ltb-true, ltb-false, lt-ltb, le-ltb}
 use Rattle.text.specs.Text.{digits, decimal, put, Put}
 use Prim.Native.Nat.{ℕ, zero, suc, ◌+◌, ◌^◌, ◌/◌, ◌%◌, ◌<◌, ◌≤◌}
@@ -78,19 +78,6 @@ pub put_none : (dest : List ℕ) (at : ℕ) → put dest at [] ≡ dest
 unfolding put
 put_none dest at = rw (append-nil, add-zero) (take-append-drop at dest)
 
--- one byte more behind a text
-pub put_more : (dest : List ℕ) (at : ℕ) (text : List ℕ) (byte : ℕ) → at + length text < length dest
-    → set (put dest at text) (at + length text) byte ≡ put dest at (text ++ (byte ∷ []))
-unfolding put
-put_more dest at text byte room =
-    let end : ℕ = at + length text in
-    let p : List ℕ = take at dest ++ text in
-    let behind : suc end ≡ at + length (text ++ (byte ∷ [])) = rw length-append (omega arith) in
-    ap (λ (r : List ℕ). set (p ++ r) end byte) (drop-cons dest end 0 room)
-    ∙ set_at p (get_or dest end 0) (drop (suc end) dest) byte end (length_head dest at text (omega arith))
-    ∙ sym (append_snoc p byte (drop (suc end) dest))
-    ∙ rw (append_assoc (take at dest) text (byte ∷ []), behind)
-
 -- what stands before the place after a text
 pub take_put : (dest : List ℕ) (at : ℕ) (text : List ℕ) → at ≤ length dest → take (at + length text) (put dest at text) ≡ take at dest ++ text
 unfolding put
@@ -128,15 +115,6 @@ pub one_byte : (dest : List ℕ) (at byte : ℕ) → at < length dest → Put de
 unfolding put
 one_byte dest at byte h = record { next_is = refl; after_is = set_split dest at byte h ∙ sym (append_snoc (take at dest) byte (drop (suc at) dest)) ∙ rw add-one }
 
--- a turn of the copying loop
-pub put_next : (dest : List ℕ) (at : ℕ) (text : List ℕ) (i : ℕ) → at + length text ≤ length dest → i < length text
-    → set (put dest at (take i text)) (at + i) (get_or text i 0) ≡ put dest at (take (i + 1) text)
-put_next dest at text i room h =
-    let long : length (take i text) ≡ i = length-take-le i text (omega arith) in
-    ap (λ (k : ℕ). set (put dest at (take i text)) (at + k) (get_or text i 0)) (sym long)
-    ∙ put_more dest at (take i text) (get_or text i 0) (rw long (omega arith))
-    ∙ ap (put dest at) (sym (take-suc text i 0 h) ∙ rw add-one)
-
 -- a number's last digit behind the others
 pub length_more : (x : ℕ) → 10 ≤ x → length (decimal x) ≡ length (decimal (x / 10)) + 1
 length_more x h = rw (decimal_more x h) (length-append (decimal (x / 10)) ((48 + x % 10) ∷ []))
@@ -146,10 +124,3 @@ one_digit {x = x} h p = rw (decimal_one x h) p
 
 pub more_digits : {d d₁ d₂ : List ℕ} {at m n : ℕ} (x : ℕ) → 10 ≤ x → at ≤ length d → Put d at (decimal (x / 10)) m d₁ → Put d₁ m ((48 + x % 10) ∷ []) n d₂ → Put d at (decimal x) n d₂
 more_digits x h room first second = rw (decimal_more x h) (put_then (decimal (x / 10)) ((48 + x % 10) ∷ []) room first second)
-
--- the copying loop at its end
-pub all_bytes : (dest : List ℕ) (at : ℕ) (text d : List ℕ) (i : ℕ) → i ≤ length text → length text ≤ i → d ≡ put dest at (take i text)
-    → Put dest at text (at + i) d
-all_bytes dest at text d i h g e =
-    let end : i ≡ length text = omega arith in
-    record { next_is = rw end; after_is = e ∙ rw (end, take-length) }

@@ -21,12 +21,9 @@ pub fn put_bytes(dest: &mut [u8], at: usize, bytes: &[u8]) -> usize
     requires { at + length bytes.now ≤ length dest.old }
     ensures { Put dest.old at bytes.now result dest.new }
 {
-    let mut i = 0;
-    while i < bytes.len() {
-        dest[at + i] = bytes[i];
-        i += 1;
-    }
-    at + i
+    let next = at + bytes.len();
+    dest[at..next].copy_from_slice(bytes);
+    next
 }
 
 // Puts a number in base ten, where there is room for the 20 digits of the largest.

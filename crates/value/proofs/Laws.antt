@@ -4,7 +4,7 @@ use Rattle.base.proofs.Prelude.{drop, ltb-true, ltb-false, lt-ltb, le-ltb}
 use Rattle.base.proofs.{Chain.{ask_yes, same_accepted}, Test.cases}
 use lib.{ListN.{length-append, length-take}, Seq.get_or-append-add}
 use Rattle.base.specs.Answer.{Answer, accepted, refused}
-use Rattle.value.specs.Value.{Bytes, Value, more, value_in, value_of, encode_in, encode}
+use Rattle.value.specs.{declared.Value.Value, Value.{Bytes, more, value_in, value_of, encode_in, encode}}
 use Prim.Native.Nat.{◌^◌}
 
 -- A first byte that is the last one, and one that more follow, whose further groups are worth something or nothing.

@@ -2,17 +2,11 @@
 use Rattle.std.specs.Prelude.{List, [], ◌∷◌, ltb, get_or, ℕ, zero, suc, ◌+◌, ◌*◌, ◌/◌, ◌%◌, ◌<◌}
 use Rattle.base.specs.Choice.{pick}
 use Rattle.base.specs.Answer.{Answer, accepted, refused, ask}
-use Rattle.value.specs.declared.Found.{Found}
-use Rattle.value.specs.declared.Found.TheVariants.{Value as Is, Refused}
+use Rattle.value.specs.declared.Value.{Value}
 
 -- Bytes are numbers below 256.
 abbrev pub Bytes : (s : List ℕ) → Type 0
 Bytes s = (k : ℕ) → get_or s k 0 < 256
-
--- A value that was read, and how many bytes it takes.
-pub record Value : Type 0 where
-  pub value : ℕ
-  pub bytes : ℕ
 
 -- A byte whose top bit is set, and what the groups after it give. Shortest form: these are worth more than zero, so the last of several groups is not zero.
 abbrev pub more : (byte : ℕ) (further : Answer Value) → Answer Value
@@ -35,8 +29,3 @@ encode_in (suc groups) value = pick (ltb value 128) (value ∷ []) ((value % 128
 
 abbrev pub encode : (value : ℕ) → List ℕ
 encode value = encode_in 3 value
-
--- What an answer of `read` says: document 01's value, or its number.
-abbrev pub found : (answer : Found) → Answer Value
-found (Is value bytes) = accepted (record { value = value; bytes = bytes })
-found (Refused number) = refused number

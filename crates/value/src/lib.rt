@@ -2,56 +2,45 @@
 #![tactic(auto)]
 
 ghost use Rattle.std.specs.Prelude.{◌≡◌, ◌+◌, ◌<◌, ◌≤◌, length, drop};
-ghost use Rattle.value.specs.Value.{found, value_of, encode};
+ghost use Rattle.refusal.specs.Refusal.{answer_of};
+ghost use Rattle.value.specs.Value.{value_of, encode};
 ghost use Rattle.text.specs.Text.{Put};
 
-use base::wide;
+use refusal::{Refusal, ask};
 
-// A value and how many bytes it takes, or the number of the refusal.
+// A value and how many bytes it takes.
 #[derive(Clone, Copy)]
-pub enum Found {
-    Value { value: usize, bytes: usize },
-    Refused(u8),
+pub struct Value {
+    pub value: usize,
+    pub bytes: usize,
 }
 
 // The value whose first byte stands at a place.
-pub fn read(s: &[u8], at: usize) -> Found
-    ensures { found result ≡ value_of (drop at s.now) }
+pub fn read(s: &[u8], at: usize) -> Result<Value, Refusal>
+    ensures { answer_of result ≡ value_of (drop at s.now) }
 {
-    if s.len() <= at {
-        return Found::Refused(10);
-    }
-    let a = wide(s[at]);
+    ask(at < s.len(), Refusal::Cut)?;
+    let a = usize::from(s[at]);
     if a < 128 {
-        return Found::Value { value: a, bytes: 1 };
+        return Ok(Value { value: a, bytes: 1 });
     }
-    if s.len() - at <= 1 {
-        return Found::Refused(10);
-    }
-    let b = wide(s[at + 1]);
-    if b == 0 {
-        return Found::Refused(11);
-    }
+    ask(1 < s.len() - at, Refusal::Cut)?;
+    let b = usize::from(s[at + 1]);
+    ask(0 < b, Refusal::Form)?;
     if b < 128 {
-        return Found::Value {
+        return Ok(Value {
             value: a % 128 + 128 * b,
             bytes: 2,
-        };
+        });
     }
-    if s.len() - at <= 2 {
-        return Found::Refused(10);
-    }
-    let c = wide(s[at + 2]);
-    if c == 0 {
-        return Found::Refused(11);
-    }
-    if c < 128 {
-        return Found::Value {
-            value: a % 128 + 128 * (b % 128 + 128 * c),
-            bytes: 3,
-        };
-    }
-    Found::Refused(11)
+    ask(2 < s.len() - at, Refusal::Cut)?;
+    let c = usize::from(s[at + 2]);
+    ask(0 < c, Refusal::Form)?;
+    ask(c < 128, Refusal::Form)?;
+    Ok(Value {
+        value: a % 128 + 128 * (b % 128 + 128 * c),
+        bytes: 3,
+    })
 }
 
 // Puts a value below 2^21 at a place where it fits; answers the place after it.

@@ -1,11 +1,12 @@
 -- What a yes to all of a zone's questions says: its setup is in range, its values are small.
+use Rattle.std.specs.Prelude.{Option, None}
 use Rattle.base.proofs.Prelude.{◌≡◌, sym, true, false, [], ◌∷◌, ℕ, ◌<◌, ◌≤◌, mul-le-mul, arith, eqb, ltb, eqb-true, lt-ltb}
 use Rattle.base.proofs.{Chain.{AllYes, all_yes, yes_parts}, Test.{cases, both_true, true_false, up_to}}
 use Rattle.base.specs.Choice.{pick}
 use Rattle.modes.specs.{Setup.Setup, Question.{is_mode, is_size}, Model.{pusc-dl, pusc-ul, ofusc, amc, Ranged, own, fusc}}
 use Rattle.modes.proofs.{Accept.ranged_by, ByMode.few}
 use Rattle.mask.proofs.Law.{mask_small}
-use Rattle.zone.specs.{declared.Zone.Zone, declared.Before.Before, declared.Before.TheVariants.First}
+use Rattle.zone.specs.{declared.Zone.Zone}
 use Rattle.zone.specs.Zone.{is_zone_mode, setup_of, is_opening, is_order, fields_refusal, unused, is_unused}
 use Rattle.zone.specs.Model.{Small}
 use Rattle.zone.proofs.Number.{field_questions, zone_questions}
@@ -32,14 +33,14 @@ module _ (size : ℕ) (z : Zone) where
         let most = ranged_small own_ranged (few own_ranged).size_few in
         record { mode_most = most.0; cell_most = most.1; slots_most = up_to 512 z.slots y.1.1.1.0; mask_most = omega (arith, mask_small z.mode z.mask y.1.1.1.1.0) }
 
-  pub small : (before : Before) → AllYes (zone_questions size before z) → Small z
+  pub small : (before : Option ℕ) → AllYes (zone_questions size before z) → Small z
   small before y = own_small (yes_parts (field_questions size z) ((is_order before size z, 14) ∷ []) y).0
 
   -- Document 02, wish 8: mode 7 never opens a plan. By question 2 its size is 2048, and there question 14 has mode 0 first.
-  pub fusc_not_first : AllYes (zone_questions size First z) → z.mode ≡ 7 → ⊥
+  pub fusc_not_first : AllYes (zone_questions size None z) → z.mode ≡ 7 → ⊥
   unfolding is_size is_opening
   fusc_not_first y e =
-      let p = yes_parts (field_questions size z) ((is_order First size z, 14) ∷ []) y in
+      let p = yes_parts (field_questions size z) ((is_order None size z, 14) ∷ []) y in
       let full : eqb size 2048 ≡ true = rw e at p.0.1.0 in
       true_false (sym (rw (full, e) at p.1.0))
 

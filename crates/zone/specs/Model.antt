@@ -1,12 +1,11 @@
 -- What inner functions say. No reader needs this to know what the calls do.
-use Rattle.std.specs.Prelude.{ℕ, ◌<◌, ◌≤◌}
+use Rattle.std.specs.Prelude.{ℕ, ◌<◌, ◌≤◌, Option}
 use Rattle.base.specs.Answer.{accepted, refusal_of}
 use Rattle.zone.specs.declared.Zone.{Zone}
-use Rattle.zone.specs.declared.Before.{Before}
 use Rattle.zone.specs.Zone.{ask_zone}
 
 -- The number of the first question to a zone in its plan that is answered no, 0 where none is.
-unfoldable pub zone_refusal : (size : ℕ) (before : Before) (zone : Zone) → ℕ
+unfoldable pub zone_refusal : (size : ℕ) (before : Option ℕ) (zone : Zone) → ℕ
 zone_refusal size before zone = refusal_of (ask_zone {A = Unit {0}} size before zone (accepted tt))
 
 -- A zone whose values are in range at some size.

@@ -1,5 +1,5 @@
 -- A zone, and the questions that are put to it in a plan.
-use Rattle.std.specs.Prelude.{Bool, true, false, List, [], ◌∷◌, ℕ, eqb, ltb, get_or}
+use Rattle.std.specs.Prelude.{Bool, true, false, List, [], ◌∷◌, ℕ, eqb, ltb, get_or, Option, Some, None}
 use Rattle.base.specs.Choice.{pick, is_up_to}
 use Rattle.base.specs.Answer.{Answer, accepted, ask, refusal_of}
 use Rattle.modes.specs.Setup.{Setup, setup_with}
@@ -7,8 +7,6 @@ use Rattle.modes.specs.Mode.{is_amc}
 use Rattle.modes.specs.Question.{is_size, is_cell}
 use Rattle.mask.specs.Mask.{is_mask}
 use Rattle.zone.specs.declared.Zone.{Zone}
-use Rattle.zone.specs.declared.Before.{Before}
-use Rattle.zone.specs.declared.Before.TheVariants.{First, After}
 
 -- The values of a zone in the order of the plan file. Document 01, "Zone plan": mode, cell and slots; document 02, wish 5: the mask, a fourth value.
 abbrev pub values_of : (zone : Zone) → List ℕ
@@ -38,10 +36,10 @@ is_opening size zone = pick (eqb size 2048) (eqb zone.mode 0) true
 unfoldable pub is_following : (mode : ℕ) (zone : Zone) → Bool
 is_following mode zone = pick (is_amc mode) (is_amc zone.mode) true
 
--- 14 goes by what stands before the zone: it is the plan's first, or comes after a zone of some mode.
-abbrev pub is_order : (before : Before) (size : ℕ) (zone : Zone) → Bool
-is_order First size zone = is_opening size zone
-is_order (After mode) size zone = is_following mode zone
+-- 14 goes by what stands before the zone: none, where it is the plan's first, or a zone of some mode.
+abbrev pub is_order : (before : Option ℕ) (size : ℕ) (zone : Zone) → Bool
+is_order None size zone = is_opening size zone
+is_order (Some mode) size zone = is_following mode zone
 
 -- The questions to a zone's own values. Document 02, wish 5: refused 17, mask out of its range, put after 13 in plans.
 abbrev pub ask_fields : {A : Type 0} → (size : ℕ) (zone : Zone) (rest : Answer A) → Answer A
@@ -57,7 +55,7 @@ unfoldable pub fields_refusal : (size : ℕ) (zone : Zone) → ℕ
 fields_refusal size zone = refusal_of (ask_fields {A = Unit {0}} size zone (accepted tt))
 
 -- In a plan the question of a zone's place comes after those to its own values.
-abbrev pub ask_zone : {A : Type 0} → (size : ℕ) (before : Before) (zone : Zone) (rest : Answer A) → Answer A
+abbrev pub ask_zone : {A : Type 0} → (size : ℕ) (before : Option ℕ) (zone : Zone) (rest : Answer A) → Answer A
 ask_zone size before zone rest = ask_fields size zone (ask (is_order before size zone) 14 rest)
 
 -- An unused place of a plan.

@@ -4,11 +4,13 @@
 ghost use Rattle.std.specs.Prelude.{◌≡◌};
 ghost use Rattle.zone.specs.Zone.{is_order, fields_refusal, is_unused};
 ghost use Rattle.zone.specs.Model.{zone_refusal};
+ghost use Rattle.refusal.specs.Refusal.{refusal_in};
 
 use modes::Setup;
+use refusal::{Refusal, ask};
 
 // One zone: mode, cell, how many slots, and the mask, bit g for major group g (document 02, wish 5).
-#[derive(Clone, Copy)]
+#[derive(Clone, Copy, PartialEq, Eq)]
 pub struct Zone {
     pub mode: usize,
     pub cell: usize,
@@ -24,74 +26,41 @@ pub const UNUSED: Zone = Zone {
     mask: 0,
 };
 
-// What stands before a zone: nothing, or a zone of a mode.
-#[derive(Clone, Copy)]
-pub enum Before {
-    First,
-    After(usize),
-}
-
 // Does a zone stand in its place, the first or after one of a mode?
-fn is_order(size: usize, prior: Before, zone: Zone) -> bool
+fn is_order(size: usize, prior: Option<usize>, zone: Zone) -> bool
     ensures { result ≡ is_order prior size zone }
 {
     match prior {
-        Before::First => {
-            if size != 2048 {
-                return true;
-            }
-            zone.mode == 0
-        }
-        Before::After(mode) => {
-            if !modes::is_amc(mode) {
-                return true;
-            }
-            modes::is_amc(zone.mode)
-        }
+        None => size != 2048 || zone.mode == 0,
+        Some(mode) => !modes::is_amc(mode) || modes::is_amc(zone.mode),
     }
 }
 
-// The number of the first question put to a zone's own values that is answered no, or 0.
-pub fn fields_refusal(size: usize, zone: Zone) -> u8
-    ensures { result ≡ fields_refusal size zone }
+// The questions put to a zone's own values.
+pub fn ask_fields(size: usize, zone: Zone) -> Result<(), Refusal>
+    ensures { refusal_in result ≡ fields_refusal size zone }
 {
-    if zone.mode == 1 {
-        return 1;
-    }
-    let setup = modes::refusal(Setup {
+    ask(zone.mode != 1, Refusal::Mode)?;
+    modes::ask_setup(Setup {
         mode: zone.mode,
         size: size,
         cell: zone.cell,
-    });
-    if setup != 0 {
-        return setup;
-    }
-    if !base::is_up_to(512, zone.slots) {
-        return 13;
-    }
-    if mask::is_mask(zone.mode, zone.mask) {
-        return 0;
-    }
-    17
+    })?;
+    ask(base::is_up_to(512, zone.slots), Refusal::Slots)?;
+    ask(mask::is_mask(zone.mode, zone.mask), Refusal::Mask)
 }
 
-// The number of the first question put to a zone in its plan that is answered no, or 0.
-pub fn zone_refusal(size: usize, prior: Before, zone: Zone) -> u8
-    ensures { result ≡ zone_refusal size prior zone }
+// The questions put to a zone in its plan, after a zone of a mode or as the first.
+pub fn ask_zone(size: usize, prior: Option<usize>, zone: Zone) -> Result<(), Refusal>
+    ensures { refusal_in result ≡ zone_refusal size prior zone }
 {
-    let fields = fields_refusal(size, zone);
-    if fields != 0 {
-        return fields;
-    }
-    if is_order(size, prior, zone) {
-        return 0;
-    }
-    14
+    ask_fields(size, zone)?;
+    ask(is_order(size, prior, zone), Refusal::Order)
 }
 
 // Is a place of a plan unused, all zero?
 pub fn is_unused(zone: Zone) -> bool
     ensures { result ≡ is_unused zone }
 {
-    (zone.mode | zone.cell | zone.slots | zone.mask) == 0
+    zone == UNUSED
 }

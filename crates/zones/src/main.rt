@@ -3,6 +3,8 @@
 // plan's law), and an accepted plan has at most 51.
 #![tactic(auto)]
 
+use plan::Plan;
+use refusal::Refusal;
 use std::io;
 
 fn main(rt: HostRuntime) -> io::Result<()> {
@@ -11,7 +13,7 @@ fn main(rt: HostRuntime) -> io::Result<()> {
     print(&rt, plan_read::read(&input[..n]))
 }
 
-fn print(rt: &impl Print, answer: plan_read::ReadPlan) -> io::Result<()> {
+fn print(rt: &impl Print, answer: Result<Plan, Refusal>) -> io::Result<()> {
     let mut out = [0u8; 672];
     let end = plan_text::lines(answer, &mut out);
     rt.write_all(&out[..end])

@@ -1,5 +1,4 @@
 -- `burst_owner::first_owner` meets its contract.
-use Rattle.base.proofs.Prelude.{rules}
 use Rattle.burst_owner.proofs.Row.{owner_some, owner_none}
 use Rattle.burst_owner.proofs.first_owner.Goals as goal
 

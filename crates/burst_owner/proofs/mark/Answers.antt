@@ -1,5 +1,5 @@
-use Rattle.base.proofs.{Prelude.{refl, ◌+◌, ◌-◌, ◌≤◌, arith, rules}, Tabulate.{over_none, over_next}}
-use Rattle.burst_owner.proofs.Row.{Marking, marking_all}
+use Rattle.base.proofs.{Prelude.{refl, arith}, Tabulate.{over_none, over_next}}
+use Rattle.burst_owner.proofs.Row.{marking_all}
 use Rattle.burst_owner.proofs.mark.Goals as goal
 
 pub loop-m-init : goal.loop-m-init

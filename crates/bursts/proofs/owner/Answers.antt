@@ -1,5 +1,6 @@
 -- `bursts::owner` meets its contract.
-use Rattle.base.proofs.{Prelude.{◌<◌, rules}, Chain.by_answer}
+use Rattle.base.proofs.Prelude.{refl, rules}
+use Rattle.refusal.proofs.Asked.{asked, no_asked, yes_asked, same_below}
 use Rattle.modes.specs.Question.{is_slot, is_subchannel}
 use Rattle.burst_list.proofs.Each.{list_most}
 use Rattle.bursts.specs.Owner.{owner_of}
@@ -7,34 +8,36 @@ use Rattle.zone.proofs.Number.{fields_no, fields_then}
 use Rattle.bursts.proofs.Answer.{list_asks, bursts_no, bursts_then, owned_no, owned_yes}
 use Rattle.bursts.proofs.owner.Goals as goal
 
--- a subchannel that is let pass is one of the mode's
-inside : (c : goal.After-refused-then-list-ne0) → c.args.subchannel < c.subchannels-subchannels.result
-inside c = c.if-subchannels-subchannel.false
+pub returns-in_err-ask_fields : goal.returns-in_err-ask_fields
+unfolding owner_of
+returns-in_err-ask_fields c = search (owned_no, fields_no, rules)
 
-pub returns-then-fields-ne0 : goal.returns-then-fields-ne0
+pub returns-in_err-ask : goal.returns-in_err-ask
 unfolding owner_of is_slot is_subchannel
-returns-then-fields-ne0 c = search (owned_no, fields_no, rules)
+returns-in_err-ask c = search (owned_no, fields_then, asked, rules)
 
-pub returns-then-slot-ge512 : goal.returns-then-slot-ge512
+pub returns-in_err-ask-2 : goal.returns-in_err-ask-2
 unfolding owner_of is_slot is_subchannel
-returns-then-slot-ge512 c = search (owned_no, fields_then, by_answer, rules)
+returns-in_err-ask-2 c =
+    owned_no _ _ _ _ _ c.from_residual-in_err-ask-2.ensures.1
+    (fields_then _ _ _ c.in_ok-ask_fields.ensures _
+    (yes_asked _ _ refl _ _ c.in_ok-ask.ensures _ (no_asked _ _ (same_below _ c.subchannels-subchannels.ensures) _ _ c.in_err-ask-2.ensures)))
 
-pub returns-then-subchannels-subchannel : goal.returns-then-subchannels-subchannel
-unfolding owner_of is_slot is_subchannel
-returns-then-subchannels-subchannel c = search (owned_no, fields_then, by_answer, rules)
+pub ask_list-requires : goal.ask_list-requires
+ask_list-requires c = list_asks _ _ c.in_ok-ask_fields.ensures c.subchannels-subchannels.ensures
 
-pub list_refusal-list-requires : goal.list_refusal-list-requires
+pub returns-in_err-ask_list : goal.returns-in_err-ask_list
 unfolding owner_of is_slot is_subchannel
-list_refusal-list-requires c = let zone = c in list_asks _ _ zone.fields_refusal-fields.ensures zone.if-fields-ne0.false c.subchannels-subchannels.ensures
-
-pub returns-then-list-ne0 : goal.returns-then-list-ne0
-unfolding owner_of is_slot is_subchannel
-returns-then-list-ne0 c = let h = inside c in search (owned_no, fields_then, bursts_no, by_answer, rules)
+returns-in_err-ask_list c =
+    owned_no _ _ _ _ _ c.from_residual-in_err-ask_list.ensures.1
+    (fields_then _ _ _ c.in_ok-ask_fields.ensures _
+    (yes_asked _ _ refl _ _ c.in_ok-ask.ensures _
+    (yes_asked _ _ (same_below _ c.subchannels-subchannels.ensures) _ _ c.in_ok-ask-2.ensures _
+    (bursts_no _ c.args.zone _ _ c.subchannels-subchannels.ensures _ _ c.in_err-ask_list.ensures))))
 
 pub first_owner-requires : goal.first_owner-requires
-unfolding owner_of is_slot is_subchannel
-first_owner-requires c = search (list_most, rules)
+first_owner-requires c = list_most _ _ _ c.in_ok-ask_list.ensures
 
 pub returns : goal.returns
 unfolding owner_of is_slot is_subchannel
-returns c = search (owned_yes, fields_then, bursts_then, by_answer, rules)
+returns c = search (owned_yes, fields_then, bursts_then, asked, rules)

@@ -1,6 +1,6 @@
-use Rattle.base.proofs.Prelude.{refl, ◌-◌, arith, rules}
+use Rattle.base.proofs.Prelude.{refl, arith, rules}
 use Rattle.plan.proofs.Places.{length_mapped}
-use Rattle.plan_numbers.proofs.Laws.{Row, row_begin, now_small, row_again, row_end}
+use Rattle.plan_numbers.proofs.Laws.{row_begin, now_small, row_again, row_end}
 use Rattle.plan_numbers.proofs.numbers.Goals as goal
 
 pub loop-k-init : goal.loop-k-init

@@ -1,5 +1,5 @@
-use Rattle.base.proofs.{Prelude.{◌-◌, rules}, Tabulate.at_none}
-use Rattle.plan_numbers.proofs.Laws.{Placing, placing_again, placing_end}
+use Rattle.base.proofs.{Prelude.{rules}, Tabulate.at_none}
+use Rattle.plan_numbers.proofs.Laws.{placing_again, placing_end}
 use Rattle.plan_numbers.proofs.places.Goals as goal
 
 pub loop-k-init : goal.loop-k-init

@@ -1,10 +1,6 @@
 -- `plan_numbers::places` meets its contract.
-use Rattle.base.proofs.{Prelude.{◌-◌, rules}, Tabulate.at_none}
-use Rattle.plan_numbers.proofs.Laws.{Placing, placing_again, placing_end}
+use Rattle.plan_numbers.proofs.Laws.{Placing}
 use Rattle.plan_numbers.proofs.places.Given as goal
 
 abbrev pub invariant-loop-k : goal.invariant-loop-k
 invariant-loop-k l = Placing l.numbers l.zones l.k
-
-abbrev pub decreases-loop-k : goal.decreases-loop-k
-decreases-loop-k l = 8 - l.k

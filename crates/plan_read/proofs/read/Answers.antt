@@ -1,44 +1,42 @@
 -- `plan_read::read` meets its contract.
-use Rattle.base.proofs.Prelude.{sym, ◌∙◌, arith, rules}
+use Rattle.base.proofs.{Prelude.{arith}, Test.told_yes}
 use lib.{ListN.length-drop, Seq.drop-drop}
+use Rattle.refusal.proofs.Asked.{answer_on, no_asked, yes_asked, asked_yes}
 use Rattle.plan_read.specs.Read.{plan_of}
 use Rattle.plan.proofs.Judge.{count_most}
-use Rattle.plan_read.proofs.{Step.value_within}
+use Rattle.plan_read.proofs.Step.{value_within}
 use Rattle.plan_read.proofs.read.Goals as goal
 
-pub overflow_add-at : goal.overflow_add-at
-overflow_add-at c = omega (arith, rw length-drop at (value_within _ c.read-in-Value.ensures c.in-Value-read.is))
-
-pub returns-then-not-is_up_to : goal.returns-then-not-is_up_to
+pub returns-in_err-count : goal.returns-in_err-count
 unfolding plan_of
-returns-then-not-is_up_to c =
-    let count = sym c.is_up_to.ensures ∙ c.if-not-is_up_to.true in
-    rw (c.refused-then-not-is_up_to.ensures, ← c.read.ensures, c.in-Value.is, count)
+returns-in_err-count c = answer_on _ _ c.from_residual.ensures.1 _ (rw (← c.in_err-count.ensures))
 
-pub returns-then-not-is_four_sizes : goal.returns-then-not-is_four_sizes
+pub returns-in_err-ask : goal.returns-in_err-ask
 unfolding plan_of
-returns-then-not-is_four_sizes c =
-    let count = sym c.is_up_to.ensures ∙ c.if-not-is_up_to.false in
-    let size = sym c.is_four_sizes.ensures ∙ c.if-not-is_four_sizes.true in
-    rw (c.refused-then-not-is_four_sizes.ensures, ← c.read.ensures, c.in-Value.is, count, ← c.read-in-Value.ensures, c.in-Value-read.is, size)
+returns-in_err-ask c =
+    answer_on _ _ c.from_residual-in_err-ask.ensures.1 _ (rw (← c.in_ok-count.ensures) (no_asked _ _ c.is_up_to.ensures _ _ c.in_err-ask.ensures))
+
+pub returns-in_err-size : goal.returns-in_err-size
+unfolding plan_of
+returns-in_err-size c =
+    answer_on _ _ c.from_residual-in_err-size.ensures.1 _
+    (rw (← c.in_ok-count.ensures) (yes_asked _ _ c.is_up_to.ensures _ _ c.in_ok-ask.ensures _ (rw (← c.in_err-size.ensures))))
+
+pub returns-in_err-ask-2 : goal.returns-in_err-ask-2
+unfolding plan_of
+returns-in_err-ask-2 c =
+    answer_on _ _ c.from_residual-in_err-ask-2.ensures.1 _
+    (rw (← c.in_ok-count.ensures) (yes_asked _ _ c.is_up_to.ensures _ _ c.in_ok-ask.ensures _
+    (rw (← c.in_ok-size.ensures) (no_asked _ _ c.is_four_sizes.ensures _ _ c.in_err-ask-2.ensures))))
+
+pub overflow_add-count : goal.overflow_add-count
+overflow_add-count c = omega (arith, rw length-drop at (value_within _ c.in_ok-size.ensures))
 
 pub zones_at-requires : goal.zones_at-requires
-unfolding plan_of
-zones_at-requires c = count_most _ (sym c.is_up_to.ensures ∙ c.if-not-is_up_to.false)
+zones_at-requires c = count_most _ (told_yes _ c.is_up_to.ensures (asked_yes _ 12 _ c.in_ok-ask.ensures))
 
-pub returns-in-Refused : goal.returns-in-Refused
+pub returns : goal.returns
 unfolding plan_of
-returns-in-Refused c = rw (c.refused.ensures, ← c.read.ensures, c.in-Refused.is)
-
-pub returns-in-Refused-read : goal.returns-in-Refused-read
-unfolding plan_of
-returns-in-Refused-read c =
-    let count = sym c.is_up_to.ensures ∙ c.if-not-is_up_to.false in
-    rw (c.refused-in-Refused-read.ensures, ← c.read.ensures, c.in-Value.is, count, ← c.read-in-Value.ensures, c.in-Refused-read.is)
-
-pub returns-else-not-is_four_sizes : goal.returns-else-not-is_four_sizes
-unfolding plan_of
-returns-else-not-is_four_sizes c =
-    let count = sym c.is_up_to.ensures ∙ c.if-not-is_up_to.false in
-    let size = sym c.is_four_sizes.ensures ∙ c.if-not-is_four_sizes.false in
-    rw (c.zones_at.ensures, ← c.read.ensures, c.in-Value.is, count, ← c.read-in-Value.ensures, c.in-Value-read.is, size, drop-drop)
+returns c =
+    rw (← c.in_ok-count.ensures) (yes_asked _ _ c.is_up_to.ensures _ _ c.in_ok-ask.ensures _
+    (rw (← c.in_ok-size.ensures) (yes_asked _ _ c.is_four_sizes.ensures _ _ c.in_ok-ask-2.ensures _ (rw drop-drop c.zones_at.ensures))))

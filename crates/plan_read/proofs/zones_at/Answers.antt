@@ -1,37 +1,26 @@
-use Rattle.base.proofs.Prelude.{refl, ap, ◌∙◌, ◌-◌, arith, rules}
+use Rattle.base.proofs.Prelude.{refl}
+use Rattle.refusal.proofs.Asked.{answer_on}
 use Rattle.plan.specs.Plan.{in_places}
-use Rattle.plan_read.specs.Read.{answered}
-use Rattle.plan_read.proofs.Step.{Reading, begin, zone_none, zone_refused, again, too_long, whole}
+use Rattle.plan_read.proofs.Step.{begin, zone_none, zone_refused, again, too_long, whole}
 use Rattle.plan_read.proofs.zones_at.Goals as goal
 
 pub loop-k-init : goal.loop-k-init
 unfolding in_places
-loop-k-init c = let a = c.args in begin a.bytes.now a.at a.count a.size refl
+loop-k-init c = begin _ _ _ _ refl
 
-pub returns-in-Refused : goal.returns-in-Refused
-unfolding in_places
-returns-in-Refused c =
-    let found = c in
-    c.refused.ensures ∙ ap answered (zone_none found.loop-k.invariant found.loop-k-test.true _ found.zone_at.ensures c.in-Refused.is)
+pub returns-in_err-found : goal.returns-in_err-found
+returns-in_err-found c = answer_on _ _ c.from_residual.ensures.1 _ (zone_none c.loop-k.invariant c.loop-k-test.true _ c.in_err-found.ensures)
 
-pub returns-then-number-ne0 : goal.returns-then-number-ne0
-unfolding in_places
-returns-then-number-ne0 c =
-    let found = c in
-    c.refused-then-number-ne0.ensures
-    ∙ ap answered
-    (zone_refused found.loop-k.invariant found.loop-k-test.true _ found.zone_at.ensures c.in-Found.is c.zone_refusal-number.ensures c.if-number-ne0.true)
+pub returns-in_err-ask_zone : goal.returns-in_err-ask_zone
+returns-in_err-ask_zone c =
+    answer_on _ _ c.from_residual-in_err-ask_zone.ensures.1 _
+    (zone_refused c.loop-k.invariant c.loop-k-test.true _ c.in_ok-found.ensures _ c.in_err-ask_zone.ensures)
 
 pub loop-k-preserved : goal.loop-k-preserved
-unfolding in_places
-loop-k-preserved c =
-    let found = c in
-    again found.loop-k.invariant found.loop-k-test.true _ found.zone_at.ensures c.in-Found.is c.zone_refusal-number.ensures c.if-number-ne0.false found.requires
+loop-k-preserved c = again c.loop-k.invariant c.loop-k-test.true _ c.in_ok-found.ensures c.in_ok-ask_zone.ensures c.requires
 
-pub returns-then-next-bytes : goal.returns-then-next-bytes
-unfolding in_places
-returns-then-next-bytes c = c.refused-then-next-bytes.ensures ∙ ap answered (too_long c.loop-k.invariant c.loop-k-test.false c.if-next-bytes.true)
+pub returns-in_err-ask : goal.returns-in_err-ask
+returns-in_err-ask c = answer_on _ _ c.from_residual-in_err-ask.ensures.1 _ (too_long c.loop-k.invariant c.loop-k-test.false c.in_err-ask.ensures)
 
 pub returns : goal.returns
-unfolding in_places
-returns c = ap answered (whole c.loop-k.invariant c.loop-k-test.false (omega arith))
+returns c = whole c.loop-k.invariant c.loop-k-test.false c.in_ok-ask.ensures

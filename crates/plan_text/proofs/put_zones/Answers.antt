@@ -1,17 +1,16 @@
-use Rattle.base.proofs.Prelude.{◌-◌, ◌*◌, ◌≤◌, arith, rules}
+use Rattle.base.proofs.Prelude.{arith, rules}
 use Rattle.zone.specs.Zone.{unused}
-use Rattle.plan.proofs.{Places.length_mapped, Each.{Putting, put_begin, put_again, put_all, put_end}}
-use Rattle.plan_text.specs.Lines.{line_of}
+use Rattle.plan.proofs.{Places.length_mapped, Each.{put_begin, put_again, put_all, put_end}}
 use Rattle.plan_text.proofs.put_zones.Goals as goal
 
 pub loop-k-init : goal.loop-k-init
 loop-k-init c = (put_begin _ _ _ _ _ (search (length_mapped, rules) depth 8), omega arith)
 
-pub shape_of-dest-then-count-k : goal.shape_of-dest-then-count-k
-shape_of-dest-then-count-k c = c.loop-k.invariant.0.kept
+pub shape_of-dest-then-plan-k : goal.shape_of-dest-then-plan-k
+shape_of-dest-then-plan-k c = c.loop-k.invariant.0.kept
 
-pub returns-then-count-k : goal.returns-then-count-k
-returns-then-count-k c = put_all c.loop-k.invariant.0 c.if-count-k.true
+pub returns-then-plan-k : goal.returns-then-plan-k
+returns-then-plan-k c = put_all c.loop-k.invariant.0 c.if-plan-k.true
 
 pub put_line-at-requires : goal.put_line-at-requires
 put_line-at-requires c =

@@ -1,12 +1,8 @@
 -- `plan_text::put_zones` meets its contract: while lines are put, those that are done stand at the start.
-use Rattle.base.proofs.Prelude.{◌-◌, ◌*◌, ◌≤◌, arith, rules}
-use Rattle.zone.specs.Zone.{unused}
-use Rattle.plan.proofs.{Places.length_mapped, Each.{Putting, put_begin, put_again, put_all, put_end}}
+use Rattle.base.proofs.Prelude.{◌*◌, ◌≤◌}
+use Rattle.plan.proofs.{Each.{Putting}}
 use Rattle.plan_text.specs.Lines.{line_of}
 use Rattle.plan_text.proofs.put_zones.Given as goal
 
 abbrev pub invariant-loop-k : goal.invariant-loop-k
-invariant-loop-k l = Putting 8 line_of l.initial.dest l.count l.zones 0 l.dest l.at l.k × (l.at ≤ 84 * l.k)
-
-abbrev pub decreases-loop-k : goal.decreases-loop-k
-decreases-loop-k l = 8 - l.k
+invariant-loop-k l = Putting 8 line_of l.initial.dest l.plan.count l.plan.zones 0 l.dest l.at l.k × (l.at ≤ 84 * l.k)

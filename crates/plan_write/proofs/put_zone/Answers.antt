@@ -1,9 +1,8 @@
-use Rattle.base.proofs.Prelude.{◌+◌, ◌-◌, ◌≤◌, arith, length, take, rules}
+use Rattle.base.proofs.Prelude.{arith, rules}
 use Rattle.value.specs.Value.{encode}
-use Rattle.plan.specs.Plan.{each}
 use Rattle.plan_write.specs.Write.{zone_bytes}
-use Rattle.plan_write.proofs.Bytes.{Within, value_small, limits, within}
-use Rattle.plan.proofs.Each.{Putting, put_begin, put_room, put_again, put_all}
+use Rattle.plan_write.proofs.Bytes.{value_small, within}
+use Rattle.plan.proofs.Each.{put_begin, put_room, put_again, put_all}
 use Rattle.plan_write.proofs.put_zone.Goals as goal
 
 pub loop-k-init : goal.loop-k-init
@@ -13,9 +12,8 @@ loop-k-init c = (put_begin encode _ 4 _ _ (search rules), within c.requires.0, c
 pub write-next-requires : goal.write-next-requires
 unfolding zone_bytes
 write-next-requires c =
-    let loop = c.loop-k in
-    let in-loop = c.loop-k-test.true in
-    (value_small loop.k loop.invariant.1, put_room loop.invariant.0 0 in-loop in-loop loop.invariant.2)
+    let inv = c.loop-k.invariant in
+    (value_small c.loop-k.k inv.1, put_room inv.0 0 c.loop-k-test.true c.loop-k-test.true inv.2)
 
 pub loop-k-preserved : goal.loop-k-preserved
 unfolding zone_bytes

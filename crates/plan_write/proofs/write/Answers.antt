@@ -1,41 +1,30 @@
 -- `plan_write::write` meets its contract.
-use Rattle.base.proofs.Prelude.{sym, ◌∙◌, arith, rules}
+use Rattle.base.proofs.Prelude.{sym, arith}
 use lib.Seq.{length-take-le}
-use Rattle.plan.proofs.Judge.{Fit, fit_of}
-use Rattle.plan_write.proofs.Bytes.{plan_51, write_no, write_short, write_done}
+use borrow.Author.Tests.{leb-true}
+use Rattle.refusal.proofs.Asked.{asked_yes}
+use Rattle.plan.proofs.Judge.{fit_of}
+use Rattle.plan_write.proofs.Bytes.{plan_51, write_no, write_short, write_done, written_no}
 use Rattle.plan_write.proofs.write.Goals as goal
 
-fit : (c : goal.After-put_bytes-arg-1) → Fit c.args.plan
-fit c = fit_of _ (sym c.plan_refusal-number.ensures ∙ c.if-number-ne0.false)
+pub returns-in_err-ask_plan : goal.returns-in_err-ask_plan
+returns-in_err-ask_plan c = written_no _ _ _ c.from_residual.ensures.1 (write_no _ _ _ c.in_err-ask_plan.ensures)
 
-fit_2 : (c : goal.After-bytes-1) → Fit c.args.plan
-fit_2 c = fit_of _ (sym c.plan_refusal-number.ensures ∙ c.if-number-ne0.false)
+pub put_plan-n-requires : goal.put_plan-n-requires
+put_plan-n-requires c = let none = sym c.in_ok-ask_plan.ensures in (none, omega (arith, plan_51 (fit_of _ none)))
 
-fit_3 : (c : goal.Then-dest-n) → Fit c.args.plan
-fit_3 c = fit_of _ (sym c.plan_refusal-number.ensures ∙ c.if-number-ne0.false)
-
-fit_4 : (c : goal.After-slice_known-2-1) → Fit c.args.plan
-fit_4 c = fit_of _ (sym c.plan_refusal-number.ensures ∙ c.if-number-ne0.false)
+pub returns-in_err-ask : goal.returns-in_err-ask
+returns-in_err-ask c =
+    written_no _ _ _ c.from_residual-in_err-ask.ensures.1 (write_short _ _ (fit_of _ (sym c.in_ok-ask_plan.ensures)) _ c.put_plan-n.ensures c.in_err-ask.ensures)
 
 pub slice_bounds-bytes-end : goal.slice_bounds-bytes-end
-slice_bounds-bytes-end c = omega (arith, plan_51 (fit c), c.put_plan-n.ensures.next_is)
+slice_bounds-bytes-end c = omega (arith, plan_51 (fit_of _ (sym c.in_ok-ask_plan.ensures)), c.put_plan-n.ensures.next_is)
 
 pub slice_bounds-put_bytes-end : goal.slice_bounds-put_bytes-end
 slice_bounds-put_bytes-end c = sym (length-take-le _ _ (slice_bounds-bytes-end c.before))
 
-pub returns-then-number-ne0 : goal.returns-then-number-ne0
-returns-then-number-ne0 c = write_no _ _ c.plan_refusal-number.ensures c.if-number-ne0.true
-
-pub put_plan-n-requires : goal.put_plan-n-requires
-put_plan-n-requires c = (sym c.plan_refusal-number.ensures ∙ c.if-number-ne0.false, omega (arith, plan_51 (fit_2 c)))
-
-pub returns-then-dest-n : goal.returns-then-dest-n
-returns-then-dest-n c = write_short _ _ (fit_3 c) _ c.put_plan-n.ensures c.if-dest-n.true
-
 pub put_bytes-requires : goal.put_bytes-requires
-put_bytes-requires c = omega (arith, slice_bounds-put_bytes-end c, c.if-dest-n.false)
+put_bytes-requires c = omega (arith, slice_bounds-put_bytes-end c, leb-true _ _ (asked_yes _ 16 _ c.in_ok-ask.ensures))
 
 pub returns : goal.returns
-returns c =
-    let made = c in
-    write_done _ _ (fit_4 c) _ made.put_plan-n.ensures c.if-dest-n.false c.put_bytes.ensures
+returns c = write_done _ _ (fit_of _ (sym c.in_ok-ask_plan.ensures)) _ c.put_plan-n.ensures c.in_ok-ask.ensures c.put_bytes.ensures

@@ -1,42 +1,16 @@
-use borrow.Author.Rules.{rules}
-use mathlib.Core.Path.{◌≡◌, refl, sym}
-use lib.ListN.{length, take, length-set}
+-- `text::put_bytes` meets its contract.
+use mathlib.Core.{Path.{◌≡◌, refl}, List.{List, append_assoc}}
+use native.Mathlib.Omega.{arith}
+use lib.{ListN.length, Seq.drop-drop}
+use borrow.Rule.Slice.PartMut.{put_mid}
+use Prim.Native.Nat.{ℕ}
 use Rattle.text.specs.Text.{put}
-use Rattle.text.proofs.Laws.{put_none, put_next, all_bytes}
-use Prim.Native.Nat.{◌≤◌, ◌-◌}
 use Rattle.text.proofs.put_bytes.Goals as goal
 
-pub loop-i-init : goal.loop-i-init
-loop-i-init c = (search rules, sym (put_none _ _), refl)
-
-pub loop-i-preserved : goal.loop-i-preserved
-loop-i-preserved c =
-    let inv = c.loop-i.invariant in (
-      search rules,
-      rw inv.1 (put_next _ _ _ _ c.requires c.loop-i-test.true),
-      simp length-set inv.2,
-    )
-
-pub shape_of-dest : goal.shape_of-dest
-shape_of-dest c = c.loop-i.invariant.2
+-- a part that was copied is a text put at its place
+copied : (dest text : List ℕ) (at n : ℕ) → n ≡ length text → put_mid at n dest text ≡ put dest at text
+unfolding put
+copied dest text at n e = rw e (simp (append_assoc, drop-drop))
 
 pub returns : goal.returns
-returns c = let inv = c.loop-i.invariant in all_bytes _ _ _ _ _ inv.0 c.loop-i-test.false inv.1
-
-pub bounds-bytes-i : goal.bounds-bytes-i
-bounds-bytes-i c = search rules
-
-pub overflow_add-dest : goal.overflow_add-dest
-overflow_add-dest c = search rules
-
-pub bounds-dest-at : goal.bounds-dest-at
-bounds-dest-at c = search rules
-
-pub overflow_add-i : goal.overflow_add-i
-overflow_add-i c = search rules
-
-pub loop-i-smaller : goal.loop-i-smaller
-loop-i-smaller c = search rules
-
-pub overflow_add-result : goal.overflow_add-result
-overflow_add-result c = search rules
+returns c = record { next_is = refl; after_is = rw c.copy_from_slice.ensures.after (copied c.args.dest.now c.args.bytes.now c.args.at _ (omega arith)) }

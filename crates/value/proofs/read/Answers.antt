@@ -1,9 +1,10 @@
 -- `value::read` meets its contract: what each answer says is the value of the bytes from the place on.
-use Rattle.base.proofs.Prelude.{◌≡◌, sym, ap, ◌∙◌, List, ℕ, suc, ◌+◌, ◌<◌, ◌≤◌, arith, length, drop, get_or, rules}
+use Rattle.base.proofs.Prelude.{◌≡◌, sym, ap, ◌∙◌, List, ℕ, suc, ◌+◌, ◌-◌, ◌<◌, ◌≤◌, arith, length, drop, get_or, ltb, ltb-true, ltb-false}
 use native.Mathlib.Numerals.{add-one}
 use lib.{ListN.drop_of_length-le, Seq.drop-cons}
-use Rattle.base.specs.Answer.{Answer, accepted, refused}
-use Rattle.value.specs.Value.{Value, more, value_in, value_of}
+use Rattle.base.specs.Answer.{Answer, accepted, refused, ask}
+use Rattle.refusal.proofs.Asked.{answer_on, asked_no, asked_yes}
+use Rattle.value.specs.{declared.Value.Value, Value.{more, value_in, value_of}}
 use Rattle.value.proofs.Laws.{last, follow, some, nil}
 use Rattle.value.proofs.read.Goals as goal
 
@@ -53,66 +54,76 @@ module _ {s : List ℕ} {at a : ℕ} (f : Follows s at a) where
     unfolding value_in
     three h = two (follow_at 0 h)
 
-first : (c : goal.Then-s-at-le1) → let a = c.args in Follows a.s.now a.at c.wide-a.result
-first c = record { is = c.wide-a.ensures.0; inside = c.if-s-at.false; top = c.if-a-lt128.false }
+-- a test that was asked, answered yes and no
+below : {n m : ℕ} (k : ℕ) {x : Unit {0}} → accepted x ≡ ask (ltb n m) k (accepted tt) → n < m
+below k y = ltb-true _ _ (asked_yes _ k _ y)
 
-first_2 : (c : goal.Then-b-eq0) → let a = c.args in Follows a.s.now a.at c.wide-a.result
-first_2 c = record { is = c.wide-a.ensures.0; inside = c.if-s-at.false; top = c.if-a-lt128.false }
+no : {n m : ℕ} (k : ℕ) {number : ℕ} {r : Answer Value} → refused number ≡ ask {A = Unit {0}} (ltb n m) k (accepted tt) → (m ≤ n → refused k ≡ r) → refused number ≡ r
+no k h f = let p = asked_no _ k _ h in rw p.1 (f (ltb-false _ _ p.0))
 
-first_3 : (c : goal.Then-b-lt128) → let a = c.args in Follows a.s.now a.at c.wide-a.result
-first_3 c = record { is = c.wide-a.ensures.0; inside = c.if-s-at.false; top = c.if-a-lt128.false }
+-- the bytes that more follow, by the tests
+module _ {s : List ℕ} (at : ℕ) where
+  first : {a : ℕ} {x : Unit {0}} → a ≡ get_or s at 0 → accepted x ≡ ask (ltb at (length s)) 10 (accepted tt) → 128 ≤ a → Follows s at a
+  first e y m = record { is = e; inside = below 10 y; top = m }
 
-first_4 : (c : goal.Then-s-at-le2) → let a = c.args in Follows a.s.now a.at c.wide-a.result
-first_4 c = record { is = c.wide-a.ensures.0; inside = c.if-s-at.false; top = c.if-a-lt128.false }
+  second : {b : ℕ} {x : Unit {0}} → b ≡ get_or s (at + 1) 0 → accepted x ≡ ask (ltb 1 (length s - at)) 10 (accepted tt) → 128 ≤ b → Follows s (at + 1) b
+  second e y m = record { is = e; inside = omega (arith, below 10 y); top = m }
 
-first_5 : (c : goal.Then-c-eq0) → let a = c.args in Follows a.s.now a.at c.wide-a.result
-first_5 c = record { is = c.wide-a.ensures.0; inside = c.if-s-at.false; top = c.if-a-lt128.false }
-
-first_6 : (c : goal.Then-c-lt128) → let a = c.args in Follows a.s.now a.at c.wide-a.result
-first_6 c = record { is = c.wide-a.ensures.0; inside = c.if-s-at.false; top = c.if-a-lt128.false }
-
-second : (c : goal.Then-s-at-le2) → let a = c.args in Follows a.s.now (a.at + 1) c.wide-b.result
-second c = record { is = c.wide-b.ensures.0; inside = omega arith; top = c.if-b-lt128.false }
-
-second_2 : (c : goal.Then-c-eq0) → let a = c.args in Follows a.s.now (a.at + 1) c.wide-b.result
-second_2 c = record { is = c.wide-b.ensures.0; inside = omega arith; top = c.if-b-lt128.false }
-
-second_3 : (c : goal.Then-c-lt128) → let a = c.args in Follows a.s.now (a.at + 1) c.wide-b.result
-second_3 c = record { is = c.wide-b.ensures.0; inside = omega arith; top = c.if-b-lt128.false }
-
-pub returns-then-s-at : goal.returns-then-s-at
-returns-then-s-at c = sym (none-at 2 _ _ c.if-s-at.true)
+pub returns-in_err-ask : goal.returns-in_err-ask
+returns-in_err-ask c = answer_on _ _ c.from_residual.ensures.1 _ (no 10 c.in_err-ask.ensures (λ f. sym (none-at 2 _ _ f)))
 
 pub returns-then-a-lt128 : goal.returns-then-a-lt128
-returns-then-a-lt128 c = sym (last-at 2 _ _ _ c.wide-a.ensures.0 c.if-s-at.false c.if-a-lt128.true)
+returns-then-a-lt128 c = sym (last-at 2 _ _ _ c.from-a.ensures (below 10 c.in_ok-ask.ensures) c.if-a-lt128.true)
 
-pub returns-then-s-at-le1 : goal.returns-then-s-at-le1
-returns-then-s-at-le1 c = one_none (first c) (omega arith)
+pub returns-in_err-ask-2 : goal.returns-in_err-ask-2
+returns-in_err-ask-2 c =
+    let a = first _ c.from-a.ensures c.in_ok-ask.ensures c.if-a-lt128.false in
+    answer_on _ _ c.from_residual-in_err-ask-2.ensures.1 _ (no 10 c.in_err-ask-2.ensures (λ f. one_none a (omega arith)))
 
-pub returns-then-b-eq0 : goal.returns-then-b-eq0
-returns-then-b-eq0 c = sym (nil _ _ 1 c.if-b-eq0.true) ∙ one_last (first_2 c) c.wide-b.ensures.0 (omega arith) (omega arith)
+pub returns-in_err-ask-3 : goal.returns-in_err-ask-3
+returns-in_err-ask-3 c =
+    let a = first _ c.from-a.ensures c.in_ok-ask.ensures c.if-a-lt128.false in
+    let no' = asked_no _ 11 _ c.in_err-ask-3.ensures in
+    let none : c.from-b.result ≡ 0 = omega (arith, ltb-false, no'.0) in
+    answer_on _ _ c.from_residual-in_err-ask-3.ensures.1 _
+    (rw no'.1 (sym (nil _ _ 1 none) ∙ one_last a c.from-b.ensures (omega (arith, below 10 c.in_ok-ask-2.ensures)) (omega arith)))
 
 pub returns-then-b-lt128 : goal.returns-then-b-lt128
-returns-then-b-lt128 c = sym (some _ _ 1 (λ z. omega arith)) ∙ one_last (first_3 c) c.wide-b.ensures.0 (omega arith) c.if-b-lt128.true
+returns-then-b-lt128 c =
+    let a = first _ c.from-a.ensures c.in_ok-ask.ensures c.if-a-lt128.false in
+    let worth : 0 < c.from-b.result = omega (arith, ltb-true, asked_yes _ 11 _ c.in_ok-ask-3.ensures) in
+    sym (some _ _ 1 (λ z. omega arith)) ∙ one_last a c.from-b.ensures (omega (arith, below 10 c.in_ok-ask-2.ensures)) c.if-b-lt128.true
 
-pub returns-then-s-at-le2 : goal.returns-then-s-at-le2
-returns-then-s-at-le2 c = two_none (first_4 c) (second c) (omega arith)
+pub returns-in_err-ask-4 : goal.returns-in_err-ask-4
+returns-in_err-ask-4 c =
+    let a = first _ c.from-a.ensures c.in_ok-ask.ensures c.if-a-lt128.false in
+    let b = second _ c.from-b.ensures c.in_ok-ask-2.ensures c.if-b-lt128.false in
+    answer_on _ _ c.from_residual-in_err-ask-4.ensures.1 _ (no 10 c.in_err-ask-4.ensures (λ f. two_none a b (omega arith)))
 
-pub returns-then-c-eq0 : goal.returns-then-c-eq0
-returns-then-c-eq0 c =
-    ap (more _) (sym (nil _ _ 1 c.if-c-eq0.true))
-    ∙ two-last (first_5 c) (second_2 c) c.wide-c.ensures.0 (omega arith) (omega arith)
+pub returns-in_err-ask-5 : goal.returns-in_err-ask-5
+returns-in_err-ask-5 c =
+    let a = first _ c.from-a.ensures c.in_ok-ask.ensures c.if-a-lt128.false in
+    let b = second _ c.from-b.ensures c.in_ok-ask-2.ensures c.if-b-lt128.false in
+    let no' = asked_no _ 11 _ c.in_err-ask-5.ensures in
+    let none : c.from-c.result ≡ 0 = omega (arith, ltb-false, no'.0) in
+    answer_on _ _ c.from_residual-in_err-ask-5.ensures.1 _
+    (rw no'.1
+    (ap (more c.from-a.result) (sym (nil c.from-b.result c.from-c.result 1 none))
+    ∙ two-last a b c.from-c.ensures (omega (arith, below 10 c.in_ok-ask-4.ensures)) (omega arith)))
 
-pub returns-then-c-lt128 : goal.returns-then-c-lt128
-returns-then-c-lt128 c =
-    let nonzero = c.if-c-eq0.false in
-    sym (some _ _ 2 (λ z. nonzero (omega arith)))
-    ∙ ap (more _) (sym (some _ _ 1 nonzero))
-    ∙ two-last (first_6 c) (second_3 c) c.wide-c.ensures.0 (omega arith) c.if-c-lt128.true
+pub returns-in_err-ask-6 : goal.returns-in_err-ask-6
+returns-in_err-ask-6 c =
+    let a = first _ c.from-a.ensures c.in_ok-ask.ensures c.if-a-lt128.false in
+    let b = second _ c.from-b.ensures c.in_ok-ask-2.ensures c.if-b-lt128.false in
+    let no' = asked_no _ 11 _ c.in_err-ask-6.ensures in
+    let top : 128 ≤ c.from-c.result = omega (arith, ltb-false, no'.0) in
+    answer_on _ _ c.from_residual-in_err-ask-6.ensures.1 _
+    (rw no'.1 (three a b (record { is = c.from-c.ensures; inside = omega (arith, below 10 c.in_ok-ask-4.ensures); top = top })))
 
 pub returns : goal.returns
 returns c =
-    three
-    (record { is = c.wide-a.ensures.0; inside = c.if-s-at.false; top = c.if-a-lt128.false })
-    (record { is = c.wide-b.ensures.0; inside = omega arith; top = c.if-b-lt128.false })
-    (record { is = c.wide-c.ensures.0; inside = omega arith; top = omega arith })
+    let a = first _ c.from-a.ensures c.in_ok-ask.ensures c.if-a-lt128.false in
+    let b = second _ c.from-b.ensures c.in_ok-ask-2.ensures c.if-b-lt128.false in
+    let worth : 0 < c.from-c.result = omega (arith, ltb-true, asked_yes _ 11 _ c.in_ok-ask-5.ensures) in
+    let end : c.from-c.result < 128 = omega (arith, ltb-true, asked_yes _ 11 _ c.in_ok-ask-6.ensures) in
+    sym (some _ _ 2 (λ z. omega arith)) ∙ ap (more _) (sym (some _ _ 1 (λ z. omega arith))) ∙ two-last a b c.from-c.ensures (omega (arith, below 10 c.in_ok-ask-4.ensures)) end
