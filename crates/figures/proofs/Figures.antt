@@ -7,7 +7,7 @@ use Rattle.carriers.specs.{Band.carrier_of, Bin.{bin_pilot_place, used_of_data}}
 use Rattle.ofusc.specs.{Width.{Width, n4, n8, n16, n32}, Field.{modulus, coefficient, product, remainder, times, power, p1, p2}}
 use Rattle.ofusc.specs.Map.{group_of, term, cell_term, data_number}
 use Rattle.amc.specs.{Element.{add, sequence, times as product'}, Map.{off, zero_rule, element_of, traffic}}
-use Rattle.modes.specs.{Setup.setup_with, Mode.{width, width_of, cells_of, subchannels_of, symbols_of, band_of}, Question.{is_four_sizes, is_cell, is_subchannel}}
+use Rattle.modes.specs.{Setup.setup_with, Mode.{width_of, cells_of, subchannels_of, symbols_of, band_of}, Question.{is_four_sizes, is_cell, is_subchannel}}
 use Rattle.formulas.specs.Formula.{spot_of}
 use Rattle.map.specs.Place.{Place, place_of}
 use Rattle.modes.proofs.{Accept.width_is, ByMode.in_ofusc}

@@ -10,63 +10,49 @@
 // made by tests/vectors.py.
 #![tactic(auto)]
 
-ghost use Rattle.std.specs.Prelude.{◌<◌, length, IfOk};
-
 use plan::Plan;
-use plan_read::ReadPlan;
-use plan_write::Written;
 use std::io;
-use vector_lines::{fields, least, line_end, print, print_number};
+use vector_lines::answer_lines;
 use zone::{UNUSED, Zone};
 
 fn main(rt: HostRuntime) -> io::Result<()> {
     let mut input = [0u8; 262144];
     let n = reading::read_full(&mut rt.stdin(), &mut input)?;
-    answer_all(&rt, &input[..n])
-}
-
-fn answer_all(rt: &impl Print, input: &[u8]) -> io::Result<()> {
-    let mut at = 0;
-    while at < input.len() {
-        at = answer_line(rt, input, at)?;
-    }
-    Ok(())
-}
-
-// Answers the line at a place of the input, and gives the place of the next one.
-fn answer_line(rt: &impl Print, input: &[u8], at: usize) -> io::Result<usize>
-    requires { at < length input.now }
-    ensures { IfOk result (λ next. at < next) }
-{
-    let end = line_end(input, at);
-    print(rt, &input[at..end])?;
-    print(rt, b":")?;
-    answer(rt, input[at], fields(input, at + 1))?;
-    print(rt, b"\n")?;
-    Ok(end + 1)
+    answer_lines(&rt, &input[..n], |operation, f| answer(&rt, operation, f))
 }
 
 fn answer(rt: &impl Print, operation: u8, f: [usize; 192]) -> io::Result<()> {
-    if operation == b'r' {
-        answer_read(rt, f)
-    } else {
-        answer_write(rt, f)
+    match operation {
+        b'r' => answer_read(rt, f),
+        _ => answer_write(rt, f),
     }
 }
 
 fn answer_read(rt: &impl Print, f: [usize; 192]) -> io::Result<()> {
     let bytes = bytes_of(f);
-    let n = least(f[0], 63);
-    print_read(rt, plan_read::read(&bytes[..n]))
+    let n = f[0].min(63);
+    match plan_read::read(&bytes[..n]) {
+        Ok(plan) => {
+            print!(rt; " 0")?;
+            print_plan(rt, plan)
+        }
+        Err(refusal) => {
+            print!(rt; " {}", u32::from(refusal))?;
+            let none = Plan {
+                count: 0,
+                size: 0,
+                zones: [UNUSED; 8],
+            };
+            print_plan(rt, none)
+        }
+    }
 }
 
 // The bytes behind the first number of a line.
 fn bytes_of(f: [usize; 192]) -> [u8; 63] {
     let mut bytes = [0u8; 63];
-    let mut i = 0;
-    while i < 63 {
+    for i in 0..63 {
         bytes[i] = (f[i + 1] % 256) as u8;
-        i += 1;
     }
     bytes
 }
@@ -79,71 +65,36 @@ fn answer_write(rt: &impl Print, f: [usize; 192]) -> io::Result<()> {
         zones: zones,
     };
     let mut dest = [238u8; 56];
-    let n = least(f[0], 56);
-    let answer = plan_write::write(plan, &mut dest[..n]);
-    print_written(rt, answer)?;
-    print_bytes(rt, dest)
+    let n = f[0].min(56);
+    match plan_write::write(plan, &mut dest[..n]) {
+        Ok(written) => print!(rt; " 0 {written}")?,
+        Err(refusal) => print!(rt; " {} 0", u32::from(refusal))?,
+    }
+    for byte in &dest {
+        print!(rt; " {byte}")?;
+    }
+    Ok(())
 }
 
 // The eight places behind the first three numbers of a line.
 fn zones_of(f: [usize; 192]) -> [Zone; 8] {
     let mut zones = [UNUSED; 8];
-    let mut k = 0;
-    while k < 8 {
+    for k in 0..8 {
         zones[k] = Zone {
             mode: f[4 * k + 3],
             cell: f[4 * k + 4],
             slots: f[4 * k + 5],
             mask: f[4 * k + 6],
         };
-        k += 1;
     }
     zones
 }
 
-fn print_read(rt: &impl Print, answer: ReadPlan) -> io::Result<()> {
-    let plan = answer.plan;
-    print_number(rt, b' ', answer.refusal as usize)?;
-    print_number(rt, b' ', plan.count)?;
-    print_number(rt, b' ', plan.size)?;
+fn print_plan(rt: &impl Print, plan: Plan) -> io::Result<()> {
+    print!(rt; " {} {}", plan.count, plan.size)?;
     let zones = plan.zones;
-    print_zones(rt, zones)
-}
-
-fn print_zones(rt: &impl Print, zones: [Zone; 8]) -> io::Result<()> {
-    let mut k = 0;
-    while k < 8 {
-        print_zone(rt, zones[k])?;
-        k += 1;
-    }
-    Ok(())
-}
-
-fn print_zone(rt: &impl Print, zone: Zone) -> io::Result<()> {
-    print_number(rt, b' ', zone.mode)?;
-    print_number(rt, b' ', zone.cell)?;
-    print_number(rt, b' ', zone.slots)?;
-    print_number(rt, b' ', zone.mask)
-}
-
-fn print_written(rt: &impl Print, answer: Written) -> io::Result<()> {
-    match answer {
-        Written::Bytes(n) => {
-            print_number(rt, b' ', 0)?;
-            print_number(rt, b' ', n)
-        }
-        Written::Refused(number) => {
-            print_number(rt, b' ', number as usize)?;
-            print_number(rt, b' ', 0)
-        }
-    }
-}
-
-fn print_bytes(rt: &impl Print, bytes: [u8; 56]) -> io::Result<()> {
-    let mut i = 0;
-    while i < 56 {
-        print_number(rt, b' ', bytes[i] as usize)?;
-        i += 1;
+    for zone in &zones {
+        print!(rt; " {} {} {} {}", zone.mode, zone.cell, zone.slots, zone.mask)?;
     }
     Ok(())
 }

@@ -1,5 +1,5 @@
 -- How the programs that answer vectors read a number. No reader needs this to know what the calls do.
-use Rattle.std.specs.Prelude.{ℕ, suc, ◌+◌, ◌-◌, ◌*◌, ◌^◌, min, cond, List, [], ◌∷◌, ltb, eqb, drop}
+use Rattle.std.specs.Prelude.{ℕ, suc, ◌+◌, ◌-◌, ◌*◌, ◌^◌, min, cond, List, [], ◌∷◌, ltb, eqb, drop, Option, Some, None}
 
 -- A number read from text, and the place after its last digit.
 pub record Numeral : Type 0 where
@@ -12,6 +12,10 @@ numeral value next = record { value = value; next = next }
 -- The digit that an ASCII byte stands for, or 10 where it stands for none.
 unfoldable pub digit_of : (byte : ℕ) → ℕ
 digit_of byte = cond (ltb byte 48) 10 (cond (ltb 57 byte) 10 (byte - 48))
+
+-- A digit, or none for 10.
+unfoldable pub as_digit : (digit : ℕ) → Option ℕ
+as_digit digit = cond (ltb digit 10) (Some digit) None
 
 -- A number with one more digit, or the largest of 64 bits where these do not hold it.
 unfoldable pub with_digit : (value digit : ℕ) → ℕ

@@ -1,8 +1,8 @@
-// What the programs that answer the stored vectors have in common: the lines of the input, the numbers of a line, and printing.
+// What the programs that answer the stored vectors have in common: the lines of the input, and the numbers of a line.
 #![tactic(auto)]
 
-ghost use Rattle.std.specs.Prelude.{◌≡◌, ◌≤◌, ◌<◌, length, get_or, drop};
-ghost use Rattle.vector_lines.specs.Model.{numeral, digit_of, with_digit, past_spaces, parsed_at};
+ghost use Rattle.std.specs.Prelude.{◌≡◌, ◌≤◌, ◌<◌, length, get_or, drop, IfOk};
+ghost use Rattle.vector_lines.specs.Model.{numeral, digit_of, as_digit, past_spaces, parsed_at};
 
 use std::io;
 
@@ -19,12 +19,10 @@ pub fn read_number(src: &[u8], at: usize) -> Number
     ensures { numeral result.value result.next ≡ parsed_at src.now at }
 {
     let mut next = past_spaces(src, at);
-    let mut value = 0;
-    let mut digit = digit_at(src, next);
-    while digit < 10 {
-        value = with_digit(value, digit);
+    let mut value = 0usize;
+    while let Some(digit) = digit_at(src, next) {
+        value = value.saturating_mul(10).saturating_add(digit);
         next += 1;
-        digit = digit_at(src, next);
     }
     Number {
         value: value,
@@ -36,6 +34,7 @@ pub fn read_number(src: &[u8], at: usize) -> Number
 fn past_spaces(src: &[u8], at: usize) -> usize
     ensures { result ≡ past_spaces at (drop at src.now) }
 {
+    // A scan by its place: `skip`, `take_while` and `count` are no plainer, and `past_spaces` of the contract is no rule of theirs.
     let mut next = at;
     while next < src.len() && src[next] == b' ' {
         next += 1;
@@ -43,32 +42,15 @@ fn past_spaces(src: &[u8], at: usize) -> usize
     next
 }
 
-// The digit at a place of `src`, or 10 where there is none.
-fn digit_at(src: &[u8], at: usize) -> usize
-    ensures { result ≡ digit_of (get_or src.now at 0) }
+// The digit at a place of `src`.
+fn digit_at(src: &[u8], at: usize) -> Option<usize>
+    ensures { result ≡ as_digit (digit_of (get_or src.now at 0)) }
 {
-    if at >= src.len() {
-        return 10;
+    let byte = *src.get(at)?;
+    if byte < b'0' || byte > b'9' {
+        return None;
     }
-    let byte = src[at];
-    if byte < b'0' {
-        return 10;
-    }
-    if byte > b'9' {
-        return 10;
-    }
-    (byte - b'0') as usize
-}
-
-// A number with one more digit, or usize::MAX where it is larger than that.
-fn with_digit(value: usize, digit: usize) -> usize
-    requires { digit < 10 }
-    ensures { result ≡ with_digit value digit }
-{
-    if value > (usize::MAX - digit) / 10 {
-        return usize::MAX;
-    }
-    value * 10 + digit
+    Some(usize::from(byte - b'0'))
 }
 
 // The place of the line feed that ends the line at a place of `src`, or src's length.
@@ -76,44 +58,55 @@ pub fn line_end(src: &[u8], at: usize) -> usize
     requires { at ≤ length src.now }
     ensures { (at ≤ result) × (result ≤ length src.now) }
 {
-    let mut end = at;
-    while end < src.len() && src[end] != b'\n' {
-        end += 1;
+    match src[at..].iter().position(|&byte| byte == b'\n') {
+        Some(n) => at + n,
+        None => src.len(),
     }
-    end
 }
 
 // The numbers of a line from a place on, 192 at most; those that it does not have are 0.
 pub fn fields(input: &[u8], from: usize) -> [usize; 192] {
     let mut fields = [0usize; 192];
     let mut at = from;
-    let mut i = 0;
-    while i < 192 {
+    for field in &mut fields {
         let number = read_number(input, at);
-        fields[i] = number.value;
+        *field = number.value;
         at = number.next;
-        i += 1;
     }
     fields
 }
 
-pub fn least(n: usize, most: usize) -> usize
-    ensures { result ≤ most }
+// Writes each line of the input back, with a colon and its answer behind it. The answer is that of the line's first byte and
+// the numbers behind it.
+pub fn answer_lines<P: Print, F: Fn(u8, [usize; 192]) -> io::Result<()>>(
+    rt: &P,
+    input: &[u8],
+    answer: F,
+) -> io::Result<()>
+    requires { F.IsAlwaysCallable answer }
 {
-    if n < most {
-        return n;
+    let mut at = 0;
+    while at < input.len() {
+        at = answer_line(rt, input, at, &answer)?;
     }
-    most
+    Ok(())
 }
 
-pub fn print(rt: &impl Print, bytes: &[u8]) -> io::Result<()> {
-    rt.write_all(bytes)
-}
-
-// Prints a mark and a number behind it.
-pub fn print_number(rt: &impl Print, mark: u8, x: usize) -> io::Result<()> {
-    let mut out = [0u8; 21];
-    let at = text::put_byte(&mut out, 0, mark);
-    let end = text::put_number(&mut out, at, x);
-    print(rt, &out[..end])
+// Answers the line at a place of the input, and gives the place of the next one.
+fn answer_line<P: Print, F: Fn(u8, [usize; 192]) -> io::Result<()>>(
+    rt: &P,
+    input: &[u8],
+    at: usize,
+    answer: &F,
+) -> io::Result<usize>
+    requires at { at < length input.now }
+    requires answer { F.IsAlwaysCallable answer.now }
+    ensures { IfOk result (λ next. at < next) }
+{
+    let end = line_end(input, at);
+    rt.write_all(&input[at..end])?;
+    rt.write_all(b":")?;
+    answer(input[at], fields(input, at + 1))?;
+    rt.write_all(b"\n")?;
+    Ok(end + 1)
 }

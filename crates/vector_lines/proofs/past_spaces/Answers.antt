@@ -1,9 +1,6 @@
-use borrow.Author.{Rules.rules, Tests.{eq-eqb, ne_eqb}}
-use mathlib.Core.Path.{◌≡◌, refl, sym, ◌∙◌}
-use lib.ListN.{length, drop}
-use Rattle.vector_lines.specs.Model.{past_spaces}
+use borrow.Author.{Tests.{eq-eqb, ne_eqb}}
+use mathlib.Core.Path.{refl, sym, ◌∙◌}
 use Rattle.vector_lines.proofs.Reading.{space_more, space_none, space_end}
-use Prim.Native.Nat.{◌-◌}
 use Rattle.vector_lines.proofs.past_spaces.Goals as goal
 
 pub loop-next-init : goal.loop-next-init

@@ -1,9 +1,7 @@
 -- `vector_lines::past_spaces` meets its contract. The loop's invariant: what is left gives the answer. The measure is what is left of the source.
-use borrow.Author.Rules.{rules}
-use mathlib.Core.Path.{◌≡◌, refl, sym, ◌∙◌}
+use mathlib.Core.Path.{◌≡◌}
 use lib.ListN.{length, drop}
 use Rattle.vector_lines.specs.Model.{past_spaces}
-use Rattle.vector_lines.proofs.Reading.{space_more, space_none, space_end}
 use Prim.Native.Nat.{◌-◌}
 use Rattle.vector_lines.proofs.past_spaces.Given as goal
 

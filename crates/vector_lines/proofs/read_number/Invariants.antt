@@ -1,15 +1,10 @@
 -- `vector_lines::read_number` meets its contract. The loop's invariant: what is left gives the answer. The measure is what is left of the source.
-use borrow.Author.Rules.{rules}
-use native.Mathlib.Omega.{arith}
-use mathlib.Core.Path.{◌≡◌, sym, ap, ◌∙◌}
-use lib.ListN.{length, get_or, drop}
-use Rattle.vector_lines.specs.Model.{digit_of, read_on, parsed_at}
-use Rattle.vector_lines.proofs.Reading.{within, reads_on, reads_end}
-use Prim.Native.Nat.{ℕ, ◌-◌, ◌<◌}
+use Rattle.std.proofs.Common.{◌≡◌, ◌-◌, length, drop}
+use Rattle.vector_lines.specs.Model.{read_on, parsed_at}
 use Rattle.vector_lines.proofs.read_number.Given as goal
 
 abbrev pub invariant-loop-digit : goal.invariant-loop-digit
-invariant-loop-digit l = (read_on l.value l.next (drop l.next l.src) ≡ parsed_at l.src l.at) × (l.digit ≡ digit_of (get_or l.src l.next 0))
+invariant-loop-digit l = read_on l.value l.next (drop l.next l.src) ≡ parsed_at l.src l.at
 
 abbrev pub decreases-loop-digit : goal.decreases-loop-digit
 decreases-loop-digit l = length l.src - l.next

@@ -1,6 +1,0 @@
--- `collision_vectors::answer_all` ends. The measure is what is left of the input.
-use Rattle.std.proofs.Common.{◌-◌, length}
-use Rattle.collision_vectors.proofs.answer_all.Given as goal
-
-abbrev pub decreases-loop-at : goal.decreases-loop-at
-decreases-loop-at g l = length l.input - l.at
