@@ -1,5 +1,5 @@
 -- Document 02, wish 7: "for a slot and subchannel the first and only owner, or none", and the row of the owners of one slot.
-use Rattle.std.specs.Prelude.{List, ℕ, Result, Ok, Err}
+use Rattle.std.specs.Prelude.{List, ℕ, Option, Some, None, Result, Ok, Err}
 use Rattle.base.specs.Choice.{pick}
 use Rattle.base.specs.Answer.{Answer, accepted, refused, ask}
 use Rattle.base.specs.Tabulate.{tabulate}
@@ -10,6 +10,7 @@ use Rattle.zone.specs.declared.Zone.{Zone}
 use Rattle.zone.specs.Zone.{setup_of, ask_fields}
 use Rattle.burst_owner.specs.declared.Owned.{Owned}
 use Rattle.burst_owner.specs.Owner.{no_owner, owner_at, looked_at}
+use Rattle.bursts.specs.declared.OwnerRow.{OwnerRow}
 use Rattle.bursts.specs.Burst.{ask_bursts}
 
 -- "Then 4 and 5 where a slot or subchannel is given": they come between the zone's questions and the list's.
@@ -53,10 +54,18 @@ pub record RowAnswer : Type 0 where
   pub refusal : ℕ
   pub owners : List ℕ
 
--- What an answer of `owners` says. "A refusal's row is all 64."
+-- What the row of a slot, or its refusal, says. "A refusal's row is all 64."
 abbrev pub row_said : (answer : Result (List ℕ) Refusal) → RowAnswer
 row_said (Ok row) = record { refusal = 0; owners = row }
 row_said (Err refusal) = record { refusal = number_of refusal; owners = tabulate 192 (λ s. no_owner) }
+
+-- What an answer of `owners` says, which has a row with a refusal too.
+abbrev pub number_told : (refusal : Option Refusal) → ℕ
+number_told None = 0
+number_told (Some refusal) = number_of refusal
+
+abbrev pub row_given : (answer : OwnerRow) → RowAnswer
+row_given answer = record { refusal = number_told answer.refusal; owners = answer.owners }
 
 abbrev pub owner_row : (row : ℕ → ℕ) (answer : Answer (Unit {0})) → RowAnswer
 owner_row row (accepted tt) = record { refusal = 0; owners = tabulate 192 row }

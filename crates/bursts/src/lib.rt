@@ -6,12 +6,20 @@ ghost use Rattle.refusal.specs.Refusal.{refusal_in};
 ghost use Rattle.modes.specs.Mode.{subchannels as Subchannels};
 ghost use Rattle.zone.specs.Zone.{setup_of};
 ghost use Rattle.bursts.specs.Burst.{check_of};
-ghost use Rattle.bursts.specs.Owner.{owner_said, owner_of, row_said, owners_of};
+ghost use Rattle.bursts.specs.Owner.{owner_said, owner_of, row_said, row_given, owners_of};
 
 use burst_owner::Owned;
 use modes::Setup;
 use refusal::{Refusal, ask};
 use zone::Zone;
+
+// What asking for a slot's owners answers: the first refusal, if any; and for each subchannel the owner's position in the list, or
+// 64. It is no Result, since a refusal's row is asked for too: all 64, as `BurstLaw` has it.
+#[derive(Clone, Copy)]
+pub struct OwnerRow {
+    pub refusal: Option<Refusal>,
+    pub owners: [u8; 192],
+}
 
 // The subchannels of a zone's mode and size.
 fn subchannels(size: usize, zone: Zone) -> usize
@@ -50,12 +58,28 @@ pub fn owner(
     Ok(burst_owner::first_owner(slot, subchannel, bursts))
 }
 
-// Who owns each subchannel of a slot, by the position in the list, or 64 for none; or the first refusal.
-pub fn owners(size: usize, zone: Zone, slot: usize, bursts: &[u32]) -> Result<[u8; 192], Refusal>
+// The row of a slot's owners, or the first refusal.
+fn slot_row(size: usize, zone: Zone, slot: usize, bursts: &[u32]) -> Result<[u8; 192], Refusal>
     ensures { row_said result ≡ owners_of size zone slot bursts.now }
 {
     zone::ask_fields(size, zone)?;
     ask(slot < 512, Refusal::Slot)?;
     burst_list::ask_list(subchannels(size, zone), zone.slots, bursts)?;
     Ok(burst_owner::marked_row(bursts, slot))
+}
+
+// Who owns each subchannel of a slot, with the first refusal.
+pub fn owners(size: usize, zone: Zone, slot: usize, bursts: &[u32]) -> OwnerRow
+    ensures { row_given result ≡ owners_of size zone slot bursts.now }
+{
+    match slot_row(size, zone, slot, bursts) {
+        Ok(owners) => OwnerRow {
+            refusal: None,
+            owners,
+        },
+        Err(refusal) => OwnerRow {
+            refusal: Some(refusal),
+            owners: [64; 192],
+        },
+    }
 }

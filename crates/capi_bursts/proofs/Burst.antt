@@ -1,12 +1,13 @@
 -- What the owner of a subchannel and a row of owners come to at the C boundary.
-use Rattle.std.specs.Prelude.{Ok}
+use Rattle.std.specs.Prelude.{Some, None, Ok}
 use Rattle.base.proofs.Prelude.{◌≡◌, ap, List, ℕ, ◌≤◌, ne_eqb}
 use Rattle.refusal.specs.{declared.Refusal.Refusal, Refusal.number_of}
 use Rattle.refusal.proofs.Asked.{number_ne0}
 use Rattle.base.specs.Tabulate.{tabulate}
 use Rattle.zone.specs.declared.Zone.{Zone}
 use Rattle.burst_owner.specs.{declared.Owned.Owned, Owner.no_owner}
-use Rattle.bursts.specs.Owner.{OwnerAnswer, RowAnswer, owner_said, owner_of}
+use Rattle.bursts.specs.declared.OwnerRow.{OwnerRow}
+use Rattle.bursts.specs.Owner.{OwnerAnswer, RowAnswer, row_given, owner_said, owner_of}
 use Rattle.bursts.proofs.Law.{owner_most}
 use Rattle.capi_bursts.specs.Burst.{owner_out, owners_out}
 use Rattle.c_boundary.specs.Row.{row_out}
@@ -22,6 +23,12 @@ module _ (e : Refusal) {n : ℕ} (f : n ≡ number_of e) where
   unfolding owner_out
   owner_no owner looked h = rw (← h, ne_eqb (number_of e) 0 (number_ne0 e), f)
 
-  pub row_no : {answer : RowAnswer} (row : List ℕ) → record { refusal = number_of e; owners = tabulate 192 (λ s. no_owner) } ≡ answer → record { refusal = n; row = row } ≡ owners_out answer row
+-- a row with the refusal that it has
+module _ (found : OwnerRow) (row : List ℕ) where
+  pub row_yes : {answer : RowAnswer} → found.refusal ≡ None → row_given found ≡ answer → record { refusal = 0; row = found.owners } ≡ owners_out answer row
   unfolding row_out
-  row_no row h = rw (← h, ne_eqb (number_of e) 0 (number_ne0 e), f)
+  row_yes h g = rw (← g, h)
+
+  pub row_no : {answer : RowAnswer} (e : Refusal) {n : ℕ} → found.refusal ≡ Some e → n ≡ number_of e → row_given found ≡ answer → record { refusal = n; row = row } ≡ owners_out answer row
+  unfolding row_out
+  row_no e h f g = rw (← g, h, ne_eqb (number_of e) 0 (number_ne0 e), f)

@@ -80,11 +80,13 @@ pub extern "C" fn bp_burst_owners(
     ensures { record { refusal = result; row = owners.new } ≡ owners_out (owners_of size (record { mode = mode; cell = cell; slots = slots; mask = mask }) slot bursts.now) owners.old }
 {
     let of = zone(mode, cell, slots, mask);
-    match bursts::owners(size as usize, of, slot as usize, bursts) {
-        Ok(row) => {
+    let found = bursts::owners(size as usize, of, slot as usize, bursts);
+    match found.refusal {
+        None => {
+            let row = found.owners;
             *owners = row;
             0
         }
-        Err(refusal) => u32::from(refusal),
+        Some(refusal) => u32::from(refusal),
     }
 }

@@ -11,7 +11,7 @@ use Rattle.zone.specs.declared.Zone.{Zone}
 use Rattle.plan.specs.declared.Plan.{Plan}
 use Rattle.plan.specs.Plan.{each}
 use Rattle.plan_read.specs.Read.{plan_with, plan_of}
-use Rattle.burst_owner.specs.declared.Owned.{Owned}
+use Rattle.bursts.specs.Owner.{OwnerAnswer}
 use Rattle.bursts.specs.Burst.{check_of}
 use Rattle.bursts.specs.Owner.{owner_of}
 

@@ -1,5 +1,5 @@
 -- `empty::empty_first` meets its contract.
-use Rattle.base.proofs.Prelude.{refl, sym, ◌∙◌, arith}
+use Rattle.base.proofs.Prelude.{refl, sym}
 use Rattle.refusal.proofs.Asked.{refusal_on, number_ne0}
 use Rattle.lengths.proofs.Refusal.{mask_few}
 use Rattle.questions.proofs.Refusal.{empty_numbered, empty_accepted}

@@ -1,7 +1,7 @@
 use Rattle.base.proofs.Prelude.{◌∙◌, rules}
-use Rattle.modes.specs.{Setup.alone, Model.own}
+use Rattle.modes.specs.{Model.own}
 use Rattle.modes.proofs.Lent.{valid_alone}
-use Rattle.empty.proofs.Rows.{SlotTurn, slot-start, slot_next, slot_done}
+use Rattle.empty.proofs.Rows.{slot-start, slot_next, slot_done}
 use Rattle.empty.proofs.empty_rows.Goals as goal
 
 pub empty_row-requires : goal.empty_row-requires

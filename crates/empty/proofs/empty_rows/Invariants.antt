@@ -1,8 +1,6 @@
 -- `empty::empty_rows` meets its contract.
-use Rattle.base.proofs.Prelude.{◌∙◌, rules}
-use Rattle.modes.specs.{Setup.alone, Model.own}
-use Rattle.modes.proofs.Lent.{valid_alone}
-use Rattle.empty.proofs.Rows.{SlotTurn, slot-start, slot_next, slot_done}
+use Rattle.modes.specs.{Setup.alone}
+use Rattle.empty.proofs.Rows.{SlotTurn}
 use Rattle.empty.proofs.empty_rows.Given as goal
 
 abbrev pub invariant-loop-row : goal.invariant-loop-row

@@ -1,5 +1,5 @@
 -- `empty::take_off` meets its contract.
-use Rattle.base.proofs.Prelude.{sym, ap, ◌∙◌, rules}
+use Rattle.base.proofs.Prelude.{sym, ap, ◌∙◌}
 use Rattle.modes.specs.Setup.{Setup}
 use Rattle.modes.proofs.{ByMode.ranged_alone, Lent.{nothing_lent, own_pilots}, Named.{is_number, not_number}}
 use Rattle.empty.specs.Empty.{emptied_first}

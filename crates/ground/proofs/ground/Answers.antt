@@ -5,7 +5,6 @@ use lib.Ieee.{Float}
 use Rattle.points.specs.declared.Point.{Point}
 use Rattle.modes.specs.Setup.{Setup}
 use Rattle.modes.proofs.{ByMode.ranged_alone, Lent.{nothing_lent, own_pilots}, Named.{is_number, not_number}}
-use Rattle.lengths.specs.Length.{grid_points}
 use Rattle.lengths.proofs.Refusal.{mask_few}
 use Rattle.questions.proofs.Refusal.{GroundAccepted, ground_numbered, ground_accepted}
 use Rattle.ground.specs.Ground.{grounded, ground_of}

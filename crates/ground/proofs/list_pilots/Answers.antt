@@ -1,10 +1,7 @@
-use Rattle.base.proofs.Prelude.{refl, ap, ◌∙◌, ◌-◌, arith, rules}
-use Rattle.base.specs.Steps.{entry}
-use Rattle.carriers.specs.Band.{carrier_of}
+use Rattle.base.proofs.Prelude.{refl, arith}
 use Rattle.pilot_list.proofs.Entries.{accepted}
-use Rattle.modes.specs.Mode.{band}
 use Rattle.modes.proofs.{ByMode.{few, ranged_alone}, Lent.list_lent}
-use Rattle.points.proofs.Copy.{Putting, putting_none, putting_long, putting_next, putting_done}
+use Rattle.points.proofs.Copy.{putting_none, putting_long, putting_next, putting_done}
 use Rattle.ground.proofs.Lent.{entry_used, entry_in, list_put}
 use Rattle.ground.proofs.list_pilots.Goals as goal
 

@@ -1,5 +1,5 @@
 -- `ground::zeros_and_list` meets its contract.
-use Rattle.base.proofs.Prelude.{arith, rules}
+use Rattle.base.proofs.Prelude.{arith}
 use Rattle.modes.specs.Setup.{lent}
 use Rattle.ground.proofs.{Pilots.{ground_start, ground_next, ground_done}, Lent.only_row}
 use Rattle.ground.proofs.zeros_and_list.Goals as goal

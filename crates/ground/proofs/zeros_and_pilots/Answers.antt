@@ -1,7 +1,7 @@
-use Rattle.base.proofs.Prelude.{sym, ◌∙◌, ◌-◌, ◌<◌, arith, rules}
+use Rattle.base.proofs.Prelude.{sym, ◌∙◌, ◌<◌}
 use Rattle.modes.specs.{Setup.alone, Mode.symbols, Model.own}
-use Rattle.modes.proofs.{ByMode.few, Lent.valid_alone}
-use Rattle.ground.proofs.Pilots.{GroundTurn, ground_start, ground_next, ground_done}
+use Rattle.modes.proofs.{Lent.valid_alone}
+use Rattle.ground.proofs.Pilots.{ground_start, ground_next, ground_done}
 use Rattle.ground.proofs.zeros_and_pilots.Goals as goal
 
 pub loop-row-init : goal.loop-row-init
