@@ -1,6 +1,6 @@
 -- What the answers of `look` come to at the C boundary, and that their numbers fit there.
 use Rattle.base.proofs.Prelude.{◌≡◌, sym, ap, ◌∙◌, List, ℕ, ◌<◌}
-use Rattle.std.proofs.Common.{Result, Ok, Err}
+use Rattle.std.proofs.Common.{Result, Ok}
 use lib.{IntN.ℤ, Ieee.Float}
 use Rattle.base.specs.Answer.{Answer, accepted}
 use Rattle.refusal.specs.declared.Refusal.{Refusal}

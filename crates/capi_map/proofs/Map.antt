@@ -1,13 +1,13 @@
 -- What the answers of `place` and `locate` come to at the C boundary, and that their numbers fit there.
 use Rattle.base.proofs.Prelude.{◌≡◌, sym, ap, ◌∙◌, ℕ, ◌<◌, arith}
-use Rattle.std.proofs.Common.{Result, Ok, Err}
+use Rattle.std.proofs.Common.{Result, Ok}
 use lib.IntN.{ℤ}
 use mir.{Syntax.w32, Val.SFits}
-use Rattle.base.specs.Answer.{Answer, accepted, refused}
-use Rattle.refusal.specs.{declared.Refusal.Refusal, Refusal.number_of}
+use Rattle.base.specs.Answer.{Answer, accepted}
+use Rattle.refusal.specs.{declared.Refusal.Refusal}
 use Rattle.modes.specs.Setup.{Setup}
 use Rattle.map.specs.{declared.Placed.Placed, declared.Located.Located}
-use Rattle.map.specs.{declared.Located.TheVariants.Data, Place.{Place, Content, as_place, as_content, placed, located, place_of, locate_of}}
+use Rattle.map.specs.{declared.Located.TheVariants.Data, Place.{Place, Content, as_content, placed, located, place_of, locate_of}}
 use Rattle.map.proofs.Law.{place_small, point_small}
 use Rattle.capi_map.specs.Map.{place_out, locate_out}
 

@@ -92,14 +92,14 @@ corner subchannel subchannels slot slots = 0 ∷ 2 ∷ 0 ∷ 4 ∷ subchannel �
 abbrev pub check : (numbers : List ℕ) → ℕ
 check numbers = check_of 256 (zone 2 0 6 0) numbers
 
-abbrev pub owner : (slot subchannel : ℕ) → Owned
+abbrev pub owner : (slot subchannel : ℕ) → OwnerAnswer
 owner slot subchannel = owner_of 256 (zone 2 0 6 0) slot subchannel bursts
 
 -- What asking for an owner answers: an owner, or 64, and how many were looked at; or a refusal.
-abbrev pub owns : (owner looked : ℕ) → Owned
+abbrev pub owns : (owner looked : ℕ) → OwnerAnswer
 owns owner looked = record { refusal = 0; owner = owner; looked = looked }
 
-abbrev pub refusal : (number : ℕ) → Owned
+abbrev pub refusal : (number : ℕ) → OwnerAnswer
 refusal number = record { refusal = number; owner = 64; looked = 0 }
 
 -- What a carrier holds under any PUSC downlink cell.

@@ -1,8 +1,7 @@
 -- What a row of places comes to, by the numbers of its questions.
-use Rattle.base.proofs.{Prelude.{◌≡◌, sym, ap, ◌∙◌, Bool, true, false, List, ℕ, ◌<◌}, Test.told_no, Tabulate.{tabulated, length_tabulate, get_d_tabulate}}
-use mathlib.Core.Bool.{not}
+use Rattle.base.proofs.{Prelude.{◌≡◌, sym, ap, ◌∙◌, List, ℕ, ◌<◌}, Tabulate.{tabulated, length_tabulate, get_d_tabulate}}
 use Rattle.base.specs.{Answer.{accepted, refused}, Tabulate.tabulate}
-use Rattle.modes.specs.{Setup.Setup, Mode.subchannels, Question.is_lent, Model.{Ranged, Valid}}
+use Rattle.modes.specs.{Setup.Setup, Mode.subchannels, Model.{Valid}}
 use Rattle.modes.proofs.Accept.{passes, slot_yes, subchannel_yes}
 use Rattle.copies.specs.Model.{turned}
 use Rattle.rows.specs.{declared.CarrierRow.CarrierRow, Model.RowOf}

@@ -1,5 +1,4 @@
 -- `capi_grid::bp_empty` meets its contract.
-use Rattle.base.proofs.Prelude.{rules}
 use Rattle.capi_grid.proofs.bp_empty.Goals as goal
 
 pub returns : goal.returns

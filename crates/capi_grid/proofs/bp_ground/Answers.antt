@@ -1,5 +1,4 @@
 -- `capi_grid::bp_ground` meets its contract.
-use Rattle.base.proofs.Prelude.{rules}
 use Rattle.points.specs.Points.{point_at}
 use Rattle.capi_grid.proofs.bp_ground.Goals as goal
 

@@ -1,5 +1,4 @@
 -- `capi_subchannel::bp_lay` meets its contract.
-use Rattle.base.proofs.Prelude.{rules}
 use Rattle.capi_subchannel.proofs.bp_lay.Goals as goal
 
 pub returns : goal.returns

@@ -1,10 +1,7 @@
 -- `capi_subchannel::bp_places` meets its contract.
-use Rattle.base.proofs.Prelude.{◌≡◌, refl, sym, ap, ◌∙◌, List, ℕ}
+use Rattle.base.proofs.Prelude.{refl}
 use Rattle.refusal.proofs.Asked.{number_ne0}
-use Rattle.places.specs.Places.{PlaceRow, given}
-use Rattle.c_boundary.specs.Row.{RowOut}
 use Rattle.c_boundary.proofs.Row.{row_no, row_yes}
-use Rattle.capi_subchannel.specs.Places.{places_out}
 use Rattle.capi_subchannel.proofs.bp_places.Goals as goal
 
 pub returns-in-Err : goal.returns-in-Err

@@ -1,5 +1,5 @@
 -- `look::column_position` meets its contract.
-use Rattle.base.proofs.Prelude.{refl, mod-lt, arith, rules}
+use Rattle.base.proofs.Prelude.{refl, mod-lt, arith}
 use Rattle.modes.proofs.ByMode.{few}
 use Rattle.lengths.proofs.Refusal.{grid_few}
 use Rattle.grid.proofs.Slot.{position_is}

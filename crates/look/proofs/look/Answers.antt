@@ -1,5 +1,5 @@
 -- `look::look` meets its contract.
-use Rattle.base.proofs.Prelude.{refl, sym, ap, ◌∙◌, arith}
+use Rattle.base.proofs.Prelude.{refl, ap, ◌∙◌, arith}
 use Rattle.refusal.proofs.Asked.{number_ne0}
 use Rattle.modes.specs.Setup.{lent}
 use Rattle.modes.proofs.{ByMode.ranged_alone, Outcome.size_few}

@@ -1,5 +1,4 @@
-use Rattle.base.proofs.{Prelude.{◌-◌, ◌<◌, rules}, Tabulate.{Written, written_none, written_next, written_all}}
-use Rattle.copies.specs.Model.{turned}
+use Rattle.base.proofs.{Tabulate.{written_none, written_next, written_all}}
 use Rattle.places.proofs.in_order.Goals as goal
 
 pub loop-m-init : goal.loop-m-init

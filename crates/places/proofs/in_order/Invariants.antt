@@ -1,5 +1,5 @@
 -- `places::in_order` meets its contract.
-use Rattle.base.proofs.{Prelude.{◌-◌, ◌<◌, rules}, Tabulate.{Written, written_none, written_next, written_all}}
+use Rattle.base.proofs.{Prelude.{◌<◌}, Tabulate.{Written}}
 use Rattle.copies.specs.Model.{turned}
 use Rattle.places.proofs.in_order.Given as goal
 
