@@ -4,6 +4,7 @@ use mathlib.Core.{Logic.{◌⊎◌, inl, inr, ⊎_elim}, Path.{◌≡◌, refl, 
 use lib.{ListN.{length, get_or, drop, drop_of_length-le, get_or-eq_default}, Seq.drop-cons, Dec.eqb}
 use borrow.Author.Tests.{lt-ltb, le-ltb, ltb-true, ltb-false}
 use Rattle.std.proofs.Common.{Some, None, ltb, min, ◌^◌}
+use Rattle.std.specs.List.{prefix_len}
 use Rattle.vector_lines.specs.Model.{numeral, digit_of, as_digit, with_digit, read_on, past_spaces}
 use Prim.Native.Nat.{ℕ, suc, ◌+◌, ◌-◌, ◌*◌, ◌<◌, ◌≤◌}
 
@@ -97,15 +98,16 @@ reads_end src value next e =
     (λ past. ap (read_on value next) (drop_of_length-le src past) ∙ read_none value next)
     (below next (length src)))
 
--- a turn of the loop past spaces, and its ends
-pub space_more : (src : List ℕ) (at : ℕ) → at < length src → eqb (get_or src at 0) 32 ≡ true → past_spaces at (drop at src) ≡ past_spaces (at + 1) (drop (at + 1) src)
+-- the spaces that a text starts with are as many as `take_while` counts
+pub spaces_counted : (at : ℕ) (text : List ℕ) → at + prefix_len (λ byte. eqb byte 32) text ≡ past_spaces at text
 unfolding past_spaces
-space_more src at inside h = ap (past_spaces at) (drop-cons src at 0 inside) ∙ rw (h, add-one)
+spaces_counted at [] = omega arith
+spaces_counted at (byte ∷ rest) = cases (eqb byte 32) (λ t. rw t (omega (arith, spaces_counted (suc at) rest))) (λ f. rw f (omega arith))
 
-pub space_none : (src : List ℕ) (at : ℕ) → at < length src → eqb (get_or src at 0) 32 ≡ false → past_spaces at (drop at src) ≡ at
-unfolding past_spaces
-space_none src at inside h = ap (past_spaces at) (drop-cons src at 0 inside) ∙ rw h
+-- no text begins past the end
+pub beyond : {n at : ℕ} → (n < at) ⊎ (n < n) → n ≤ at
+beyond h = ⊎_elim (λ past. omega arith) (λ none. omega arith) h
 
-pub space_end : (src : List ℕ) (at : ℕ) → length src ≤ at → past_spaces at (drop at src) ≡ at
+pub no_spaces : (src : List ℕ) (at : ℕ) → length src ≤ at → at ≡ past_spaces at (drop at src)
 unfolding past_spaces
-space_end src at past = ap (past_spaces at) (drop_of_length-le src past)
+no_spaces src at past = sym (ap (past_spaces at) (drop_of_length-le src past))
