@@ -50,11 +50,17 @@ none_past src at past = rw (digit_past src at past)
 module _ (digit : ℕ) where
   pub digit_told : (d : ℕ) → Some d ≡ as_digit digit → (digit ≡ d) × (d < 10)
   unfolding as_digit
-  digit_told d e = cases (ltb digit 10) (λ t. let z : Some d ≡ Some digit = rw t at e in let is : digit ≡ d = cc in (is, omega (arith, ltb-true digit 10 t, is))) (λ f. let z : Some d ≡ None = rw f at e in absurd cc)
+  digit_told d e =
+      cases (ltb digit 10)
+      (λ t. let z : Some d ≡ Some digit = rw t at e in let is : digit ≡ d = cc in (is, omega (arith, ltb-true digit 10 t, is)))
+      (λ f. let z : Some d ≡ None = rw f at e in absurd cc)
 
   pub none_told : None ≡ as_digit digit → 10 ≤ digit
   unfolding as_digit
-  none_told e = cases (ltb digit 10) (λ t. let z : None ≡ Some digit = rw t at e in absurd cc) (λ f. omega (arith, ltb-false digit 10 f))
+  none_told e =
+      cases (ltb digit 10)
+      (λ t. let z : None ≡ Some digit = rw t at e in absurd cc)
+      (λ f. omega (arith, ltb-false digit 10 f))
 
 read_digit : (value next byte : ℕ) (rest : List ℕ) → digit_of byte < 10
     → read_on value next (byte ∷ rest) ≡ read_on (with_digit value (digit_of byte)) (suc next) rest
@@ -93,7 +99,8 @@ module _ (src : List ℕ) (value next d : ℕ) (e : Some d ≡ as_digit (digit_o
 pub reads_end : (src : List ℕ) (value next : ℕ) → None ≡ as_digit (digit_of (get_or src next 0))
     → numeral value next ≡ read_on value next (drop next src)
 reads_end src value next e =
-    sym (⊎_elim
+    sym
+    (⊎_elim
     (λ inside. ap (read_on value next) (drop-cons src next 0 inside) ∙ read_other value next (get_or src next 0) (drop (suc next) src) (none_told _ e))
     (λ past. ap (read_on value next) (drop_of_length-le src past) ∙ read_none value next)
     (below next (length src)))
