@@ -1,5 +1,5 @@
 -- What the calls' inner functions ask and give.
-use Rattle.base.proofs.Prelude.{◌≡◌, sym, ap, ◌∙◌, Bool, true, ℕ, ◌*◌, ◌/◌, ◌≤◌, arith}
+use Rattle.base.proofs.Prelude.{◌≡◌, refl, sym, ap, ◌∙◌, Bool, true, ℕ, ◌*◌, ◌/◌, ◌≤◌, arith}
 use Rattle.std.proofs.Common.{Result}
 use Rattle.std.specs.Result.{IsErrAnd}
 use Rattle.std.proofs.lemmas.Result.{err_from_is_err_and}
@@ -36,7 +36,7 @@ asked_wide size t e x h = wide size (sym e ∙ asked_yes t 2 x h)
 module _ (r : Result Collisions Refusal) (y : Answer (ℕ → Bool)) where
   pub met_on : (e : Refusal) → IsErrAnd r (λ x. x ≡ e) → refused (number_of e) ≡ y → met r ≡ answer_of y
   unfolding answer_of
-  met_on e f h = let p = err_from_is_err_and r f in rw (p.1, ← h, p.2)
+  met_on e f h = let p = err_from_is_err_and r f in rw (p.1, ← h, p.2) refl
 
   pub met_by : (x : Answer (ℕ → Bool)) → met r ≡ answer_of x → x ≡ y → met r ≡ answer_of y
   met_by x e f = e ∙ ap answer_of f

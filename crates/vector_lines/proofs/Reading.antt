@@ -4,6 +4,7 @@ use mathlib.Core.{Logic.{◌⊎◌, inl, inr, ⊎_elim}, Path.{◌≡◌, refl, 
 use lib.{ListN.{length, get_or, drop, drop_of_length-le, get_or-eq_default}, Seq.drop-cons, Dec.eqb}
 use borrow.Author.Tests.{lt-ltb, le-ltb, ltb-true, ltb-false}
 use Rattle.std.proofs.Common.{Some, None, ltb, min, ◌^◌}
+use Rattle.std.specs.List.{prefix_len}
 use Rattle.vector_lines.specs.Model.{numeral, digit_of, as_digit, with_digit, read_on, past_spaces}
 use Prim.Native.Nat.{ℕ, suc, ◌+◌, ◌-◌, ◌*◌, ◌<◌, ◌≤◌}
 
@@ -49,11 +50,17 @@ none_past src at past = rw (digit_past src at past)
 module _ (digit : ℕ) where
   pub digit_told : (d : ℕ) → Some d ≡ as_digit digit → (digit ≡ d) × (d < 10)
   unfolding as_digit
-  digit_told d e = cases (ltb digit 10) (λ t. let z : Some d ≡ Some digit = rw t at e in let is : digit ≡ d = cc in (is, omega (arith, ltb-true digit 10 t, is))) (λ f. let z : Some d ≡ None = rw f at e in absurd cc)
+  digit_told d e =
+      cases (ltb digit 10)
+      (λ t. let z : Some d ≡ Some digit = rw t at e in let is : digit ≡ d = cc in (is, omega (arith, ltb-true digit 10 t, is)))
+      (λ f. let z : Some d ≡ None = rw f at e in absurd cc)
 
   pub none_told : None ≡ as_digit digit → 10 ≤ digit
   unfolding as_digit
-  none_told e = cases (ltb digit 10) (λ t. let z : None ≡ Some digit = rw t at e in absurd cc) (λ f. omega (arith, ltb-false digit 10 f))
+  none_told e =
+      cases (ltb digit 10)
+      (λ t. let z : None ≡ Some digit = rw t at e in absurd cc)
+      (λ f. omega (arith, ltb-false digit 10 f))
 
 read_digit : (value next byte : ℕ) (rest : List ℕ) → digit_of byte < 10
     → read_on value next (byte ∷ rest) ≡ read_on (with_digit value (digit_of byte)) (suc next) rest
@@ -92,20 +99,22 @@ module _ (src : List ℕ) (value next d : ℕ) (e : Some d ≡ as_digit (digit_o
 pub reads_end : (src : List ℕ) (value next : ℕ) → None ≡ as_digit (digit_of (get_or src next 0))
     → numeral value next ≡ read_on value next (drop next src)
 reads_end src value next e =
-    sym (⊎_elim
+    sym
+    (⊎_elim
     (λ inside. ap (read_on value next) (drop-cons src next 0 inside) ∙ read_other value next (get_or src next 0) (drop (suc next) src) (none_told _ e))
     (λ past. ap (read_on value next) (drop_of_length-le src past) ∙ read_none value next)
     (below next (length src)))
 
--- a turn of the loop past spaces, and its ends
-pub space_more : (src : List ℕ) (at : ℕ) → at < length src → eqb (get_or src at 0) 32 ≡ true → past_spaces at (drop at src) ≡ past_spaces (at + 1) (drop (at + 1) src)
+-- the spaces that a text starts with are as many as `take_while` counts
+pub spaces_counted : (at : ℕ) (text : List ℕ) → at + prefix_len (λ byte. eqb byte 32) text ≡ past_spaces at text
 unfolding past_spaces
-space_more src at inside h = ap (past_spaces at) (drop-cons src at 0 inside) ∙ rw (h, add-one)
+spaces_counted at [] = omega arith
+spaces_counted at (byte ∷ rest) = cases (eqb byte 32) (λ t. rw t (omega (arith, spaces_counted (suc at) rest))) (λ f. rw f (omega arith))
 
-pub space_none : (src : List ℕ) (at : ℕ) → at < length src → eqb (get_or src at 0) 32 ≡ false → past_spaces at (drop at src) ≡ at
-unfolding past_spaces
-space_none src at inside h = ap (past_spaces at) (drop-cons src at 0 inside) ∙ rw h
+-- no text begins past the end
+pub beyond : {n at : ℕ} → (n < at) ⊎ (n < n) → n ≤ at
+beyond h = ⊎_elim (λ past. omega arith) (λ none. omega arith) h
 
-pub space_end : (src : List ℕ) (at : ℕ) → length src ≤ at → past_spaces at (drop at src) ≡ at
+pub no_spaces : (src : List ℕ) (at : ℕ) → length src ≤ at → at ≡ past_spaces at (drop at src)
 unfolding past_spaces
-space_end src at past = ap (past_spaces at) (drop_of_length-le src past)
+no_spaces src at past = sym (ap (past_spaces at) (drop_of_length-le src past))

@@ -34,12 +34,10 @@ pub fn read_number(src: &[u8], at: usize) -> Number
 fn past_spaces(src: &[u8], at: usize) -> usize
     ensures { result ≡ past_spaces at (drop at src.now) }
 {
-    // A scan by its place: `skip`, `take_while` and `count` are no plainer, and `past_spaces` of the contract is no rule of theirs.
-    let mut next = at;
-    while next < src.len() && src[next] == b' ' {
-        next += 1;
+    match src.get(at..) {
+        Some(rest) => at + rest.iter().take_while(|&&byte| byte == b' ').count(),
+        None => at,
     }
-    next
 }
 
 // The digit at a place of `src`.

@@ -11,7 +11,7 @@ loop-k-preserved g c =
     let before = c.loop-k.invariant in
     record {
       long = length-set c.loop-k.hits c.loop-k.k c.meet-hit.result ∙ before.long;
-      few = omega (arith, byte_le c.meet-hit.result);
+      few = omega (arith, byte_le);
       passed = λ hit d. step hit _ _ _ _ (before.passed hit d) c.loop-k-test.true (d _ _ c.loop-k-test.true c.meet-hit.ensures);
     }
 

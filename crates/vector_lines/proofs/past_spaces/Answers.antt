@@ -1,22 +1,25 @@
-use borrow.Author.{Tests.{eq-eqb, ne_eqb}}
-use mathlib.Core.Path.{refl, sym, ◌∙◌}
-use Rattle.vector_lines.proofs.Reading.{space_more, space_none, space_end}
+-- `vector_lines::past_spaces` meets its contract: the chain gives the spaces that the text there starts with.
+use Rattle.std.proofs.Common.{ℕ, ◌+◌, ◌∙◌, ◌≡◌, ap, drop, eqb, arith, rules, tests}
+use Rattle.std.specs.List.{prefix_len}
+use Rattle.std.proofs.lemmas.Iterator.{YieldsList-from_slice}
+use Rattle.std.proofs.lemmas.Iterator.Search.{YieldsList-from_take_while}
+use Rattle.std.proofs.lemmas.Iterator.Consumers.{count_from_yields_List}
+use Rattle.std.proofs.lemmas.List.Folds.{length-prefix_len}
+use Rattle.std.proofs.lemmas.Slice.{between_to_end}
+use Rattle.vector_lines.specs.Model.{past_spaces}
+use Rattle.vector_lines.proofs.Reading.{spaces_counted, no_spaces, beyond}
 use Rattle.vector_lines.proofs.past_spaces.Goals as goal
 
-pub loop-next-init : goal.loop-next-init
-loop-next-init c = refl
+pub returns-in-Some : goal.returns-in-Some
+returns-in-Some c =
+    let text = c.in-Some.rest.now in
+    let counted : c.count.result ≡ prefix_len (λ byte. eqb byte 32) text =
+    count_from_yields_List c.take_while.result _ c.count.ensures.ran
+    (YieldsList-from_take_while _ (λ byte. eqb byte 32) (YieldsList-from_slice text cc) c.take_while.ensures.closure c.take_while.ensures.done (λ x b q k. search (rules, tests)))
+    ∙ length-prefix_len (λ byte. eqb byte 32) text in
+    let l = c.in-Some.ensures.lookup.0 in
+    let rest : text ≡ drop c.args.at c.args.src.now = l.2 ∙ between_to_end c.args.src.now c.args.at _ (omega arith) in
+    ap (λ (n : ℕ). c.args.at + n) counted ∙ spaces_counted c.args.at text ∙ ap (past_spaces c.args.at) rest
 
-pub loop-next-preserved : goal.loop-next-preserved
-loop-next-preserved c =
-    let at-loop = c in
-    sym (space_more at-loop.args.src.now at-loop.loop-next.next c.loop-next-test.true (eq-eqb _ _ c.if-src-next-eq32.true)) ∙ at-loop.loop-next.invariant
-
-pub returns-else-src-next-eq32 : goal.returns-else-src-next-eq32
-returns-else-src-next-eq32 c =
-    let at-loop = c in
-    sym (space_none at-loop.args.src.now at-loop.loop-next.next c.loop-next-test.true (ne_eqb _ _ c.if-src-next-eq32.false)) ∙ at-loop.loop-next.invariant
-
-pub returns-after-loop-next : goal.returns-after-loop-next
-returns-after-loop-next c =
-    let at-loop = c in
-    sym (space_end at-loop.args.src.now at-loop.loop-next.next c.loop-next-test.false) ∙ at-loop.loop-next.invariant
+pub returns-in-None : goal.returns-in-None
+returns-in-None c = no_spaces c.args.src.now c.args.at (beyond c.in-None.ensures.lookup.0)
