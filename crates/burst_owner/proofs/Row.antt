@@ -10,19 +10,19 @@ use Rattle.burst.specs.Burst.{burst_at, is_of, is_covering, is_overlap}
 use Rattle.burst.proofs.Cover.{of_is, is-of, covering_is, elsewhere, beside, overlap_is}
 use Rattle.burst_list.specs.List.{burst_count, is_apart}
 use Rattle.burst_list.proofs.Each.{Passed}
-use Rattle.burst_owner.specs.{declared.Owned.Owned, Owner.{position, no_owner, owner_at, looked_at}, Model.{marked, marked_by}}
+use Rattle.burst_owner.specs.{Owner.{position, no_owner, owner_at, looked_at}, Model.{marked, marked_by}}
 
 -- the first owner, of its position
 module _ (numbers : List ℕ) (slot s : ℕ) {p : ℕ} (e : p ≡ position numbers slot s) where
-  pub owner_some : p < burst_count numbers → ◌≡◌ {A = Owned} (record { owner = p; looked = p + 1 }) (record { owner = owner_at numbers slot s; looked = looked_at numbers slot s })
+  pub owner_some : p < burst_count numbers → (p ≡ owner_at numbers slot s) × (p + 1 ≡ looked_at numbers slot s)
   unfolding owner_at looked_at
-  owner_some h = rw (← e, lt-ltb p (burst_count numbers) h)
+  owner_some h = (rw (← e, lt-ltb p (burst_count numbers) h), rw (← e, lt-ltb p (burst_count numbers) h))
 
-  pub owner_none : burst_count numbers ≤ p → ◌≡◌ {A = Owned} (record { owner = no_owner; looked = p }) (record { owner = owner_at numbers slot s; looked = looked_at numbers slot s })
+  pub owner_none : burst_count numbers ≤ p → (no_owner ≡ owner_at numbers slot s) × (p ≡ looked_at numbers slot s)
   unfolding owner_at looked_at
   owner_none h =
       let all : p ≡ burst_count numbers = omega (arith, first_most (λ i. is_covering (burst_at numbers i) slot s) (burst_count numbers)) in
-      rw (← e, le-ltb p (burst_count numbers) h, all)
+      (rw (← e, le-ltb p (burst_count numbers) h), rw (← e, le-ltb p (burst_count numbers) h, all))
 
 -- a row of which m of so many entries from the first on are set to a value
 abbrev pub Marking : (first many value : ℕ) (row₀ row : List ℕ) (m : ℕ) → Type 0

@@ -3,16 +3,15 @@
 
 ghost use Rattle.std.specs.Prelude.{◌≡◌, ◌+◌, ◌≤◌, length};
 ghost use Rattle.base.specs.Tabulate.{tabulate};
-ghost use Rattle.burst_owner.specs.Owner.{position as Position, owner_at, looked_at};
+ghost use Rattle.burst_owner.specs.Owner.{position as Position, owner_number, owner_at, looked_at};
 ghost use Rattle.burst_owner.specs.Model.{Accepted, marked, marked_by};
 
 use burst::Burst;
 
-// The owner's position in the list, or 64 for none, a number since the burst law compares it with `no_owner`; and how many
-// bursts were looked at.
+// The owner's position in the list, if there is one, and how many bursts were looked at.
 #[derive(Clone, Copy)]
 pub struct Owned {
-    pub owner: usize,
+    pub owner: Option<usize>,
     pub looked: usize,
 }
 
@@ -33,18 +32,18 @@ fn position(bursts: &[u32], slot: usize, subchannel: usize) -> usize
 // The first burst that covers a subchannel in a slot, in an accepted list.
 pub fn first_owner(slot: usize, subchannel: usize, bursts: &[u32]) -> Owned
     requires { length bursts.now ≤ 256 }
-    ensures { result ≡ record { owner = owner_at bursts.now slot subchannel; looked = looked_at bursts.now slot subchannel } }
+    ensures { (owner_number result.owner ≡ owner_at bursts.now slot subchannel) × (result.looked ≡ looked_at bursts.now slot subchannel) }
 {
     let count = bursts.len() / 4;
     let i = position(bursts, slot, subchannel);
     if i < count {
         return Owned {
-            owner: i,
+            owner: Some(i),
             looked: i + 1,
         };
     }
     Owned {
-        owner: 64,
+        owner: None,
         looked: i,
     }
 }

@@ -14,7 +14,7 @@ use Rattle.burst.specs.Burst.{burst_at, is_covering}
 use Rattle.burst.proofs.Cover.{inside_covers}
 use Rattle.burst_list.specs.Model.{list_refusal}
 use Rattle.burst_list.proofs.Each.{list_no, list_then, list_yes}
-use Rattle.burst_owner.specs.{declared.Owned.Owned, Owner.{owner_at}, Model.Accepted}
+use Rattle.burst_owner.specs.{declared.Owned.Owned, Owner.{owner_number, owner_at}, Model.Accepted}
 use Rattle.burst_owner.proofs.Row.{no-owner}
 use Rattle.bursts.specs.{Burst.ask_bursts, Owner.{owner_said, owned, row_said, row_at, owner_row}}
 
@@ -63,8 +63,8 @@ module _ (owner looked : ℕ) (answer : Answer (Unit {0})) where
   pub owned_no : (r : Result Owned Refusal) (e : Refusal) → IsErrAnd r (λ y. y ≡ e) → refused (number_of e) ≡ answer → owner_said r ≡ owned owner looked answer
   owned_no r e g f = let p = err_from_is_err_and r g in rw (p.1, p.2) (ap (owned owner looked) f)
 
-  pub owned_yes : (r : Owned) → r ≡ record { owner = owner; looked = looked } → accepted tt ≡ answer → owner_said (Ok r) ≡ owned owner looked answer
-  owned_yes r e f = ap (λ (o : Owned). owner_said (Ok o)) e ∙ ap (owned owner looked) f
+  pub owned_yes : (r : Owned) → (owner_number r.owner ≡ owner) × (r.looked ≡ looked) → accepted tt ≡ answer → owner_said (Ok r) ≡ owned owner looked answer
+  owned_yes r e f = rw (e.0, e.1) (ap (owned owner looked) f)
 
 module _ (row : ℕ → ℕ) (answer : Answer (Unit {0})) where
   pub row_no : (r : Result (List ℕ) Refusal) (e : Refusal) → IsErrAnd r (λ y. y ≡ e) → refused (number_of e) ≡ answer → row_said r ≡ owner_row row answer

@@ -9,7 +9,7 @@ use Rattle.modes.specs.Question.{is_slot, is_subchannel}
 use Rattle.zone.specs.declared.Zone.{Zone}
 use Rattle.zone.specs.Zone.{setup_of, ask_fields}
 use Rattle.burst_owner.specs.declared.Owned.{Owned}
-use Rattle.burst_owner.specs.Owner.{no_owner, owner_at, looked_at}
+use Rattle.burst_owner.specs.Owner.{no_owner, owner_number, owner_at, looked_at}
 use Rattle.bursts.specs.declared.OwnerRow.{OwnerRow}
 use Rattle.bursts.specs.Burst.{ask_bursts}
 
@@ -29,7 +29,7 @@ pub record OwnerAnswer : Type 0 where
 
 -- What an answer of `owner` says. A refusal has no owner, and has looked at none.
 abbrev pub owner_said : (answer : Result Owned Refusal) → OwnerAnswer
-owner_said (Ok found) = record { refusal = 0; owner = found.owner; looked = found.looked }
+owner_said (Ok found) = record { refusal = 0; owner = owner_number found.owner; looked = found.looked }
 owner_said (Err refusal) = record { refusal = number_of refusal; owner = no_owner; looked = 0 }
 
 abbrev pub owned : (owner looked : ℕ) (answer : Answer (Unit {0})) → OwnerAnswer

@@ -14,7 +14,7 @@ use refusal::{Refusal, ask};
 use zone::Zone;
 
 // What asking for a slot's owners answers: the first refusal, if any; and for each subchannel the owner's position in the list, or
-// 64. It is no Result, since a refusal's row is asked for too: all 64, as `BurstLaw` has it.
+// 64. It is no Result, since document 02 gives a refusal a row too: all 64.
 #[derive(Clone, Copy)]
 pub struct OwnerRow {
     pub refusal: Option<Refusal>,

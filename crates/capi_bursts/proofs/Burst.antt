@@ -1,11 +1,11 @@
 -- What the owner of a subchannel and a row of owners come to at the C boundary.
-use Rattle.std.specs.Prelude.{Some, None, Ok}
-use Rattle.base.proofs.Prelude.{◌≡◌, ap, List, ℕ, ◌≤◌, ne_eqb}
+use Rattle.std.specs.Prelude.{Option, Some, None, Ok, unwrap_or}
+use Rattle.base.proofs.Prelude.{◌≡◌, refl, ap, List, ℕ, ◌≤◌, ne_eqb}
 use Rattle.refusal.specs.{declared.Refusal.Refusal, Refusal.number_of}
 use Rattle.refusal.proofs.Asked.{number_ne0}
 use Rattle.base.specs.Tabulate.{tabulate}
 use Rattle.zone.specs.declared.Zone.{Zone}
-use Rattle.burst_owner.specs.{declared.Owned.Owned, Owner.no_owner}
+use Rattle.burst_owner.specs.{declared.Owned.Owned, Owner.{no_owner, owner_number}}
 use Rattle.bursts.specs.declared.OwnerRow.{OwnerRow}
 use Rattle.bursts.specs.Owner.{OwnerAnswer, RowAnswer, row_given, owner_said, owner_of}
 use Rattle.bursts.proofs.Law.{owner_most}
@@ -13,9 +13,14 @@ use Rattle.capi_bursts.specs.Burst.{owner_out, owners_out}
 use Rattle.c_boundary.specs.Row.{row_out}
 
 -- an owner and how many were looked at are small
-pub owner_small : (size : ℕ) (zone : Zone) (slot s : ℕ) (numbers : List ℕ) {found : Owned} → owner_said (Ok found) ≡ owner_of size zone slot s numbers → (found.owner ≤ 64) × (found.looked ≤ 64)
-owner_small size zone slot s numbers {found} e =
+pub owner_small : (size : ℕ) (zone : Zone) (slot s : ℕ) (numbers : List ℕ) (found : Owned) → owner_said (Ok found) ≡ owner_of size zone slot s numbers → (owner_number found.owner ≤ 64) × (found.looked ≤ 64)
+owner_small size zone slot s numbers found e =
     rw (ap (λ (o : OwnerAnswer). o.owner) e, ap (λ (o : OwnerAnswer). o.looked) e) (owner_most size zone numbers slot s)
+
+-- 64 where there is no owner
+pub or_none : (owner : Option ℕ) → unwrap_or owner 64 ≡ owner_number owner
+or_none None = refl
+or_none (Some i) = refl
 
 -- a refusal writes nothing
 module _ (e : Refusal) {n : ℕ} (f : n ≡ number_of e) where

@@ -32,10 +32,8 @@ pub extern "C" fn bp_bursts_check(
     ensures { result ≡ check_of size (record { mode = mode; cell = cell; slots = slots; mask = mask }) bursts.now }
 {
     let of = zone(mode, cell, slots, mask);
-    match bursts::check(size as usize, of, bursts) {
-        Ok(()) => 0,
-        Err(refusal) => u32::from(refusal),
-    }
+    let answer = bursts::check(size as usize, of, bursts);
+    c_boundary::number(answer)
 }
 
 #[unsafe(no_mangle)]
@@ -58,7 +56,8 @@ pub extern "C" fn bp_burst_owner(
     let on = subchannel as usize;
     match bursts::owner(size as usize, of, at, on, bursts) {
         Ok(found) => {
-            *owner = found.owner as u32;
+            let position = found.owner.unwrap_or(64);
+            *owner = position as u32;
             *looked = found.looked as u32;
             0
         }
