@@ -4,10 +4,10 @@
 
 ghost use Rattle.std.specs.Prelude.{◌≡◌, ℕ, Bool, ◌*◌, ◌<◌, Ok};
 ghost use Rattle.base.specs.Answer.{accepted};
-ghost use Rattle.ofusc.specs.Width.{Width};
 ghost use Rattle.collision.specs.Collision.{ofusc_hit, amc_hit, answer_of, met, ofusc_of, amc_of};
 ghost use Rattle.collision.specs.Model.{Decides};
 
+use ofusc::Width;
 use refusal::{Refusal, ask};
 
 // A mark for each group or index, set where the two meet; how many are set.
@@ -36,14 +36,13 @@ fn marked<F: Fn(usize) -> bool>(meet: F) -> Collisions
 }
 
 // Both subchannels are on one carrier of a group where their elements are the same.
-fn ofusc_hits(n: usize, cell_a: usize, a: usize, cell_b: usize, b: usize) -> Collisions
-    requires width { Width n }
-    requires cell_a_bound { (cell_a < n * n) × (cell_b < n * n) }
-    requires a_lt_n { (a < n) × (b < n) }
-    ensures { met (Ok result) ≡ answer_of (accepted (ofusc_hit (64 * n) cell_a a cell_b b)) }
+fn ofusc_hits(width: Width, cell_a: usize, a: usize, cell_b: usize, b: usize) -> Collisions
+    requires cell_a_bound { (cell_a < width.n * width.n) × (cell_b < width.n * width.n) }
+    requires a_lt_n { (a < width.n) × (b < width.n) }
+    ensures { met (Ok result) ≡ answer_of (accepted (ofusc_hit (64 * width.n) cell_a a cell_b b)) }
 {
-    let numbers_a = ofusc_rows::table(n, cell_a);
-    let numbers_b = ofusc_rows::table(n, cell_b);
+    let numbers_a = ofusc_rows::table(width, cell_a);
+    let numbers_b = ofusc_rows::table(width, cell_b);
     let s = a as u16;
     let t = b as u16;
     marked(
@@ -84,7 +83,8 @@ pub fn ofusc(
     ask(cell_b < n * n, Refusal::Cell)?;
     ask(subchannel_a < n, Refusal::Subchannel)?;
     ask(subchannel_b < n, Refusal::Subchannel)?;
-    Ok(ofusc_hits(n, cell_a, subchannel_a, cell_b, subchannel_b))
+    let width = Width { n: n };
+    Ok(ofusc_hits(width, cell_a, subchannel_a, cell_b, subchannel_b))
 }
 
 // The indices that both cells put on one place of a subchannel, or refusal 3.

@@ -65,13 +65,11 @@ module _ {c : Setup} (v : Ranged c) (y u : ℕ) (hu : u < (band c).used) (np : i
       let r = in_pusc_ul v q in
       (r.cell_lt, omega arith, rw r.used_are at hu, by-mode (at_1 q) ∙ np)
 
-  pub ofusc_back_asks : (n : ℕ) → n ≡ width c → (d : ℕ) → d ≡ data_of_used y u → c.mode ≡ 2 → Width n × ((c.cell < n * n) × (d < 48 * n))
+  pub ofusc_back_asks : (n : ℕ) → n ≡ width c → (d : ℕ) → d ≡ data_of_used y u → c.mode ≡ 2 → (c.cell < n * n) × (d < 48 * n)
   unfolding is_pilot
   ofusc_back_asks n e d h q =
-      let r = in_ofusc v q in (
-        rw e (bin_width v (omega arith)),
-        (rw e r.cell_lt, rw (e, h) (data_lt y u (by-mode (at_2 q) ∙ np) (width c) (rw r.used_are at hu))),
-      )
+      let r = in_ofusc v q in
+      (rw e r.cell_lt, rw (e, h) (data_lt y u (by-mode (at_2 q) ∙ np) (width c) (rw r.used_are at hu)))
 
   pub amc_back_asks : (shape : Shape) → shape ≡ shape_of c.mode → (o : ℕ) → o ≡ y % symbols c → (d : ℕ) → d ≡ data_of_used y u → IsAmc c.mode
       → IsShape shape × (c.cell < 2352) × (o < shape.symbols) × (d < 65536)

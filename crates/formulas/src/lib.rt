@@ -11,6 +11,7 @@ ghost use Rattle.formulas.specs.Formula.{is_pilot, spot_of, address_of};
 
 use carriers::{Address, DataNumber, Spot};
 use modes::{Mode, Setup};
+use ofusc::Width;
 
 // Where a data number of a slot lies, whose first symbol has the number `first` in the zone.
 fn bin_spot(first: usize, x: DataNumber) -> Spot
@@ -29,9 +30,12 @@ fn ofusc_number(setup: Setup, subchannel: usize, index: usize) -> DataNumber
     requires mode_value { (setup.mode ≡ 2) × (subchannel < Subchannels (alone setup)) × (index < 48) }
     ensures { result ≡ in_only_symbol (ofuscNumber (WidthOf (alone setup)) setup.cell subchannel index) }
 {
+    let width = Width {
+        n: modes::width(setup),
+    };
     DataNumber {
         offset: 0,
-        number: ofusc::data_number(modes::width(setup), setup.cell, subchannel, index),
+        number: ofusc::data_number(width, setup.cell, subchannel, index),
     }
 }
 
@@ -83,11 +87,12 @@ pub fn address(setup: Setup, symbol: usize, used: usize, pilots: &[u32]) -> Addr
     match Mode::try_from(setup.mode) {
         Ok(Mode::PuscDl) => pusc_dl::address(setup.cell, symbol % 2, used),
         Ok(Mode::PuscUl) => pusc_ul::address(setup.cell, symbol % 3, used),
-        Ok(Mode::Ofusc) => ofusc::address(
-            modes::width(setup),
-            setup.cell,
-            carriers::data_of_used(symbol, used),
-        ),
+        Ok(Mode::Ofusc) => {
+            let width = Width {
+                n: modes::width(setup),
+            };
+            ofusc::address(width, setup.cell, carriers::data_of_used(symbol, used))
+        }
         Ok(Mode::Amc(shape)) => amc::address(
             shape,
             setup.cell,

@@ -3,7 +3,7 @@
 
 ghost use Rattle.std.specs.Prelude.{◌≡◌, ◌+◌, ◌*◌, ◌-◌, ◌/◌, ◌%◌, ◌<◌};
 ghost use Rattle.base.specs.Steps.{entry};
-ghost use Rattle.ofusc.specs.Width.{Width};
+ghost use Rattle.ofusc.specs.Width.{Width as IsWidth, width_prop};
 ghost use Rattle.ofusc.specs.Map.{group_of, term as Term, cell_term, data_number, address_of};
 
 use base::{reduce, unrotate};
@@ -22,13 +22,19 @@ pub const SEQUENCE_2: [u8; 63] = [
     19, 6, 24, 15, 25, 11, 9,
 ];
 
+// N of the modes over bins, 4, 8, 16 or 32: the size is 64N.
+#[derive(Clone, Copy)]
+pub struct Width {
+    pub n: usize,
+    pub ghost is_width: { IsWidth n } by { width_prop n },
+}
+
 // x mod (N-1), by a constant at each width.
 #[tactic(auto, using(crate::proofs::Sequence::no_other))]
-fn turn(n: usize, x: usize) -> usize
-    requires { Width n }
-    ensures { result ≡ x % (n - 1) }
+fn turn(width: Width, x: usize) -> usize
+    ensures { result ≡ x % (width.n - 1) }
 {
-    match n {
+    match width.n {
         4 => x % 3,
         8 => x % 7,
         16 => x % 15,
@@ -58,11 +64,10 @@ impl ByWidth {
 
 // A number's quotient and remainder by the width, each by a constant.
 #[tactic(auto, using(crate::proofs::Sequence::no_other))]
-pub fn parts(n: usize, x: usize) -> ByWidth
-    requires { Width n }
-    ensures { (result.quotient ≡ x / n) × (result.remainder ≡ x % n) }
+pub fn parts(width: Width, x: usize) -> ByWidth
+    ensures { (result.quotient ≡ x / width.n) × (result.remainder ≡ x % width.n) }
 {
-    match n {
+    match width.n {
         4 => ByWidth::new::<4>(x),
         8 => ByWidth::new::<8>(x),
         16 => ByWidth::new::<16>(x),
@@ -72,29 +77,27 @@ pub fn parts(n: usize, x: usize) -> ByWidth
 
 // What the cell adds by one sequence in group k, below N-1: its entry at (k+c) mod (N-1), or nothing where c is 0.
 #[tactic(auto, using(crate::proofs::Sequence::size, crate::proofs::Sequence::place_lt, crate::proofs::Sequence::term_zero, crate::proofs::Sequence::term_turn))]
-pub fn term(rows: &[u8; 63], n: usize, c: usize, k: usize) -> usize
-    requires width { Width n }
-    requires c_lt_n { (c < n) × (k < n - 1) }
-    ensures { result ≡ Term (λ i. entry rows.now (n + i)) n c k }
+pub fn term(rows: &[u8; 63], width: Width, c: usize, k: usize) -> usize
+    requires c_lt_n { (c < width.n) × (k < width.n - 1) }
+    ensures { result ≡ Term (λ i. entry rows.now (width.n + i)) width.n c k }
 {
     if c == 0 {
         return 0;
     }
-    let i = n + reduce(n - 1, k + c);
+    let i = width.n + reduce(width.n - 1, k + c);
     usize::from(rows[i])
 }
 
 // What the cell adds to the subchannel in group k.
-fn cell_term(n: usize, cell: usize, k: usize) -> usize
-    requires width { Width n }
-    requires cell_bound { (cell < n * n) × (k < 48) }
-    ensures { result ≡ cell_term n cell k }
+fn cell_term(width: Width, cell: usize, k: usize) -> usize
+    requires cell_bound { (cell < width.n * width.n) × (k < 48) }
+    ensures { result ≡ cell_term width.n cell k }
 {
     let first = SEQUENCE_1;
     let second = SEQUENCE_2;
-    let c = parts(n, cell);
-    let turned = turn(n, k);
-    term(&first, n, c.remainder, turned) ^ term(&second, n, c.quotient, turned)
+    let c = parts(width, cell);
+    let turned = turn(width, k);
+    term(&first, width, c.remainder, turned) ^ term(&second, width, c.quotient, turned)
 }
 
 // The group of index m of subchannel s.
@@ -108,25 +111,23 @@ fn group(s: usize, m: usize) -> usize
 
 // The data number of a point.
 #[tactic(auto, using(crate::proofs::Sequence::size, crate::proofs::Law::group_lt, crate::proofs::Law::start_lt, crate::proofs::Law::element_lt), unfolding(crate::specs::Map::data_number))]
-pub fn data_number(n: usize, cell: usize, subchannel: usize, index: usize) -> usize
-    requires width { Width n }
-    requires cell_bound { (cell < n * n) × (subchannel < n) × (index < 48) }
-    ensures { result ≡ data_number n cell subchannel index }
+pub fn data_number(width: Width, cell: usize, subchannel: usize, index: usize) -> usize
+    requires cell_bound { (cell < width.n * width.n) × (subchannel < width.n) × (index < 48) }
+    ensures { result ≡ data_number width.n cell subchannel index }
 {
     let k = group(subchannel, index);
-    k * n + (subchannel ^ cell_term(n, cell, k))
+    k * width.n + (subchannel ^ cell_term(width, cell, k))
 }
 
 // The reverse: the point of a data number.
 #[tactic(auto, using(crate::proofs::Sequence::size, crate::proofs::Law::subchannel_lt), unfolding(crate::specs::Map::address_of))]
-pub fn address(n: usize, cell: usize, d: usize) -> Address
-    requires width { Width n }
-    requires cell_bound { (cell < n * n) × (d < 48 * n) }
-    ensures { result ≡ address_of n cell d }
+pub fn address(width: Width, cell: usize, d: usize) -> Address
+    requires cell_bound { (cell < width.n * width.n) × (d < 48 * width.n) }
+    ensures { result ≡ address_of width.n cell d }
 {
-    let p = parts(n, d);
+    let p = parts(width, d);
     let k = p.quotient;
-    let s = p.remainder ^ cell_term(n, cell, k);
+    let s = p.remainder ^ cell_term(width, cell, k);
     Address {
         subchannel: s,
         index: unrotate(48, 23 * s, k),

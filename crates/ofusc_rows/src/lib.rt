@@ -7,42 +7,39 @@ ghost use Rattle.base.specs.Choice.{pick};
 ghost use Rattle.base.specs.Tabulate.{tabulate};
 ghost use Rattle.base.specs.Model.{Starts};
 ghost use Rattle.carriers.specs.Model.{address_number};
-ghost use Rattle.ofusc.specs.Width.{Width};
 ghost use Rattle.ofusc.specs.Map.{address_of};
 ghost use Rattle.ofusc_rows.specs.Model.{cell_number, group_number, point_in_group};
 
-use ofusc::{SEQUENCE_1, SEQUENCE_2, parts, term};
+use ofusc::{SEQUENCE_1, SEQUENCE_2, Width, parts, term};
 
 // What the cell alone fixes of the data number in each of the first N-1 groups.
 #[tactic(auto, using(ofusc::proofs::Sequence::pos, ofusc::proofs::Sequence::size, ofusc::proofs::Law::start_lt, crate::proofs::Row::written))]
-fn first_groups(n: usize, cell: usize) -> [u16; 48]
-    requires width { Width n }
-    requires cell_bound { cell < n * n }
-    ensures { Starts (n - 1) (cell_number n cell) result }
+fn first_groups(width: Width, cell: usize) -> [u16; 48]
+    requires cell_bound { cell < width.n * width.n }
+    ensures { Starts (width.n - 1) (cell_number width.n cell) result }
 {
     let first = SEQUENCE_1;
     let second = SEQUENCE_2;
-    let c = parts(n, cell);
+    let c = parts(width, cell);
     let c1 = c.remainder;
     let c2 = c.quotient;
     let mut table = [0; 48];
-    for k in 0..n - 1 {
-        let element = term(&first, n, c1, k) ^ term(&second, n, c2, k);
-        table[k] = (k * n + element) as u16;
+    for k in 0..width.n - 1 {
+        let element = term(&first, width, c1, k) ^ term(&second, width, c2, k);
+        table[k] = (k * width.n + element) as u16;
     }
     table
 }
 
 // The data number of subchannel 0 in each group: what the cell adds comes again after N-1 groups.
 #[tactic(auto, using(ofusc::proofs::Sequence::pos, ofusc::proofs::Sequence::size, ofusc::proofs::Law::start_lt, crate::proofs::Row::written))]
-pub fn table(n: usize, cell: usize) -> [u16; 48]
-    requires width { Width n }
-    requires cell_bound { cell < n * n }
-    ensures { Starts 48 (cell_number n cell) result }
+pub fn table(width: Width, cell: usize) -> [u16; 48]
+    requires cell_bound { cell < width.n * width.n }
+    ensures { Starts 48 (cell_number width.n cell) result }
 {
-    let period = n - 1;
-    let step = (period * n) as u16;
-    let mut table = first_groups(n, cell);
+    let period = width.n - 1;
+    let step = (period * width.n) as u16;
+    let mut table = first_groups(width, cell);
     for k in period..48 {
         table[k] = table[k - period] + step;
     }
@@ -51,11 +48,10 @@ pub fn table(n: usize, cell: usize) -> [u16; 48]
 
 // The data numbers of a subchannel, by group.
 #[tactic(auto, using(ofusc::proofs::Sequence::size, crate::proofs::Row::written))]
-pub fn numbers(n: usize, cell: usize, subchannel: usize, table: &[u16; 48]) -> [u16; 48]
-    requires width { Width n }
-    requires subchannel_lt_n { subchannel < n }
-    requires starts { Starts 48 (cell_number n cell) table.now }
-    ensures { result ≡ tabulate 48 (group_number n cell subchannel) }
+pub fn numbers(width: Width, cell: usize, subchannel: usize, table: &[u16; 48]) -> [u16; 48]
+    requires subchannel_lt_n { subchannel < width.n }
+    requires starts { Starts 48 (cell_number width.n cell) table.now }
+    ensures { result ≡ tabulate 48 (group_number width.n cell subchannel) }
 {
     let s = subchannel as u16;
     // A loop, since array::from_fn does not prove here.
@@ -86,13 +82,12 @@ fn point(fixed: u16, k: u16, d: u16) -> u16
 
 // The numbers of the eight points of bin i, by rising carrier.
 #[tactic(auto, using(ofusc::proofs::Sequence::size, crate::proofs::Points::group_lt, crate::proofs::Row::written))]
-pub fn bin_points(n: usize, cell: usize, i: usize, table: &[u16; 48]) -> [u16; 12]
-    requires width { Width n }
-    requires i_bound { (i < 6 * n) × Starts 48 (cell_number n cell) table.now }
-    ensures { Starts 8 (λ j. address_number (address_of n cell (i * 8 + j))) result }
+pub fn bin_points(width: Width, cell: usize, i: usize, table: &[u16; 48]) -> [u16; 12]
+    requires i_bound { (i < 6 * width.n) × Starts 48 (cell_number width.n cell) table.now }
+    ensures { Starts 8 (λ j. address_number (address_of width.n cell (i * 8 + j))) result }
 {
-    let p = parts(n, i * 8);
-    let q = parts(n, i * 8 + 4);
+    let p = parts(width, i * 8);
+    let q = parts(width, i * 8 + 4);
     let k = p.quotient;
     let l = q.quotient;
     let first = table[k];

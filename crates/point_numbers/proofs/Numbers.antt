@@ -4,7 +4,6 @@ use Rattle.base.proofs.{Tabulate.starts_as, Rank.rank_all, LeaveOut.{skip_below,
 use Rattle.base.specs.{Steps.{skip, entry}, Model.Starts}
 use Rattle.carriers.specs.{declared.Address.Address, Bin.{bin_pilot_place, used_of_data, data_of_used}, Model.address_number}
 use Rattle.carriers.proofs.Bin.{data_used}
-use Rattle.ofusc.specs.Width.{Width}
 use Rattle.ofusc.proofs.Sequence.{size}
 use Rattle.amc.specs.{declared.Shape.Shape, Model.IsShape}
 use Rattle.modes.specs.{Setup.{Setup, setup_lent}, Mode.{shape_of, width, symbols, symbols_of}}
@@ -192,9 +191,8 @@ module _ {c : Setup} (v : Unlent c) (row i : ℕ) (hr : row < symbols c) (hi : i
   unfolding run_count
   bin_lt o = let count : 6 * width c ≡ run_count c = by-mode (at_bins o) in omega arith
 
-  pub asks_2 : c.mode ≡ 2 → (n : ℕ) → n ≡ width c → Width n × ((i < 6 * n) × Starts 48 (spread.cell_number n c.cell) places)
-  asks_2 q n e =
-      rw e (bin_width (own v) (omega arith), (bin_lt (omega arith), from_table places (groups_as c q) tp))
+  pub asks_2 : c.mode ≡ 2 → (n : ℕ) → n ≡ width c → (i < 6 * n) × Starts 48 (spread.cell_number n c.cell) places
+  asks_2 q n e = rw e (bin_lt (omega arith), from_table places (groups_as c q) tp)
 
   pub asks_amc : IsAmc c.mode → (shape : Shape) → shape ≡ shape_of c.mode → (IsShape shape × (row < shape.symbols) × (i < 192)) × Starts 48 (adjacent.index_of c.cell) places
   asks_amc q shape e =

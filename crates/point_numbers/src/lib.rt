@@ -11,6 +11,7 @@ ghost use Rattle.runs.specs.Model.{run_step, run_count, runs_of, run_points};
 ghost use Rattle.point_numbers.specs.Model.{run_number, run_stride, point_stride, RowNumbers, RunPut, RunTable, PlaceTable};
 
 use modes::{Mode, Setup};
+use ofusc::Width;
 
 // What setup and mask fix of the clusters or of the first seventy tiles, in PUSC; no other mode reads it.
 pub fn run_table(setup: Setup, mask: usize) -> [u16; 120]
@@ -36,7 +37,12 @@ pub fn place_table(setup: Setup) -> [u16; 48]
     match Mode::try_from(setup.mode) {
         Ok(Mode::PuscDl) => pusc_dl_points::inverses(setup.cell),
         Ok(Mode::PuscUl) => [0; 48],
-        Ok(Mode::Ofusc) => ofusc_rows::table(modes::width(setup), setup.cell),
+        Ok(Mode::Ofusc) => {
+            let width = Width {
+                n: modes::width(setup),
+            };
+            ofusc_rows::table(width, setup.cell)
+        }
         Ok(Mode::Amc(_)) => amc_rows::indices(setup.cell),
         Ok(Mode::Fusc) => [0; 48],
         Err(_) => [0; 48],
@@ -85,7 +91,12 @@ fn run_numbers(
             pusc_dl_points::cluster_points(setup.cell, mask, row, i, runs, places)
         }
         Ok(Mode::PuscUl) => [0; 12],
-        Ok(Mode::Ofusc) => ofusc_rows::bin_points(modes::width(setup), setup.cell, i, places),
+        Ok(Mode::Ofusc) => {
+            let width = Width {
+                n: modes::width(setup),
+            };
+            ofusc_rows::bin_points(width, setup.cell, i, places)
+        }
         Ok(Mode::Amc(shape)) => amc_rows::bin_points(shape, setup.cell, row, i, places),
         Ok(Mode::Fusc) => [0; 12],
         Err(_) => [0; 12],

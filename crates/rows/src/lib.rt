@@ -10,6 +10,7 @@ ghost use Rattle.modes.specs.Model.{Valid};
 ghost use Rattle.rows.specs.Model.{shift_of, point_place, RowOf};
 
 use modes::{Mode, Setup};
+use ofusc::Width;
 
 // The carriers of a subchannel's points as numbers, the size for each symbol of the slot: index 0 at place `shift`, the others
 // follow, going on at the row's start.
@@ -47,7 +48,9 @@ fn carrier_row(setup: Setup, slot: usize, subchannel: usize, pilots: &[u32]) -> 
         }
         Ok(Mode::PuscUl) => pusc_ul_rows::carrier_row(setup.cell, subchannel),
         Ok(Mode::Ofusc) => {
-            let width = modes::width(setup);
+            let width = Width {
+                n: modes::width(setup),
+            };
             let table = ofusc_rows::table(width, setup.cell);
             let numbers = ofusc_rows::numbers(width, setup.cell, subchannel, &table);
             let spots = carriers::used_numbers(slot, numbers);

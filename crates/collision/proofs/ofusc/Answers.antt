@@ -12,10 +12,12 @@ overflow_mul-n c = omega (arith, (asked_wide _ _ c.is_four_sizes.ensures _ c.in_
 pub overflow_mul-n-2 : goal.overflow_mul-n-2
 overflow_mul-n-2 c = omega (arith, (asked_wide _ _ c.is_four_sizes.ensures _ c.in_ok-ask.ensures).few)
 
+pub invariant_of-width : goal.invariant_of-width
+invariant_of-width c = record { is_width = (asked_wide _ _ c.is_four_sizes.ensures _ c.in_ok-ask.ensures).is_width }
+
 pub ofusc_hits-requires : goal.ofusc_hits-requires
 ofusc_hits-requires c =
     record {
-      width = (asked_wide _ _ c.is_four_sizes.ensures _ c.in_ok-ask.ensures).is_width;
       cell_a_bound = (ltb-true _ _ (asked_yes _ _ _ c.in_ok-ask-2.ensures), ltb-true _ _ (asked_yes _ _ _ c.in_ok-ask-3.ensures));
       a_lt_n = (ltb-true _ _ (asked_yes _ _ _ c.in_ok-ask-4.ensures), ltb-true _ _ (asked_yes _ _ _ c.in_ok-ask-5.ensures));
     }

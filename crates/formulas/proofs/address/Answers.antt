@@ -1,6 +1,6 @@
 -- `formulas::address` meets its contract.
 use Rattle.base.proofs.Prelude.{arith, rules}
-use Rattle.modes.proofs.{Named.{by_name, pusc_dl_mode, pusc_ul_mode, ofusc_mode, fusc_mode, amc_modes, shape_named}, ByMode.{few, ranged_alone}}
+use Rattle.modes.proofs.{Named.{by_name, pusc_dl_mode, pusc_ul_mode, ofusc_mode, fusc_mode, amc_modes, shape_named}, ByMode.{few, ranged_alone, bin_width}}
 use Rattle.formulas.proofs.Asks.{pusc_dl_asks, pusc_ul_asks, ofusc_back_asks, amc_back_asks, amc_address, fusc_back_asks}
 use Rattle.formulas.specs.Formula.{address_of}
 use Rattle.formulas.proofs.address.Goals as goal
@@ -26,11 +26,15 @@ data_of_used-requires c = omega (arith, few c.requires.valid.ranged, c.requires.
 pub data_of_used-requires-in-Ok-Amc : goal.data_of_used-requires-in-Ok-Amc
 data_of_used-requires-in-Ok-Amc c = omega (arith, few c.requires.valid.ranged, c.requires.used_bound)
 
+pub invariant_of-width : goal.invariant_of-width
+invariant_of-width c =
+    let q = ofusc_mode _ _ c.try_from.ensures _ c.in-Ok-Ofusc.is c.in-Ok-Ofusc.field-0-is in
+    record { is_width = rw c.width.ensures (bin_width c.requires.valid.ranged (omega arith)) }
+
 pub address-requires-in-Ok-Ofusc : goal.address-requires-in-Ok-Ofusc
 address-requires-in-Ok-Ofusc c =
     let p = c.requires in
-    let a = ofusc_back_asks p.valid.ranged _ _ p.used_bound p.used_value _ c.width.ensures _ c.data_of_used.ensures (ofusc_mode _ _ c.try_from.ensures _ c.in-Ok-Ofusc.is c.in-Ok-Ofusc.field-0-is) in
-    record { width = a.0; cell_bound = a.1 }
+    record { cell_bound = ofusc_back_asks p.valid.ranged _ _ p.used_bound p.used_value _ c.width.ensures _ c.data_of_used.ensures (ofusc_mode _ _ c.try_from.ensures _ c.in-Ok-Ofusc.is c.in-Ok-Ofusc.field-0-is) }
 
 pub offset_of-requires : goal.offset_of-requires
 offset_of-requires c = ranged_alone c.requires.valid

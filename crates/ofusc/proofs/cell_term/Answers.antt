@@ -7,4 +7,4 @@ use Rattle.ofusc.proofs.cell_term.Goals as goal
 pub returns : goal.returns
 returns c =
     rw (c.term.ensures, c.term-2.ensures, c.parts-c.ensures.0, c.parts-c.ensures.1, c.turn-turned.ensures)
-    (cell_term_is c.requires.width _ _ ∙ cell_term_as _ _ _ _ (mod-mod _ _))
+    (cell_term_is c.args.width.is_width _ _ ∙ cell_term_as _ _ _ _ (mod-mod _ _))

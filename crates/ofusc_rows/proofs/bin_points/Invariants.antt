@@ -5,4 +5,4 @@ use Rattle.ofusc.specs.Map.{address_of}
 use Rattle.ofusc_rows.proofs.bin_points.Given as goal
 
 abbrev pub invariant-loop-j : goal.invariant-loop-j
-invariant-loop-j l = Written 12 (λ m. address_number (address_of l.n l.cell (l.i * 8 + m))) l.points l.j
+invariant-loop-j l = Written 12 (λ m. address_number (address_of l.fn.width.n l.cell (l.i * 8 + m))) l.points l.j

@@ -4,4 +4,4 @@ use Rattle.ofusc_rows.specs.Model.{cell_number}
 use Rattle.ofusc_rows.proofs.first_groups.Given as goal
 
 abbrev pub invariant-loop-k : goal.invariant-loop-k
-invariant-loop-k l = Written 48 (cell_number l.n l.cell) l.table l.k
+invariant-loop-k l = Written 48 (cell_number l.width.n l.cell) l.table l.k

@@ -12,11 +12,15 @@ inverses-requires c = (in_pusc_dl (own c.requires) (pusc_dl_mode _ _ c.try_from.
 pub returns-in-Ok-PuscDl : goal.returns-in-Ok-PuscDl
 returns-in-Ok-PuscDl c = to_table c.inverses.result (inverses_as _ (pusc_dl_mode _ _ c.try_from.ensures _ c.in-Ok-PuscDl.is c.in-Ok-PuscDl.field-0-is)) c.inverses.ensures
 
+pub invariant_of-width : goal.invariant_of-width
+invariant_of-width c =
+    let e = ofusc_mode _ _ c.try_from.ensures _ c.in-Ok-Ofusc.is c.in-Ok-Ofusc.field-0-is in
+    record { is_width = rw c.width.ensures (bin_width (own c.requires) (omega arith)) }
+
 pub table-requires : goal.table-requires
 table-requires c =
-    let v = c.requires in
     let e = ofusc_mode _ _ c.try_from.ensures _ c.in-Ok-Ofusc.is c.in-Ok-Ofusc.field-0-is in
-    record { width = rw c.width.ensures (bin_width (own v) (omega arith)); cell_bound = rw c.width.ensures (in_ofusc (own v) e).cell_lt }
+    record { cell_bound = rw c.width.ensures (in_ofusc (own c.requires) e).cell_lt }
 
 pub returns-in-Ok-Ofusc : goal.returns-in-Ok-Ofusc
 returns-in-Ok-Ofusc c = to_table c.table.result (groups_as _ (ofusc_mode _ _ c.try_from.ensures _ c.in-Ok-Ofusc.is c.in-Ok-Ofusc.field-0-is)) (rw c.width.ensures at c.table.ensures)

@@ -1,7 +1,8 @@
 -- `point_numbers::run_numbers` meets its contract.
 use Rattle.base.proofs.Prelude.{◌≡◌, arith, rules}
 use Rattle.modes.specs.Setup.{alone}
-use Rattle.modes.proofs.Named.{by_name, pusc_dl_mode, pusc_ul_mode, ofusc_mode, amc_modes, shape_named}
+use Rattle.modes.specs.Model.{own}
+use Rattle.modes.proofs.{Named.{by_name, pusc_dl_mode, pusc_ul_mode, ofusc_mode, amc_modes, shape_named}, ByMode.bin_width}
 use Rattle.runs.specs.Model.{run_count}
 use Rattle.point_numbers.proofs.Numbers.{asks_0, asks_2, asks_amc, numbers_0, numbers_2, numbers_amc}
 use Rattle.point_numbers.proofs.run_numbers.Goals as goal
@@ -18,11 +19,15 @@ returns-in-Ok-PuscDl c = let p = c.requires in numbers_0 _ c.args.slot _ _ c.clu
 pub returns-in-Ok-PuscUl : goal.returns-in-Ok-PuscUl
 returns-in-Ok-PuscUl c = absurd (c.requires.fact.0 (pusc_ul_mode _ _ c.try_from.ensures _ c.in-Ok-PuscUl.is c.in-Ok-PuscUl.field-0-is))
 
+pub invariant_of-width : goal.invariant_of-width
+invariant_of-width c =
+    let q = ofusc_mode _ _ c.try_from.ensures _ c.in-Ok-Ofusc.is c.in-Ok-Ofusc.field-0-is in
+    record { is_width = rw c.width.ensures (bin_width (own c.requires.unlent) (omega arith)) }
+
 pub bin_points-requires : goal.bin_points-requires
 bin_points-requires c =
     let p = c.requires in
-    let a = asks_2 p.unlent _ _ p.fact.1 p.fact.2 _ c.args.runs.now c.args.places.now p.run_table.0 p.run_table.1 (ofusc_mode _ _ c.try_from.ensures _ c.in-Ok-Ofusc.is c.in-Ok-Ofusc.field-0-is) _ c.width.ensures in
-    record { width = a.0; i_bound = a.1 }
+    record { i_bound = asks_2 p.unlent _ _ p.fact.1 p.fact.2 _ c.args.runs.now c.args.places.now p.run_table.0 p.run_table.1 (ofusc_mode _ _ c.try_from.ensures _ c.in-Ok-Ofusc.is c.in-Ok-Ofusc.field-0-is) _ c.width.ensures }
 
 pub returns-in-Ok-Ofusc : goal.returns-in-Ok-Ofusc
 returns-in-Ok-Ofusc c lit = let p = c.requires in numbers_2 _ c.args.slot _ _ c.bin_points.result p.unlent (ofusc_mode _ _ c.try_from.ensures _ c.in-Ok-Ofusc.is c.in-Ok-Ofusc.field-0-is) p.fact.1 _ c.width.ensures c.bin_points.ensures

@@ -42,55 +42,59 @@ returns-in-Ok-PuscUl c =
     row_1 p.valid (omega arith) _ _ p.subchannel_bound q _ c.carrier_row-in-Ok-PuscUl.ensures
 
 -- optional FUSC
+pub invariant_of-width : goal.invariant_of-width
+invariant_of-width c =
+    let p = c.requires in
+    record { is_width = (asks_2 p.valid.ranged _ p.subchannel_bound _ c.width.ensures (ofusc_mode _ _ c.try_from.ensures _ c.in-Ok-Ofusc.is c.in-Ok-Ofusc.field-0-is)).0 }
+
 pub table-table-requires : goal.table-table-requires
 table-table-requires c =
     let p = c.requires in
-    let a = asks_2 p.valid.ranged _ p.subchannel_bound _ c.width-width.ensures (ofusc_mode _ _ c.try_from.ensures _ c.in-Ok-Ofusc.is c.in-Ok-Ofusc.field-0-is) in
-    record { width = a.0; cell_bound = a.2 }
+    record { cell_bound = (asks_2 p.valid.ranged _ p.subchannel_bound _ c.width.ensures (ofusc_mode _ _ c.try_from.ensures _ c.in-Ok-Ofusc.is c.in-Ok-Ofusc.field-0-is)).2 }
 
 pub numbers-numbers-requires : goal.numbers-numbers-requires
 numbers-numbers-requires c =
     let p = c.requires in
-    let a = asks_2 p.valid.ranged _ p.subchannel_bound _ c.width-width.ensures (ofusc_mode _ _ c.try_from.ensures _ c.in-Ok-Ofusc.is c.in-Ok-Ofusc.field-0-is) in
-    record { width = a.0; subchannel_lt_n = a.1; starts = c.table-table.ensures }
+    let a = asks_2 p.valid.ranged _ p.subchannel_bound _ c.width.ensures (ofusc_mode _ _ c.try_from.ensures _ c.in-Ok-Ofusc.is c.in-Ok-Ofusc.field-0-is) in
+    record { subchannel_lt_n = a.1; starts = c.table-table.ensures }
 
 pub used_numbers-spots-requires : goal.used_numbers-spots-requires
 used_numbers-spots-requires c =
     let p = c.requires in
     let q = ofusc_mode _ _ c.try_from.ensures _ c.in-Ok-Ofusc.is c.in-Ok-Ofusc.field-0-is in
-    numbers_below p.valid.ranged q c.args.slot _ p.subchannel_bound _ c.width-width.ensures _ c.numbers-numbers.ensures
+    numbers_below p.valid.ranged q c.args.slot _ p.subchannel_bound _ c.width.ensures _ c.numbers-numbers.ensures
 
 pub carrier_row-requires-in-Ok-Ofusc : goal.carrier_row-requires-in-Ok-Ofusc
 carrier_row-requires-in-Ok-Ofusc c =
     let p = c.requires in
     let q = ofusc_mode _ _ c.try_from.ensures _ c.in-Ok-Ofusc.is c.in-Ok-Ofusc.field-0-is in
     let f = few p.valid.ranged in
-    let t = row_2 p.valid.ranged q c.args.slot _ p.subchannel_bound _ c.width-width.ensures _ c.numbers-numbers.ensures _ c.used_numbers-spots.ensures in
+    let t = row_2 p.valid.ranged q c.args.slot _ p.subchannel_bound _ c.width.ensures _ c.numbers-numbers.ensures _ c.used_numbers-spots.ensures in
     rw c.band-in-Ok-Ofusc.ensures (omega arith, omega arith, spots_below p.valid (omega arith) c.args.slot _ p.subchannel_bound _ t)
 
 pub returns-in-Ok-Ofusc : goal.returns-in-Ok-Ofusc
 returns-in-Ok-Ofusc c =
     let p = c.requires in
     let q = ofusc_mode _ _ c.try_from.ensures _ c.in-Ok-Ofusc.is c.in-Ok-Ofusc.field-0-is in
-    let t = row_2 p.valid.ranged q c.args.slot _ p.subchannel_bound _ c.width-width.ensures _ c.numbers-numbers.ensures _ c.used_numbers-spots.ensures in
+    let t = row_2 p.valid.ranged q c.args.slot _ p.subchannel_bound _ c.width.ensures _ c.numbers-numbers.ensures _ c.used_numbers-spots.ensures in
     carriers_of p.valid (omega arith) _ _ p.subchannel_bound _ t _ (rw c.band-in-Ok-Ofusc.ensures at c.carrier_row-in-Ok-Ofusc.ensures)
 
 -- AMC
 pub table-table-requires-in-Ok-Amc : goal.table-table-requires-in-Ok-Amc
 table-table-requires-in-Ok-Amc c =
     let p = c.requires in
-    let a = asks_amc p.valid.ranged _ p.subchannel_bound (amc_modes _ _ c.try_from.ensures _ c.in-Ok-Amc.is c.in-Ok-Amc.field-0-is) _ (shape_named _ _ c.try_from.ensures _ c.in-Ok-Amc.is c.in-Ok-Amc.field-0-is) _ c.width-width-in-Ok-Amc.ensures in
+    let a = asks_amc p.valid.ranged _ p.subchannel_bound (amc_modes _ _ c.try_from.ensures _ c.in-Ok-Amc.is c.in-Ok-Amc.field-0-is) _ (shape_named _ _ c.try_from.ensures _ c.in-Ok-Amc.is c.in-Ok-Amc.field-0-is) _ c.width-width.ensures in
     (a.0, a.1, a.2)
 
 pub carrier_row-requires-in-Ok-Amc-clause-shape : goal.carrier_row-requires-in-Ok-Amc-clause-shape
 carrier_row-requires-in-Ok-Amc-clause-shape c =
     let p = c.requires in
-    asks_amc p.valid.ranged _ p.subchannel_bound (amc_modes _ _ c.try_from.ensures _ c.in-Ok-Amc.is c.in-Ok-Amc.field-0-is) _ (shape_named _ _ c.try_from.ensures _ c.in-Ok-Amc.is c.in-Ok-Amc.field-0-is) _ c.width-width-in-Ok-Amc.ensures
+    asks_amc p.valid.ranged _ p.subchannel_bound (amc_modes _ _ c.try_from.ensures _ c.in-Ok-Amc.is c.in-Ok-Amc.field-0-is) _ (shape_named _ _ c.try_from.ensures _ c.in-Ok-Amc.is c.in-Ok-Amc.field-0-is) _ c.width-width.ensures
 
 pub returns-in-Ok-Amc : goal.returns-in-Ok-Amc
 returns-in-Ok-Amc c =
     let p = c.requires in
-    row_amc _ _ _ p.valid.ranged (amc_modes _ _ c.try_from.ensures _ c.in-Ok-Amc.is c.in-Ok-Amc.field-0-is) _ (shape_named _ _ c.try_from.ensures _ c.in-Ok-Amc.is c.in-Ok-Amc.field-0-is) _ c.width-width-in-Ok-Amc.ensures _ c.carrier_row-in-Ok-Amc.ensures
+    row_amc _ _ _ p.valid.ranged (amc_modes _ _ c.try_from.ensures _ c.in-Ok-Amc.is c.in-Ok-Amc.field-0-is) _ (shape_named _ _ c.try_from.ensures _ c.in-Ok-Amc.is c.in-Ok-Amc.field-0-is) _ c.width-width.ensures _ c.carrier_row-in-Ok-Amc.ensures
 
 -- FUSC, whose row goes by its list
 pub carrier_row-requires-in-Ok-Fusc : goal.carrier_row-requires-in-Ok-Fusc
