@@ -30,7 +30,7 @@ TIME = 315532800  # of every file: 1980, as in the wheel; tar warns of 1970
 # What is taken of the tree as it is: a folder, and the names there.
 SOURCES = (
     ("", r"README\.md|LICENCE"),
-    ("docs", r"[A-Z]+\.md"),
+    ("docs", r"[A-Z-]+\.md"),
     ("docs/pictures", r".*\.(md|svg|txt)"),
     ("examples", r"points\.py"),
     ("examples/c", r".*\.[ch]|run\.sh"),
