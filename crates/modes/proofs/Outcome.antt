@@ -1,6 +1,6 @@
 -- What the questions of a setup and of a carrier come to at each of their returns.
-use Rattle.base.proofs.Prelude.{◌≡◌, refl, sym, ap, ◌∙◌, Bool, true, ℕ, ◌<◌, ◌≤◌, arith}
-use Rattle.base.proofs.{Test.{told_yes}, Chain.{all_yes, is_refused, has_passed}}
+use Rattle.base.proofs.Prelude.{◌≡◌, refl, sym, ap, ◌∙◌, Bool, true, false, ℕ, ◌<◌, ◌≤◌, arith}
+use Rattle.base.proofs.{Test.{told_no, told_yes}, Chain.{all_yes, is_refused, has_passed}}
 use lib.IntN.{ℤ}
 use mir.{Syntax.w32, Val.{SFits, to_z, of_z}, ValLaws.to_z-of_z}
 use Rattle.base.specs.Answer.{Answer, accepted, refused, ask, refusal_of}
@@ -53,6 +53,12 @@ module _ (c : Setup) (k : ℤ) (fits : SFits w32 k) (t : Bool) (g : t ≡ in_ran
   pub carrier_same : t ≡ is_carrier c k
   unfolding is_carrier
   carrier_same = g ∙ ap (in_range c.size) (to_z-of_z w32 k fits)
+
+  pub carrier_no : t ≡ false → is_carrier c k ≡ false
+  carrier_no = told_no t carrier_same
+
+  pub carrier_yes : t ≡ true → is_carrier c k ≡ true
+  carrier_yes = told_yes t carrier_same
 
   module _ (yes' : t ≡ true) (column : ℕ) (f : column ≡ on_row c.size (to_z w32 (of_z w32 k))) where
     pub column-in : Ranged c → column < c.size

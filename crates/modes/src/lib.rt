@@ -5,7 +5,7 @@ ghost use Rattle.std.specs.Prelude.{◌≡◌, ◌==◌, false, ◌*◌, ◌/◌
 ghost use Rattle.refusal.specs.Refusal.{refusal_in};
 ghost use Rattle.modes.specs.Setup.{alone, lent};
 ghost use Rattle.modes.specs.Named.{named};
-ghost use Rattle.modes.specs.Mode.{is_amc, width as WidthOf, cells as Cells, subchannels as Subchannels, symbols as Symbols, band as BandOf};
+ghost use Rattle.modes.specs.Mode.{is_amc, shape_of, width as WidthOf, cells as Cells, subchannels as Subchannels, symbols as Symbols, band as BandOf};
 ghost use Rattle.modes.specs.Question.{is_four_sizes, is_size, is_lent};
 ghost use Rattle.modes.specs.Model.{setup_refusal, Ranged};
 
@@ -42,25 +42,38 @@ impl TryFrom<usize> for Mode {
             0 => Ok(Mode::PuscDl),
             1 => Ok(Mode::PuscUl),
             2 => Ok(Mode::Ofusc),
-            3 => Ok(Mode::Amc(Shape {
-                bins: 6,
-                symbols: 1,
-            })),
-            4 => Ok(Mode::Amc(Shape {
-                bins: 2,
-                symbols: 3,
-            })),
-            5 => Ok(Mode::Amc(Shape {
-                bins: 3,
-                symbols: 2,
-            })),
-            6 => Ok(Mode::Amc(Shape {
-                bins: 1,
-                symbols: 6,
-            })),
+            3..=6 => Ok(Mode::Amc(shape(number))),
             7 => Ok(Mode::Fusc),
             _ => Err(Refusal::Mode),
         }
+    }
+}
+
+// The shape of AMC's slots; no other mode has one.
+pub fn shape(mode: usize) -> Shape
+    ensures { result ≡ shape_of mode }
+{
+    match mode {
+        3 => Shape {
+            bins: 6,
+            symbols: 1,
+        },
+        4 => Shape {
+            bins: 2,
+            symbols: 3,
+        },
+        5 => Shape {
+            bins: 3,
+            symbols: 2,
+        },
+        6 => Shape {
+            bins: 1,
+            symbols: 6,
+        },
+        _ => Shape {
+            bins: 0,
+            symbols: 0,
+        },
     }
 }
 
@@ -201,6 +214,7 @@ fn is_size(setup: Setup) -> bool
 }
 
 // Questions 1, 2 and 3.
+#[inline(always)]
 pub fn ask_setup(setup: Setup) -> Result<(), Refusal>
     ensures { refusal_in result ≡ setup_refusal (alone setup) }
 {
