@@ -41,6 +41,7 @@ fn is_apart(
 // The questions put to a list, given the numbers after the zone's last subchannel and last slot.
 // The edges of the bursts so far stand in columns; a burst's are kept before it is asked, so that the next one finds them
 // written. Each column is an array of its own, so that it is cleared without a call.
+#[inline(always)]
 pub fn ask_list(subchannel_end: usize, slot_end: usize, bursts: &[u32]) -> Result<(), Refusal>
     requires { (subchannel_end < 65536) × (slot_end < 65536) }
     ensures { refusal_in result ≡ list_refusal subchannel_end slot_end bursts.now }

@@ -11,6 +11,7 @@ use modes::Setup;
 use refusal::{Refusal, ask};
 
 // Questions 1, 2, 3, 17 and 4.
+#[inline(always)]
 pub fn ask_slot(setup: Setup, mask: usize, slot: usize) -> Result<(), Refusal>
     ensures { refusal_in result ≡ slot_refusal (alone setup) mask slot }
 {
@@ -42,6 +43,7 @@ pub fn ask_ground(
 }
 
 // Empty's questions: 1, 2, 3, 17, 4, 20, 8, 9.
+#[inline(always)]
 pub fn ask_empty(
     setup: Setup,
     mask: usize,

@@ -1,7 +1,7 @@
 // What refuses a request: the first of documents 01's and 02's questions that is answered no.
 #![tactic(auto)]
 
-ghost use Rattle.std.specs.Prelude.{◌≡◌};
+ghost use Rattle.std.specs.Prelude.{◌≡◌, Err};
 ghost use Rattle.base.specs.Answer.{accepted, ask};
 ghost use Rattle.refusal.specs.Refusal.{number_of, answer_of};
 
@@ -75,5 +75,14 @@ impl Error for Refusal {}
 pub fn ask(ok: bool, no: Refusal) -> Result<(), Refusal>
     ensures { answer_of result ≡ ask ok (number_of no) (accepted tt) }
 {
-    if ok { Ok(()) } else { Err(no) }
+    if ok { Ok(()) } else { refused(no) }
+}
+
+// A no. It is a call, and a cold one, so that what follows a question is compiled as what mostly comes next.
+#[cold]
+#[inline(never)]
+fn refused(no: Refusal) -> Result<(), Refusal>
+    ensures { result ≡ Err no }
+{
+    Err(no)
 }

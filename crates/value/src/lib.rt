@@ -16,6 +16,7 @@ pub struct Value {
 }
 
 // The value whose first byte stands at a place.
+#[inline(always)]
 pub fn read(s: &[u8], at: usize) -> Result<Value, Refusal>
     ensures { answer_of result ≡ value_of (drop at s.now) }
 {

@@ -37,6 +37,7 @@ fn is_order(size: usize, prior: Option<usize>, zone: Zone) -> bool
 }
 
 // The questions put to a zone's own values.
+#[inline(always)]
 pub fn ask_fields(size: usize, zone: Zone) -> Result<(), Refusal>
     ensures { refusal_in result ≡ fields_refusal size zone }
 {
@@ -51,6 +52,7 @@ pub fn ask_fields(size: usize, zone: Zone) -> Result<(), Refusal>
 }
 
 // The questions put to a zone in its plan, after a zone of a mode or as the first.
+#[inline(always)]
 pub fn ask_zone(size: usize, prior: Option<usize>, zone: Zone) -> Result<(), Refusal>
     ensures { refusal_in result ≡ zone_refusal size prior zone }
 {
