@@ -147,6 +147,27 @@ module _ (setup : Setup) (v : Valid setup) (mask slot : ℕ) (p : Point) where
         pub long_1 : length grid₁ ≡ 2 * grid_points setup
         long_1 = put_long grid long i shape.first hi first_in (first_is i) r e d grid₁ q₁ ∙ long
 
+        keeps_1 : (n : ℕ) → point_at grid n ≡ at n → point_at grid₁ n ≡ at n
+        keeps_1 = put_keeps grid long i shape.first hi first_in (first_is i) r e d grid₁ q₁
+
+        -- its only one
+        pub run_next_1 : last_pilot shape ≡ shape.first → PilotsBelow setup mask slot p row ((i + 1) * step) grid₀ grid₁
+        run_next_1 same =
+            record {
+              long = long_1 ∙ sym long₀;
+              kept = λ n z. keeps_1 n (t.kept n z);
+              put = λ used h is.
+                  cases (ltb used (i * step))
+                  (λ l. keeps_1 (used_position setup row used) (t.put used (ltb-true used (i * step) l) is))
+                  (λ l. let le = ltb-false used (i * step) l in
+                  let place = used - i * step in
+                  let here : i * step + place ≡ used = omega arith in
+                  let hp : place < step = omega arith in
+                  let z : place ≡ shape.first = ⊎_elim (λ z. z) (λ z. z ∙ same) (no_other i place hp (rw here is)) in
+                  subst (λ (u : ℕ). point_at grid₁ (used_position setup row u) ≡ at (used_position setup row u)) here
+                  (rw z (put_here grid long i shape.first hi first_in (first_is i) r e d grid₁ q₁)));
+            }
+
         module _ (last : ℕ) (el : last ≡ last_pilot shape) (grid₂ : List Float) (q₂ : grid₂ ≡ put_point grid₁ (used_position setup row (i * step + last)) (get_or (zero_point ∷ p ∷ []) r d)) where
           last_lt : last < step
           last_lt = rw el (subst (λ (b : Runs). last_pilot shape < b.step) es last_in)
@@ -158,7 +179,7 @@ module _ (setup : Setup) (v : Valid setup) (mask slot : ℕ) (p : Point) where
           keeps_2 = put_keeps grid₁ long_1 i last hi last_lt last_on r e d grid₂ q₂
 
           keeps : (n : ℕ) → point_at grid n ≡ at n → point_at grid₂ n ≡ at n
-          keeps n z = keeps_2 n (put_keeps grid long i shape.first hi first_in (first_is i) r e d grid₁ q₁ n z)
+          keeps n z = keeps_2 n (keeps_1 n z)
 
           pub run_next : PilotsBelow setup mask slot p row ((i + 1) * step) grid₀ grid₂
           run_next =

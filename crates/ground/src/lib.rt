@@ -4,7 +4,7 @@
 ghost use Rattle.std.specs.Prelude.{◌≡◌, ◌+◌, ◌*◌, ◌<◌, length};
 ghost use Rattle.refusal.specs.Refusal.{refusal_in};
 ghost use Rattle.modes.specs.Setup.{alone, lent};
-ghost use Rattle.modes.specs.Mode.{symbols, band};
+ghost use Rattle.modes.specs.Mode.{symbols, band as BandOf};
 ghost use Rattle.modes.specs.Model.{Unlent, Valid};
 ghost use Rattle.runs.specs.Model.{LitRuns, run_step, run_count};
 ghost use Rattle.points.specs.Model.{put_point};
@@ -13,14 +13,16 @@ ghost use Rattle.grid.specs.Row.{used_position};
 ghost use Rattle.ground.specs.Ground.{grounded, ground_of};
 ghost use Rattle.ground.specs.Model.{last_pilot, PilotsBelow};
 
+use carriers::Band;
 use modes::Setup;
 use points::Point;
 use refusal::Refusal;
 use runs::Runs;
 
-// A point on a place of run i of a row, whose runs have `step` places.
+// A point on a place of run i of a row, whose runs have `step` places. (The band is the mode's, found once for a row.)
 fn put_pilot(
     setup: Setup,
+    band: Band,
     row: usize,
     step: usize,
     i: usize,
@@ -30,10 +32,11 @@ fn put_pilot(
 )
     requires unlent { Unlent (alone setup) }
     requires row_bound { (row < symbols (alone setup)) × (i < run_count (alone setup)) × (step ≡ run_step (alone setup)) × (place < step) × (length grid.old ≡ 2 * grid_points (alone setup)) }
+    requires band_value { band ≡ BandOf (alone setup) }
     ensures { grid.new ≡ put_point grid.old (used_position (alone setup) row (i * run_step (alone setup) + place)) p }
 {
     let used = i * step + place;
-    let at = row * setup.size + carriers::carrier(modes::band(setup), used);
+    let at = row * setup.size + carriers::carrier(band, used);
     points::put_point(grid, at, p);
 }
 
@@ -60,7 +63,7 @@ fn pilot_row(
     requires unlent { Unlent (alone setup) }
     requires slot_bound { (slot < 512) × (row < symbols (alone setup)) × (length grid.old ≡ 2 * grid_points (alone setup)) }
     requires lit_runs { LitRuns (alone setup) mask lit.now }
-    ensures { PilotsBelow (alone setup) mask slot p row (band (alone setup)).used grid.old grid.new }
+    ensures { PilotsBelow (alone setup) mask slot p row (BandOf (alone setup)).used grid.old grid.new }
 {
     let shape = runs::symbol_runs(setup, slot * modes::symbols(setup) + row);
     if shape.step <= shape.first {
@@ -68,10 +71,14 @@ fn pilot_row(
     }
     let last = last_pilot(shape);
     let points = [Point { i: 0.0, q: 0.0 }, p];
+    let band = modes::band(setup);
     for i in 0..shape.count {
         let own = points[runs::run_lit(setup, lit, i)];
-        put_pilot(setup, row, shape.step, i, shape.first, own, grid);
-        put_pilot(setup, row, shape.step, i, last, own, grid);
+        put_pilot(setup, band, row, shape.step, i, shape.first, own, grid);
+        // A run of one pilot is put once: putting it twice took half as long again.
+        if last != shape.first {
+            put_pilot(setup, band, row, shape.step, i, last, own, grid);
+        }
     }
 }
 
@@ -93,7 +100,7 @@ fn zeros_and_pilots(setup: Setup, mask: usize, slot: usize, p: Point, grid: &mut
 fn list_pilots(setup: Setup, mask: usize, slot: usize, pilots: &[u32], p: Point, grid: &mut [f32])
     requires valid { Valid (lent setup pilots.now) }
     requires mode_value { (setup.mode ≡ 7) × (length grid.old ≡ 2 * grid_points (alone setup)) }
-    ensures { PilotsBelow (lent setup pilots.now) mask slot p 0 (band (alone setup)).used grid.old grid.new }
+    ensures { PilotsBelow (lent setup pilots.now) mask slot p 0 (BandOf (alone setup)).used grid.old grid.new }
 {
     let band = modes::band(setup);
     for i in 0..166 {

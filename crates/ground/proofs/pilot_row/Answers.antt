@@ -1,10 +1,11 @@
-use Rattle.base.proofs.Prelude.{◌≡◌, ap, ◌∙◌, ℕ, ◌+◌, ◌*◌, ◌<◌, arith}
+use Rattle.base.proofs.Prelude.{◌≡◌, sym, ap, ◌∙◌, ℕ, ◌+◌, ◌*◌, ◌<◌, arith, rules}
 use Rattle.modes.specs.{Setup.alone, Mode.symbols, Model.own}
 use Rattle.modes.proofs.{ByMode.{slot_few, few}, Lent.valid_alone}
 use Rattle.runs.specs.{declared.Runs.Runs, Model.{run_count, runs_of}}
 use Rattle.runs.proofs.Law.{run_is}
-use Rattle.ground.proofs.Pilots.{lit_two, none_row, row_start, last_in, long_1, run_next, row_done}
+use Rattle.ground.proofs.Pilots.{lit_two, none_row, row_start, last_in, long_1, run_next, run_next_1, row_done}
 use Rattle.ground.proofs.pilot_row.Goals as goal
+use Rattle.ground.proofs.pilot_row.Goals.{then-last-shape, else-last-shape}
 
 symbol_few : (c : goal.After-symbols) → let a = c.args in a.slot * c.symbols.result + a.row < 4096
 symbol_few c =
@@ -19,12 +20,6 @@ shape_is_2 c = let a = c.args in c.symbol_runs-shape.ensures ∙ ap (λ (n : ℕ
 
 shape_is_3 : (c : goal.After-put_pilot-arg-1) → let a = c.args in c.symbol_runs-shape.result ≡ runs_of (alone a.setup) (a.slot * symbols (alone a.setup) + a.row)
 shape_is_3 c = let a = c.args in c.symbol_runs-shape.ensures ∙ ap (λ (n : ℕ). runs_of (alone a.setup) (a.slot * n + a.row)) c.symbols.ensures
-
-shape_is_4 : (c : goal.After-put_pilot-arg-in-loop-i-1) → let a = c.args in c.symbol_runs-shape.result ≡ runs_of (alone a.setup) (a.slot * symbols (alone a.setup) + a.row)
-shape_is_4 c = let a = c.args in c.symbol_runs-shape.ensures ∙ ap (λ (n : ℕ). runs_of (alone a.setup) (a.slot * n + a.row)) c.symbols.ensures
-
-shape_is_5 : (c : goal.After-slice_known-in-loop-i-2-1) → let a = c.args in c.symbol_runs-shape.result ≡ runs_of (alone a.setup) (a.slot * symbols (alone a.setup) + a.row)
-shape_is_5 c = let a = c.args in c.symbol_runs-shape.ensures ∙ ap (λ (n : ℕ). runs_of (alone a.setup) (a.slot * n + a.row)) c.symbols.ensures
 
 shape_is_6 : (c : goal.In-loop-i) → let a = c.args in c.symbol_runs-shape.result ≡ runs_of (alone a.setup) (a.slot * symbols (alone a.setup) + a.row)
 shape_is_6 c = let a = c.args in c.symbol_runs-shape.ensures ∙ ap (λ (n : ℕ). runs_of (alone a.setup) (a.slot * n + a.row)) c.symbols.ensures
@@ -42,12 +37,6 @@ run_lt c = omega (arith, ap (λ (b : Runs). b.count) (shape_is_2 c), c.loop-i-te
 run_lt_2 : (c : goal.After-put_pilot-arg-1) → c.loop-i.i < run_count (alone c.args.setup)
 run_lt_2 c = omega (arith, ap (λ (b : Runs). b.count) (shape_is_3 c), c.loop-i-test.true)
 
-run_lt_3 : (c : goal.After-put_pilot-arg-in-loop-i-1) → c.loop-i.i < run_count (alone c.args.setup)
-run_lt_3 c = omega (arith, ap (λ (b : Runs). b.count) (shape_is_4 c), c.loop-i-test.true)
-
-run_lt_4 : (c : goal.After-slice_known-in-loop-i-2-1) → c.loop-i.i < run_count (alone c.args.setup)
-run_lt_4 c = omega (arith, ap (λ (b : Runs). b.count) (shape_is_5 c), c.loop-i-test.true)
-
 run_lt_5 : (c : goal.In-loop-i) → c.loop-i.i < run_count (alone c.args.setup)
 run_lt_5 c = omega (arith, ap (λ (b : Runs). b.count) (shape_is_6 c), c.loop-i-test.true)
 
@@ -60,30 +49,40 @@ pub put_pilot-requires : goal.put_pilot-requires
 put_pilot-requires c =
     let then = c.before.before.before in
     let start = then in
-    record { unlent = c.requires.unlent; row_bound = (c.requires.slot_bound.1, run_lt_2 c, ap (λ (b : Runs). b.step) (shape_is_3 c), then.if-shape.false, then.loop-i.invariant.long ∙ c.requires.slot_bound.2) }
+    record { unlent = c.requires.unlent; row_bound = (c.requires.slot_bound.1, run_lt_2 c, ap (λ (b : Runs). b.step) (shape_is_3 c), then.if-shape.false, then.loop-i.invariant.long ∙ c.requires.slot_bound.2); band_value = c.band-band.ensures }
 
-pub put_pilot-requires-in-loop-i : goal.put_pilot-requires-in-loop-i
-put_pilot-requires-in-loop-i c =
-    let then = c.before.before.before.before.before.before.before in
-    let start = then in
-    let shape = shape_is_4 c in record {
+pub put_pilot-requires-then-last-shape : goal.put_pilot-requires-then-last-shape
+put_pilot-requires-then-last-shape c =
+    let shape : c.symbol_runs-shape.result ≡ runs_of (alone c.args.setup) (c.args.slot * symbols (alone c.args.setup) + c.args.row) =
+    c.symbol_runs-shape.ensures ∙ ap (λ (n : ℕ). runs_of (alone c.args.setup) (c.args.slot * n + c.args.row)) c.symbols.ensures in
+    let lt : c.loop-i.i < run_count (alone c.args.setup) = omega (arith, ap (λ (b : Runs). b.count) shape, c.loop-i-test.true) in
+    record {
       unlent = c.requires.unlent;
       row_bound = (
         c.requires.slot_bound.1,
-        run_lt_3 c,
+        lt,
         ap (λ (b : Runs). b.step) shape,
-        rw then.last_pilot-last.ensures (last_in _ (valid_alone c.requires.unlent) c.args.mask c.args.slot c.args.p c.requires.unlent c.args.lit.now c.requires.lit_runs _ c.requires.slot_bound.1 _ shape then.if-shape.false),
-        long_1 _ (valid_alone c.requires.unlent) _ _ _ c.requires.unlent c.args.lit.now c.requires.lit_runs _ c.requires.slot_bound.1 _ shape then.if-shape.false c.requires.slot_bound.2 _ then.loop-i.invariant (run_lt_3 c)
+        rw c.last_pilot-last.ensures (last_in _ (valid_alone c.requires.unlent) c.args.mask c.args.slot c.args.p c.requires.unlent c.args.lit.now c.requires.lit_runs _ c.requires.slot_bound.1 _ shape c.if-shape.false),
+        long_1 _ (valid_alone c.requires.unlent) _ _ _ c.requires.unlent c.args.lit.now c.requires.lit_runs _ c.requires.slot_bound.1 _ shape c.if-shape.false c.requires.slot_bound.2 _ c.loop-i.invariant lt
             _ c.run_lit.ensures _ _ c.put_pilot.ensures,
       );
+      band_value = c.band-band.ensures;
     }
 
 pub loop-i-preserved : goal.loop-i-preserved
 loop-i-preserved c =
-    let then = c.before.before.before.before.before.before.before.before.before.before in
-    let start = then in
-    run_next _ (valid_alone c.requires.unlent) _ _ _ c.requires.unlent c.args.lit.now c.requires.lit_runs _ c.requires.slot_bound.1 _ (shape_is_5 c) then.if-shape.false c.requires.slot_bound.2 _ then.loop-i.invariant (run_lt_4 c)
-    _ c.run_lit.ensures _ _ c.put_pilot.ensures _ then.last_pilot-last.ensures _ c.put_pilot-in-loop-i.ensures
+    let shape : c.symbol_runs-shape.result ≡ runs_of (alone c.args.setup) (c.args.slot * symbols (alone c.args.setup) + c.args.row) =
+    c.symbol_runs-shape.ensures ∙ ap (λ (n : ℕ). runs_of (alone c.args.setup) (c.args.slot * n + c.args.row)) c.symbols.ensures in
+    let lt : c.loop-i.i < run_count (alone c.args.setup) = omega (arith, ap (λ (b : Runs). b.count) shape, c.loop-i-test.true) in
+    elim c.if-last-shape.branch [
+      | then-last-shape w ↦ rw w.grid-is (run_next _ (valid_alone c.requires.unlent) _ _ _ c.requires.unlent c.args.lit.now c.requires.lit_runs _ c.requires.slot_bound.1 _ shape c.if-shape.false c.requires.slot_bound.2 _ c.loop-i.invariant lt
+          _ c.run_lit.ensures _ _ c.put_pilot.ensures _ c.last_pilot-last.ensures _ w.put_pilot-then-last-shape.ensures)
+      | else-last-shape w ↦ rw w.grid-is (run_next_1 _ (valid_alone c.requires.unlent) _ _ _ c.requires.unlent c.args.lit.now c.requires.lit_runs _ c.requires.slot_bound.1 _ shape c.if-shape.false c.requires.slot_bound.2 _ c.loop-i.invariant lt
+          _ c.run_lit.ensures _ _ c.put_pilot.ensures (sym c.last_pilot-last.ensures ∙ w.if-last-shape.false))
+    ]
+
+pub band-band-requires : goal.band-band-requires
+band-band-requires c = search (own, rules)
 
 pub overflow_mul-slot : goal.overflow_mul-slot
 overflow_mul-slot c = omega (arith, symbol_few c)
