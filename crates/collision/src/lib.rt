@@ -95,3 +95,16 @@ pub fn amc(cell_a: usize, cell_b: usize) -> Result<Collisions, Refusal>
     ask(cell_b < 2352, Refusal::Cell)?;
     Ok(amc_hits(cell_a, cell_b))
 }
+
+// The marks that an answer says, and their count: none where it is refused.
+pub fn said(answer: Result<Collisions, Refusal>) -> Collisions
+    ensures { (result.hits ≡ (met answer).hits) × (result.count ≡ (met answer).count) }
+{
+    match answer {
+        Ok(collisions) => collisions,
+        Err(_) => Collisions {
+            hits: [false; 48],
+            count: 0,
+        },
+    }
+}

@@ -32,24 +32,27 @@ fn answer(rt: &impl Print, operation: u8, f: [usize; 192]) -> io::Result<()> {
 fn sum(size: usize, cell_a: usize, subchannel: usize, cell_b: usize) -> usize {
     let mut sum = 0usize;
     for t in 0..32 {
-        if let Ok(met) = collision::ofusc(size, cell_a, subchannel, cell_b, t) {
-            sum = sum.wrapping_add(met.count);
-        }
+        let answer = collision::ofusc(size, cell_a, subchannel, cell_b, t);
+        sum = sum.wrapping_add(collision::said(answer).count);
     }
     sum
 }
 
 // Prints the refusal, or 0, the count, and the marks, 1 where set and 0 elsewhere.
 fn print_collisions(rt: &impl Print, answer: Result<Collisions, Refusal>) -> io::Result<()> {
-    match answer {
-        Ok(met) => {
-            print!(rt; " 0 {} ", met.count)?;
-            let hits = met.hits;
-            rt.write_all(&hits.map(|hit| b'0' + hit as u8))
-        }
-        Err(refusal) => {
-            print!(rt; " {} 0 ", u32::from(refusal))?;
-            rt.write_all(&[b'0'; 48])
+    let number = match answer {
+        Ok(_) => 0,
+        Err(refusal) => u32::from(refusal),
+    };
+    let said = collision::said(answer);
+    print!(rt; " {number} {} ", said.count)?;
+    let hits = said.hits;
+    // A loop, since `map` over the array takes longer.
+    let mut marks = [b'0'; 48];
+    for k in 0..48 {
+        if hits[k] {
+            marks[k] = b'1';
         }
     }
+    rt.write_all(&marks)
 }

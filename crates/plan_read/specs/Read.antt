@@ -53,3 +53,8 @@ plan_of bytes =
     (read_value s₁ (λ size s₂.
     ask (is_four_sizes size) 2
     (read_zones count size None s₂ (finish count size)))))
+
+-- The plan that the answer of `read` says; with a refusal, count, size and zones all zero.
+abbrev pub plan_said : (answer : Answer Plan) → Plan
+plan_said (accepted plan) = plan
+plan_said (refused number) = plan_with 0 0 []

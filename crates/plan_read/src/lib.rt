@@ -3,7 +3,7 @@
 
 ghost use Rattle.std.specs.Prelude.{◌≡◌, ◌≤◌, drop, None};
 ghost use Rattle.refusal.specs.Refusal.{answer_of};
-ghost use Rattle.plan_read.specs.Read.{read_zones, finish, plan_of};
+ghost use Rattle.plan_read.specs.Read.{read_zones, finish, plan_of, plan_said};
 ghost use Rattle.plan_read.specs.Model.{ZoneAt};
 
 use plan::Plan;
@@ -71,4 +71,18 @@ pub fn read(bytes: &[u8]) -> Result<Plan, Refusal>
     let size = value::read(bytes, count.bytes)?;
     ask(modes::is_four_sizes(size.value), Refusal::Size)?;
     zones_at(bytes, count.bytes + size.bytes, count.value, size.value)
+}
+
+// The plan that an answer says: where it is refused there is none, and count, size and zones are all zero.
+pub fn said(answer: Result<Plan, Refusal>) -> Plan
+    ensures { result ≡ plan_said (answer_of answer) }
+{
+    match answer {
+        Ok(plan) => plan,
+        Err(_) => Plan {
+            count: 0,
+            size: 0,
+            zones: [UNUSED; 8],
+        },
+    }
 }

@@ -11,7 +11,7 @@
 #![tactic(auto)]
 
 use plan::Plan;
-use std::io;
+use std::{fmt, io};
 use vector_lines::answer_lines;
 use zone::{UNUSED, Zone};
 
@@ -31,21 +31,13 @@ fn answer(rt: &impl Print, operation: u8, f: [usize; 192]) -> io::Result<()> {
 fn answer_read(rt: &impl Print, f: [usize; 192]) -> io::Result<()> {
     let bytes = bytes_of(f);
     let n = f[0].min(63);
-    match plan_read::read(&bytes[..n]) {
-        Ok(plan) => {
-            print!(rt; " 0")?;
-            print_plan(rt, plan)
-        }
-        Err(refusal) => {
-            print!(rt; " {}", u32::from(refusal))?;
-            let none = Plan {
-                count: 0,
-                size: 0,
-                zones: [UNUSED; 8],
-            };
-            print_plan(rt, none)
-        }
-    }
+    let answer = plan_read::read(&bytes[..n]);
+    let number = match answer {
+        Ok(_) => 0,
+        Err(refusal) => u32::from(refusal),
+    };
+    print!(rt; " {number}")?;
+    print_plan(rt, plan_read::said(answer))
 }
 
 // The bytes behind the first number of a line.
@@ -70,10 +62,20 @@ fn answer_write(rt: &impl Print, f: [usize; 192]) -> io::Result<()> {
         Ok(written) => print!(rt; " 0 {written}")?,
         Err(refusal) => print!(rt; " {} 0", u32::from(refusal))?,
     }
-    for byte in &dest {
-        print!(rt; " {byte}")?;
+    print!(rt; "{}", Buffer(dest))
+}
+
+// The buffer whose start is the destination. Its text goes out in one piece: a write for each byte took most of a line's time.
+#[derive(Clone, Copy)]
+struct Buffer([u8; 56]);
+
+impl fmt::Display for Buffer {
+    fn fmt<W: fmt::Write>(&self, f: &mut fmt::Formatter<W>) -> fmt::Result {
+        for byte in &self.0 {
+            write!(f, " {byte}")?;
+        }
+        Ok(())
     }
-    Ok(())
 }
 
 // The eight places behind the first three numbers of a line.
