@@ -1,5 +1,5 @@
 -- Document 02, wish 7: "for a slot and subchannel the first and only owner, or none", in a list of bursts.
-use Rattle.std.specs.Prelude.{List, ℕ, ◌+◌, ltb, Option, Some, None}
+use Rattle.std.specs.Prelude.{List, ℕ, ◌+◌, ◌<◌, ltb, Option, Some, None}
 use Rattle.base.specs.Choice.{pick}
 use Rattle.base.specs.First.{first_of}
 use Rattle.burst.specs.Burst.{burst_at, is_covering}
@@ -16,6 +16,11 @@ no_owner = 64
 abbrev pub owner_number : (owner : Option ℕ) → ℕ
 owner_number None = no_owner
 owner_number (Some i) = i
+
+-- An owner is a burst of the list.
+abbrev pub IsOwner : (numbers : List ℕ) (owner : Option ℕ) → Type 0
+IsOwner numbers None = Unit {0}
+IsOwner numbers (Some i) = i < burst_count numbers
 
 -- One value where a subchannel in a slot has an owner, and another where it has none.
 abbrev pub by_owner : (numbers : List ℕ) (slot subchannel some none : ℕ) → ℕ

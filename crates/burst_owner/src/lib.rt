@@ -3,7 +3,7 @@
 
 ghost use Rattle.std.specs.Prelude.{◌≡◌, ◌+◌, ◌≤◌, length};
 ghost use Rattle.base.specs.Tabulate.{tabulate};
-ghost use Rattle.burst_owner.specs.Owner.{position as Position, owner_number, owner_at, looked_at};
+ghost use Rattle.burst_owner.specs.Owner.{position as Position, owner_number, IsOwner, owner_at, looked_at};
 ghost use Rattle.burst_owner.specs.Model.{Accepted, marked, marked_by};
 
 use burst::Burst;
@@ -30,9 +30,11 @@ fn position(bursts: &[u32], slot: usize, subchannel: usize) -> usize
 }
 
 // The first burst that covers a subchannel in a slot, in an accepted list.
+#[inline(always)]
 pub fn first_owner(slot: usize, subchannel: usize, bursts: &[u32]) -> Owned
     requires { length bursts.now ≤ 256 }
-    ensures { (owner_number result.owner ≡ owner_at bursts.now slot subchannel) × (result.looked ≡ looked_at bursts.now slot subchannel) }
+    ensures said { (owner_number result.owner ≡ owner_at bursts.now slot subchannel) × (result.looked ≡ looked_at bursts.now slot subchannel) }
+    ensures in_list { IsOwner bursts.now result.owner }
 {
     let count = bursts.len() / 4;
     let i = position(bursts, slot, subchannel);

@@ -1,10 +1,11 @@
 // Bursts in a zone: the check of a list of them, and which owns a subchannel in a slot.
 #![tactic(auto)]
 
-ghost use Rattle.std.specs.Prelude.{◌≡◌};
+ghost use Rattle.std.specs.Prelude.{◌≡◌, IfOk};
 ghost use Rattle.refusal.specs.Refusal.{refusal_in};
 ghost use Rattle.modes.specs.Mode.{subchannels as Subchannels};
 ghost use Rattle.zone.specs.Zone.{setup_of};
+ghost use Rattle.burst_owner.specs.Owner.{IsOwner};
 ghost use Rattle.bursts.specs.Burst.{check_of};
 ghost use Rattle.bursts.specs.Owner.{owner_said, owner_of, row_said, row_given, owners_of};
 
@@ -48,7 +49,8 @@ pub fn owner(
     subchannel: usize,
     bursts: &[u32],
 ) -> Result<Owned, Refusal>
-    ensures { owner_said result ≡ owner_of size zone slot subchannel bursts.now }
+    ensures said { owner_said result ≡ owner_of size zone slot subchannel bursts.now }
+    ensures in_list { IfOk result (λ found. IsOwner bursts.now found.owner) }
 {
     zone::ask_fields(size, zone)?;
     ask(slot < 512, Refusal::Slot)?;

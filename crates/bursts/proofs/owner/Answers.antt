@@ -16,9 +16,9 @@ pub returns-in_err-ask : goal.returns-in_err-ask
 unfolding owner_of is_slot is_subchannel
 returns-in_err-ask c = search (owned_no, fields_then, asked, rules)
 
-pub returns-in_err-ask-2 : goal.returns-in_err-ask-2
+pub returns-in_err-ask-2-clause-said : goal.returns-in_err-ask-2-clause-said
 unfolding owner_of is_slot is_subchannel
-returns-in_err-ask-2 c =
+returns-in_err-ask-2-clause-said c =
     owned_no _ _ _ _ _ c.from_residual-in_err-ask-2.ensures.1
     (fields_then _ _ _ c.in_ok-ask_fields.ensures _
     (yes_asked _ _ refl _ _ c.in_ok-ask.ensures _ (no_asked _ _ (same_below _ c.subchannels-subchannels.ensures) _ _ c.in_err-ask-2.ensures)))
@@ -26,9 +26,9 @@ returns-in_err-ask-2 c =
 pub ask_list-requires : goal.ask_list-requires
 ask_list-requires c = list_asks _ _ c.in_ok-ask_fields.ensures c.subchannels-subchannels.ensures
 
-pub returns-in_err-ask_list : goal.returns-in_err-ask_list
+pub returns-in_err-ask_list-clause-said : goal.returns-in_err-ask_list-clause-said
 unfolding owner_of is_slot is_subchannel
-returns-in_err-ask_list c =
+returns-in_err-ask_list-clause-said c =
     owned_no _ _ _ _ _ c.from_residual-in_err-ask_list.ensures.1
     (fields_then _ _ _ c.in_ok-ask_fields.ensures _
     (yes_asked _ _ refl _ _ c.in_ok-ask.ensures _
