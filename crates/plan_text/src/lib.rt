@@ -2,7 +2,6 @@
 #![tactic(auto)]
 
 ghost use Rattle.std.specs.Prelude.{◌+◌, ◌≤◌, length};
-ghost use Rattle.refusal.specs.Refusal.{number_of};
 ghost use Rattle.text.specs.Text.{Put};
 ghost use Rattle.plan.specs.Plan.{used_zones};
 ghost use Rattle.plan_text.specs.Lines.{field, line_of, lines_of, refusal_line, text_of};
@@ -46,13 +45,13 @@ fn put_zones(dest: &mut [u8], plan: Plan) -> usize
     at
 }
 
-// Puts the line of a refusal.
-fn put_refusal(dest: &mut [u8], refusal: Refusal) -> usize
+// Puts the line of a refusal's number, whichever it is; answers its length.
+pub fn put_refusal(dest: &mut [u8], number: u32) -> usize
     requires { 672 ≤ length dest.old }
-    ensures { Put dest.old 0 (refusal_line (number_of refusal)) result dest.new }
+    ensures { Put dest.old 0 (refusal_line number) result dest.new }
 {
     let at = text::put_bytes(dest, 0, b"refused ");
-    put_field(dest, at, u32::from(refusal) as usize, b'\n')
+    put_field(dest, at, number as usize, b'\n')
 }
 
 // Puts the text of what reading a plan answers, where eight lines of 84 bytes have room; answers its length.
@@ -62,6 +61,6 @@ pub fn lines(answer: Result<Plan, Refusal>, dest: &mut [u8]) -> usize
 {
     match answer {
         Ok(plan) => put_zones(dest, plan),
-        Err(refusal) => put_refusal(dest, refusal),
+        Err(refusal) => put_refusal(dest, u32::from(refusal)),
     }
 }

@@ -8,4 +8,4 @@ returns-in-Ok c = rw c.in-Ok.is c.put_zones.ensures
 
 pub returns-in-Err : goal.returns-in-Err
 unfolding text_of
-returns-in-Err c = rw c.in-Err.is c.put_refusal.ensures
+returns-in-Err c = rw (c.in-Err.is, ← c.from.ensures) c.put_refusal.ensures

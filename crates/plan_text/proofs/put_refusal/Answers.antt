@@ -9,4 +9,4 @@ put_field-requires c = omega (arith, c.put_bytes-at.ensures.next_is, c.put_bytes
 
 pub returns : goal.returns
 unfolding refusal_line
-returns c = rw (← c.from.ensures) (put_then _ _ (omega arith) c.put_bytes-at.ensures c.put_field.ensures.0)
+returns c = put_then _ _ (omega arith) c.put_bytes-at.ensures c.put_field.ensures.0
