@@ -1,5 +1,6 @@
 -- What placing and locating come to at each of their returns.
-use Rattle.base.proofs.Prelude.{◌≡◌, sym, ap, ◌∙◌, Bool, true, false, ℕ, ◌*◌, ◌/◌, ◌<◌, ◌≤◌}
+use Rattle.base.proofs.Prelude.{◌≡◌, sym, ap, ◌∙◌, Bool, true, false, ℕ, ◌*◌, ◌/◌, ◌<◌, ◌≤◌, lt-ltb}
+use Rattle.base.proofs.Test.{told_no}
 use lib.IntN.{ℤ}
 use mir.{Syntax.w32, Val.{SFits, to_z, of_z}, ValLaws.to_z-of_z}
 use Rattle.std.specs.Result.{IsErrAnd}
@@ -11,11 +12,11 @@ use Rattle.map.specs.{declared.Placed.Placed, declared.Located.Located}
 use Rattle.carriers.specs.{declared.Address.Address, declared.Band.Band, Band.{used_of, is_guard, is_dc}, declared.Spot.Spot}
 use Rattle.carriers.proofs.Guards.{used_left, used_lt}
 use Rattle.centre.specs.Centre.{in_range, on_row}
-use Rattle.modes.specs.{Setup.{Setup, setup_with}, Mode.{subchannels, symbols, band}}
+use Rattle.modes.specs.{Setup.{Setup, setup_with}, Mode.{subchannels, symbols, band}, Question.{is_slot, is_subchannel, is_index, is_lent}}
 use Rattle.formulas.specs.Formula.{is_pilot, spot_of, address_of}
-use Rattle.modes.specs.Model.{Ranged, Valid}
+use Rattle.modes.specs.Model.{setup_refusal, Ranged, Valid}
 use Rattle.map.specs.Place.{Place, placed, located, Content, guard, dc, pilot, point, used_carrier, place_at, place_of, data_at, content_of, locate_of}
-use Rattle.modes.proofs.{ByMode.ranged_alone, Whole.band_law, Outcome.carrier_same}
+use Rattle.modes.proofs.{ByMode.ranged_alone, Whole.band_law, Outcome.{lets_pass, carrier_yes}}
 use Rattle.map.proofs.Law.{place_accepts, locate_accepts}
 use Rattle.formulas.proofs.Slot.{slot_law}
 
@@ -32,6 +33,11 @@ module _ (c : Setup) (slot s m : ℕ) where
     pub subchannel_in : s < subchannels c
     subchannel_in = rw (← q) hs
 
+  -- question 20 is the last
+  pub place_not_lent : (k : ℕ) → k ≡ setup_refusal c → k ≡ 0 → slot < 512 → s < subchannels c → m < 48 → (t : Bool) → t ≡ is_lent c → t ≡ false → refused 20 ≡ place_of c slot s m
+  unfolding place_of is_slot is_subchannel is_index
+  place_not_lent k e z h hs hm t j n = lets_pass c _ (sym z ∙ e) (refused 20) (rw (lt-ltb _ _ h, lt-ltb _ _ hs, lt-ltb _ _ hm, told_no t j n))
+
   pub place_done : Valid c → slot < 512 → s < subchannels c → m < 48 → (x : Spot) → x ≡ spot_of c slot s m
       → (p : Place) → p ≡ place_at (setup_with c.mode c.size c.cell) slot x → accepted p ≡ place_of c slot s m
   unfolding place_at used_carrier
@@ -42,7 +48,7 @@ pub locate_done : (c : Setup) (k : ℤ) (fits : SFits w32 k) (t : Bool) → t �
     → (y : ℕ) → Valid c → y < 512 * symbols c → (a : Content) → a ≡ content_of c y column → accepted a ≡ locate_of c y k
 locate_done c k fits t g yes' column f y v l a h =
     ap (λ a. accepted a) h ∙ ap (λ (x : ℕ). accepted (content_of c y x)) (f ∙ ap (on_row c.size) (to_z-of_z w32 k fits))
-    ∙ sym (locate_accepts c y k v l (sym (carrier_same c k fits t g) ∙ yes'))
+    ∙ sym (locate_accepts c y k v l (carrier_yes c k fits t g yes'))
 
 -- the answers of a column of an accepted symbol's row, test by test
 module _ (c : Setup) (y k : ℕ) (b : Band) (e : b ≡ band c) where
