@@ -38,26 +38,13 @@ pub fn empty_row(
     let own = run_walk::row_runs(setup, slot, row);
     let numbers = point_numbers::row_numbers(setup, mask, slot, row, own.shape.count, runs, places);
     let band = modes::band(setup);
-    let its_places = own.places;
     for i in 0..own.shape.count {
         let start = first + carriers::carrier(band, i * own.shape.step);
         if carriers <= start {
             return;
         }
         run_walk::drop_run(
-            setup,
-            mask,
-            slot,
-            row,
-            i,
-            start,
-            carriers,
-            own,
-            &its_places,
-            lit,
-            &numbers,
-            grid,
-            points,
+            setup, mask, slot, row, i, start, carriers, own, lit, &numbers, grid, points,
         );
     }
 }

@@ -41,7 +41,7 @@ pub fn row_runs(setup: Setup, slot: usize, row: usize) -> RowRuns
 }
 
 // The points on run i of a row, those among the first `carriers` of the grid, dropped at their numbers; none where it is not
-// lit. (The places are the row's, lent: those of a struct that is passed by value are laid out anew for each run.)
+// lit.
 pub fn drop_run(
     setup: Setup,
     mask: usize,
@@ -51,7 +51,6 @@ pub fn drop_run(
     start: usize,
     carriers: usize,
     own: RowRuns,
-    places: &[u16; 12],
     lit: &[u8; 120],
     numbers: &[u16; 1680],
     grid: &[f32],
@@ -60,19 +59,19 @@ pub fn drop_run(
     requires unlent { Unlent (alone setup) }
     requires row_bound { (row < symbols (alone setup)) × (i < run_count (alone setup)) × (start ≡ run_start (alone setup) row i) × (start ≤ carriers) × (length points.old ≡ 96 * lit_subchannels (alone setup) mask) × (length grid.now ≡ 2 * grid_points (alone setup)) }
     requires own_value { RunsOfRow (alone setup) (slot * symbols (alone setup) + row) own }
-    requires places_value { places.now ≡ own.places }
     requires tables { LitRuns (alone setup) mask lit.now × RowNumbers (alone setup) mask (slot * symbols (alone setup) + row) numbers.now }
     ensures { Took (alone setup) mask slot carriers grid.now (run_start (alone setup) row i) (run_start (alone setup) row (i + 1)) points.old points.new }
 {
     if runs::run_lit(setup, lit, i) == 0 {
         return;
     }
+    let places = own.places;
     let n = runs::points_within(own.shape, own.all, carriers - start);
     copies::drop_run(
         numbers,
         i * own.strides.run,
         own.strides.point,
-        places,
+        &places,
         start,
         n,
         grid,

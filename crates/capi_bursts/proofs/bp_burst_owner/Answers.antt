@@ -1,5 +1,5 @@
 -- `capi_bursts::bp_burst_owner` meets its contract.
-use Rattle.base.proofs.Prelude.{◌∙◌, arith}
+use Rattle.base.proofs.Prelude.{arith}
 use Rattle.capi_bursts.specs.Burst.{owner_out}
 use Rattle.capi_bursts.proofs.Burst.{owner_small, owner_no, or_none}
 use Rattle.capi_bursts.proofs.bp_burst_owner.Goals as goal

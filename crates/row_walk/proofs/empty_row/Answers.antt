@@ -76,7 +76,6 @@ drop_run-requires c =
       unlent = p.unlent;
       row_bound = (p.slot_bound.1, omega (arith, count_is (alone c.args.setup) _ _ c.row_runs-own.ensures, c.loop-i-test.true), at, omega arith, c.loop-i.invariant.1.long ∙ p.slot_bound.2, p.slot_bound.3);
       own_value = c.row_runs-own.ensures;
-      places_value = refl;
       tables = (p.lit_runs.0, c.row_numbers-numbers.ensures);
     }
 

@@ -1,5 +1,5 @@
 -- `run_walk::drop_run` meets its contract.
-use Rattle.base.proofs.Prelude.{◌∙◌, arith}
+use Rattle.base.proofs.Prelude.{arith}
 use Rattle.modes.proofs.Lent.{valid_alone}
 use Rattle.runs.proofs.Law.{run_is, run_dark, run_bright}
 use Rattle.run_walk.proofs.{Taken.dark_run, Dropped.{run_asks, run_dropped, from_small}}
@@ -25,7 +25,7 @@ drop_run-requires c =
     let p = c.requires in
     run_asks _ (valid_alone p.unlent) p.unlent c.args.mask c.args.slot _ _ p.row_bound.0 p.row_bound.1 c.args.grid.now c.args.points.now
     (run_bright p.unlent c.args.mask c.args.lit.now p.tables.0 _ p.row_bound.1 _ c.run_lit.ensures (λ z. omega arith))
-    _ c.args.carriers p.row_bound.2 _ p.own_value.shape_is _ (p.places_value ∙ p.own_value.places_are) _ _ p.own_value.run_is p.own_value.point_is
+    _ c.args.carriers p.row_bound.2 _ p.own_value.shape_is _ p.own_value.places_are _ _ p.own_value.run_is p.own_value.point_is
     c.args.numbers.now p.tables.1 _ c.points_within-n.ensures _ _ p.row_bound.5 p.row_bound.4
 
 pub returns : goal.returns
@@ -33,5 +33,5 @@ returns c =
     let p = c.requires in
     run_dropped _ (valid_alone p.unlent) p.unlent c.args.mask c.args.slot _ _ p.row_bound.0 p.row_bound.1 c.args.grid.now c.args.points.now
     (run_bright p.unlent c.args.mask c.args.lit.now p.tables.0 _ p.row_bound.1 _ c.run_lit.ensures (λ z. omega arith))
-    _ c.args.carriers p.row_bound.2 _ p.own_value.shape_is _ (p.places_value ∙ p.own_value.places_are) _ _ p.own_value.run_is p.own_value.point_is
+    _ c.args.carriers p.row_bound.2 _ p.own_value.shape_is _ p.own_value.places_are _ _ p.own_value.run_is p.own_value.point_is
     c.args.numbers.now p.tables.1 _ c.points_within-n.ensures p.row_bound.4 _ c.drop_run.ensures
