@@ -44,7 +44,7 @@ pub fn empty_row(
             return;
         }
         run_walk::drop_run(
-            setup, mask, slot, row, i, start, carriers, own, lit, &numbers, grid, points,
+            setup, mask, slot, row, i, start, carriers, &own, lit, &numbers, grid, points,
         );
     }
 }

@@ -50,7 +50,7 @@ pub fn drop_run(
     i: usize,
     start: usize,
     carriers: usize,
-    own: RowRuns,
+    own: &RowRuns,
     lit: &[u8; 120],
     numbers: &[u16; 1680],
     grid: &[f32],
@@ -58,20 +58,19 @@ pub fn drop_run(
 )
     requires unlent { Unlent (alone setup) }
     requires row_bound { (row < symbols (alone setup)) × (i < run_count (alone setup)) × (start ≡ run_start (alone setup) row i) × (start ≤ carriers) × (length points.old ≡ 96 * lit_subchannels (alone setup) mask) × (length grid.now ≡ 2 * grid_points (alone setup)) }
-    requires own_value { RunsOfRow (alone setup) (slot * symbols (alone setup) + row) own }
+    requires own_value { RunsOfRow (alone setup) (slot * symbols (alone setup) + row) own.now }
     requires tables { LitRuns (alone setup) mask lit.now × RowNumbers (alone setup) mask (slot * symbols (alone setup) + row) numbers.now }
     ensures { Took (alone setup) mask slot carriers grid.now (run_start (alone setup) row i) (run_start (alone setup) row (i + 1)) points.old points.new }
 {
     if runs::run_lit(setup, lit, i) == 0 {
         return;
     }
-    let places = own.places;
     let n = runs::points_within(own.shape, own.all, carriers - start);
     copies::drop_run(
         numbers,
         i * own.strides.run,
         own.strides.point,
-        &places,
+        &own.places,
         start,
         n,
         grid,
