@@ -14,9 +14,9 @@ use Rattle.burst.specs.Burst.{burst_at, is_covering}
 use Rattle.burst.proofs.Cover.{inside_covers}
 use Rattle.burst_list.specs.Model.{list_refusal}
 use Rattle.burst_list.proofs.Each.{list_no, list_then, list_yes}
-use Rattle.burst_owner.specs.{declared.Owned.Owned, Owner.{owner_number, owner_at}, Model.Accepted}
+use Rattle.burst_owner.specs.{declared.Owned.Owned, Owner.{no_owner, owner_number, owner_at}, Model.Accepted}
 use Rattle.burst_owner.proofs.Row.{no-owner}
-use Rattle.bursts.specs.{Burst.ask_bursts, Owner.{owner_said, owned, row_said, row_at, owner_row}}
+use Rattle.bursts.specs.{Burst.ask_bursts, Owner.{owner_said, owned, row_at, owner_row}}
 
 module _ (size : ℕ) (zone : Zone) where
   -- where a zone's own questions are all answered yes, it is small
@@ -53,7 +53,7 @@ module _ (size : ℕ) (zone : Zone) where
           (λ n. n))).0)
 
     pub row_yes : (s : ℕ) → s ≡ subchannels (setup_of size zone) → 0 ≡ list_refusal s zone.slots numbers → (slot : ℕ) (owners : List ℕ) → owners ≡ tabulate 192 (owner_at numbers slot)
-        → (answer : Answer (Unit {0})) → accepted tt ≡ answer → row_said (Ok owners) ≡ owner_row (row_at size zone slot numbers) answer
+        → (answer : Answer (Unit {0})) → accepted tt ≡ answer → record { refusal = 0; owners = owners } ≡ owner_row (row_at size zone slot numbers) answer
     row_yes s q l slot owners e answer f =
         let row = row_at size zone slot numbers in
         rw (e ∙ tabulated 0 _ 192 row (length_tabulate 192 (owner_at numbers slot)) (λ j h. get_d_tabulate 192 (owner_at numbers slot) j 0 h ∙ row_is (rw q at (sym l)) slot j)) (ap (owner_row row) f)
@@ -67,5 +67,5 @@ module _ (owner looked : ℕ) (answer : Answer (Unit {0})) where
   owned_yes r e f = rw (e.0, e.1) (ap (owned owner looked) f)
 
 module _ (row : ℕ → ℕ) (answer : Answer (Unit {0})) where
-  pub row_no : (r : Result (List ℕ) Refusal) (e : Refusal) → IsErrAnd r (λ y. y ≡ e) → refused (number_of e) ≡ answer → row_said r ≡ owner_row row answer
-  row_no r e g f = let p = err_from_is_err_and r g in rw (p.1, p.2) (ap (owner_row row) f)
+  pub row_no : (n : ℕ) → refused n ≡ answer → record { refusal = n; owners = tabulate 192 (λ s. no_owner) } ≡ owner_row row answer
+  row_no n f = ap (owner_row row) f

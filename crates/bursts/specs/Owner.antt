@@ -54,11 +54,6 @@ pub record RowAnswer : Type 0 where
   pub refusal : ℕ
   pub owners : List ℕ
 
--- What the row of a slot, or its refusal, says. "A refusal's row is all 64."
-abbrev pub row_said : (answer : Result (List ℕ) Refusal) → RowAnswer
-row_said (Ok row) = record { refusal = 0; owners = row }
-row_said (Err refusal) = record { refusal = number_of refusal; owners = tabulate 192 (λ s. no_owner) }
-
 -- What an answer of `owners` says, which has a row with a refusal too.
 abbrev pub number_told : (refusal : Option Refusal) → ℕ
 number_told None = 0
@@ -67,6 +62,7 @@ number_told (Some refusal) = number_of refusal
 abbrev pub row_given : (answer : OwnerRow) → RowAnswer
 row_given answer = record { refusal = number_told answer.refusal; owners = answer.owners }
 
+-- "A refusal's row is all 64."
 abbrev pub owner_row : (row : ℕ → ℕ) (answer : Answer (Unit {0})) → RowAnswer
 owner_row row (accepted tt) = record { refusal = 0; owners = tabulate 192 row }
 owner_row row (refused number) = record { refusal = number; owners = tabulate 192 (λ s. no_owner) }

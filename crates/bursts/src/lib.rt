@@ -2,12 +2,14 @@
 #![tactic(auto)]
 
 ghost use Rattle.std.specs.Prelude.{◌≡◌, IfOk};
-ghost use Rattle.refusal.specs.Refusal.{refusal_in};
+ghost use Rattle.base.specs.Answer.{accepted};
+ghost use Rattle.refusal.specs.Refusal.{refusal_in, answer_of};
 ghost use Rattle.modes.specs.Mode.{subchannels as Subchannels};
-ghost use Rattle.zone.specs.Zone.{setup_of};
+ghost use Rattle.zone.specs.Zone.{setup_of, fields_refusal};
+ghost use Rattle.burst_list.specs.Model.{list_refusal};
 ghost use Rattle.burst_owner.specs.Owner.{IsOwner};
 ghost use Rattle.bursts.specs.Burst.{check_of};
-ghost use Rattle.bursts.specs.Owner.{owner_said, owner_of, row_said, row_given, owners_of};
+ghost use Rattle.bursts.specs.Owner.{owner_said, owner_of, ask_owners as AskOwners, row_given, owners_of};
 
 use burst_owner::Owned;
 use modes::Setup;
@@ -60,24 +62,25 @@ pub fn owner(
     Ok(burst_owner::first_owner(slot, subchannel, bursts))
 }
 
-// The row of a slot's owners, or the first refusal.
-fn slot_row(size: usize, zone: Zone, slot: usize, bursts: &[u32]) -> Result<[u8; 192], Refusal>
-    ensures { row_said result ≡ owners_of size zone slot bursts.now }
+// The questions to a slot's owners: 1, 2, 3, 13, 17, 4, 18, 19.
+fn ask_owners(size: usize, zone: Zone, slot: usize, bursts: &[u32]) -> Result<(), Refusal>
+    ensures said { answer_of result ≡ AskOwners size zone slot bursts.now (accepted tt) }
+    ensures passed { IfOk result (λ u. (0 ≡ fields_refusal size zone) × (0 ≡ list_refusal (Subchannels (setup_of size zone)) zone.slots bursts.now)) }
 {
     zone::ask_fields(size, zone)?;
     ask(slot < 512, Refusal::Slot)?;
     burst_list::ask_list(subchannels(size, zone), zone.slots, bursts)?;
-    Ok(burst_owner::marked_row(bursts, slot))
+    Ok(())
 }
 
-// Who owns each subchannel of a slot, with the first refusal.
+// Who owns each subchannel of a slot, with the first refusal. The row is made in the answer: out of a Result it would be copied.
 pub fn owners(size: usize, zone: Zone, slot: usize, bursts: &[u32]) -> OwnerRow
     ensures { row_given result ≡ owners_of size zone slot bursts.now }
 {
-    match slot_row(size, zone, slot, bursts) {
-        Ok(owners) => OwnerRow {
+    match ask_owners(size, zone, slot, bursts) {
+        Ok(()) => OwnerRow {
             refusal: None,
-            owners,
+            owners: burst_owner::marked_row(bursts, slot),
         },
         Err(refusal) => OwnerRow {
             refusal: Some(refusal),
