@@ -1,22 +1,27 @@
 -- The answers of the three calls, by what their questions come to.
-use Rattle.base.proofs.{Prelude.{◌≡◌, sym, ap, ◌∙◌, List, ℕ, ◌<◌, ◌≤◌, arith, ltb, ltb-false}, Test.cases}
+use Rattle.base.proofs.{Prelude.{◌≡◌, sym, ap, ◌∙◌, List, [], ◌∷◌, ℕ, ◌<◌, ◌≤◌, arith, T, ltb, ltb-true, ltb-false}, Test.cases}
+use Rattle.base.proofs.Chain.{Questions, ask_all, first_no, counted, all_numbered, all_yes, numbered_zero}
 use Rattle.std.specs.Prelude.{Result, Ok}
 use Rattle.std.specs.Result.{IsErrAnd}
 use Rattle.std.proofs.lemmas.Result.{err_from_is_err_and}
 use Rattle.refusal.specs.{declared.Refusal.Refusal, Refusal.number_of}
 use Rattle.base.proofs.Tabulate.{get_d_tabulate, tabulated, length_tabulate}
-use Rattle.base.specs.{Answer.{Answer, accepted, refused}, Tabulate.tabulate}
-use Rattle.modes.specs.{Mode.subchannels, Question.is_subchannel}
+use Rattle.base.specs.{Answer.{Answer, accepted, refused, refusal_of}, Tabulate.tabulate}
+use Rattle.modes.specs.{Mode.subchannels, Question.{is_slot, is_subchannel}}
 use Rattle.modes.proofs.ByMode.{few}
 use Rattle.zone.specs.{declared.Zone.Zone, Zone.{setup_of, fields_refusal}}
-use Rattle.zone.proofs.Judge.{fields_ranged, fields_slots}
+use Rattle.zone.proofs.{Judge.{fields_ranged, fields_slots}, Number.field_questions}
 use Rattle.burst.specs.Burst.{burst_at, is_covering}
 use Rattle.burst.proofs.Cover.{inside_covers}
 use Rattle.burst_list.specs.Model.{list_refusal}
 use Rattle.burst_list.proofs.Each.{list_no, list_then, list_yes}
 use Rattle.burst_owner.specs.{declared.Owned.Owned, Owner.{no_owner, owner_number, owner_at}, Model.Accepted}
 use Rattle.burst_owner.proofs.Row.{no-owner}
-use Rattle.bursts.specs.{Burst.ask_bursts, Owner.{owner_said, owned, row_at, owner_row}}
+use Rattle.bursts.specs.{Burst.ask_bursts, Owner.{owner_said, owned, row_at, ask_owners, owner_row}}
+
+-- a chain whose number is 0 is answered yes, and so is what comes after it
+pub zero_parts : {A : Type 0} (qs : Questions) → T (counted qs) → (rest : Answer A) → refusal_of (ask_all qs rest) ≡ 0 → (first_no qs ≡ 0) × (refusal_of rest ≡ 0)
+zero_parts qs t rest e = numbered_zero (first_no qs) rest (sym (ap refusal_of (all_numbered qs t rest)) ∙ e)
 
 module _ (size : ℕ) (zone : Zone) where
   -- where a zone's own questions are all answered yes, it is small
@@ -35,8 +40,18 @@ module _ (size : ℕ) (zone : Zone) where
     pub bursts_then : 0 ≡ list_refusal s zone.slots numbers → rest ≡ ask_bursts size zone numbers rest
     bursts_then e = rw (← q) (list_then s zone.slots numbers rest e)
 
-  -- a list that is accepted
   module _ (numbers : List ℕ) where
+    -- what has passed where a slot's owners are asked for and all is answered yes
+    pub owners_passed : (slot : ℕ) → refusal_of (ask_owners {A = Unit {0}} size zone slot numbers (accepted tt)) ≡ 0
+        → (fields_refusal size zone ≡ 0) × (slot < 512) × (list_refusal (subchannels (setup_of size zone)) zone.slots numbers ≡ 0)
+    unfolding fields_refusal list_refusal is_slot
+    owners_passed slot e =
+        let own : Questions = (is_slot slot, 4) ∷ [] in
+        let fields = zero_parts (field_questions size zone) tt _ e in
+        let rest = zero_parts own tt _ fields.1 in
+        (fields.0, ltb-true slot 512 (all_yes own tt rest.0).0, rest.1)
+
+    -- a list that is accepted
     pub zone_accepted : {s : ℕ} → 0 ≡ fields_refusal size zone → s ≡ subchannels (setup_of size zone) → 0 ≡ list_refusal s zone.slots numbers → Accepted numbers
     zone_accepted {s} e q l = record { subchannel_end = s; slot_end = zone.slots; at_most_192 = omega (arith, zone_limits (sym e)); no_refusal = sym l }
 

@@ -1,8 +1,8 @@
 -- THE LAW OF THE BURSTS.
-use Rattle.base.proofs.Prelude.{◌≡◌, refl, sym, ap, ◌∙◌, Bool, true, false, List, [], ◌∷◌, ℕ, ◌+◌, ◌%◌, ◌<◌, ◌≤◌, arith, T, eqb, ltb, length}
+use Rattle.base.proofs.Prelude.{◌≡◌, refl, sym, ap, ◌∙◌, Bool, true, false, List, [], ◌∷◌, ℕ, ◌+◌, ◌%◌, ◌<◌, ◌≤◌, arith, eqb, ltb, length}
 use Rattle.base.proofs.Prelude.{eqb-true, eqb-false, lt-ltb, le-ltb, ltb-true, ltb-false}
 use Rattle.base.proofs.{Test.{cases, true_false}, Tabulate.{length_tabulate, entry_of}, First.{first_most, first_passes, none_is, none_not}}
-use Rattle.base.proofs.Chain.{Questions, ask_all, first_no, counted, all_numbered, all_yes, numbered_zero}
+use Rattle.base.proofs.Chain.{Questions, all_yes}
 use Rattle.base.specs.{Answer.{Answer, accepted, refused, refusal_of}, Steps.entry, Tabulate.tabulate, First.first_of}
 use Rattle.modes.specs.{Mode.subchannels, Question.{is_slot, is_subchannel}}
 use Rattle.zone.specs.{declared.Zone.Zone, Zone.{setup_of, ask_fields, fields_refusal}}
@@ -16,7 +16,7 @@ use Rattle.bursts.specs.Burst.{ask_bursts, check_of}
 use Rattle.bursts.specs.Owner.{OwnerAnswer, ask_owner, owned, owner_of, row_at, RowAnswer, ask_owners, owner_row, owners_of}
 use Rattle.bursts.specs.Law.{Covers, masked, Masks, FirstFit, Fit, Overlapping, BurstLaw}
 use Rattle.zone.proofs.Number.{field_questions, fields_first, fields_then}
-use Rattle.bursts.proofs.Answer.{zone_limits}
+use Rattle.bursts.proofs.Answer.{zero_parts, zone_limits, owners_passed}
 
 -- the outcomes by their answer
 owned_by : (owner looked : ℕ) (answer : Answer (Unit {0})) → let r = owned owner looked answer in (r.refusal ≡ refusal_of answer) × ((refusal_of answer ≡ 0 → ⊥) → (r.owner ≡ no_owner) × (r.looked ≡ 0))
@@ -26,10 +26,6 @@ owned_by owner looked (refused k) = (refl, λ h. (refl, refl))
 row_by : (row : ℕ → ℕ) (answer : Answer (Unit {0})) → let r = owner_row row answer in (r.refusal ≡ refusal_of answer) × ((refusal_of answer ≡ 0 → ⊥) → r.owners ≡ tabulate 192 (λ s. no_owner))
 row_by row (accepted tt) = (refl, λ h. absurd (h refl))
 row_by row (refused k) = (refl, λ h. refl)
-
--- a chain whose number is 0 is answered yes, and so is what comes after it
-zero_parts : {A : Type 0} (qs : Questions) → T (counted qs) → (rest : Answer A) → refusal_of (ask_all qs rest) ≡ 0 → (first_no qs ≡ 0) × (refusal_of rest ≡ 0)
-zero_parts qs t rest e = numbered_zero (first_no qs) rest (sym (ap refusal_of (all_numbered qs t rest)) ∙ e)
 
 module _ (size : ℕ) (zone : Zone) (numbers : List ℕ) where
   abbrev end : ℕ
@@ -229,11 +225,7 @@ module _ (size : ℕ) (zone : Zone) (numbers : List ℕ) where
     row_is a = sym (ap (owner_row (row_at size zone slot numbers)) (fields_then size zone _ (sym a.zone_passed) (accepted tt) (rw (lt-ltb slot 512 a.slot_lt) (list_passes a))))
 
     row_yes : rows.refusal ≡ 0 → Answered
-    unfolding fields_refusal list_refusal is_slot
-    row_yes e =
-        let fields = zero_parts (field_questions size zone) tt _ (sym rows_number ∙ e) in
-        let rest = zero_parts ((is_slot slot, 4) ∷ []) tt _ fields.1 in
-        record { zone_passed = fields.0; slot_lt = ltb-true slot 512 (all_yes ((is_slot slot, 4) ∷ []) tt rest.0).0; list_passed = rest.1 }
+    row_yes e = let p = owners_passed size zone numbers slot (sym rows_number ∙ e) in record { zone_passed = p.0; slot_lt = p.1; list_passed = p.2 }
 
     by_row : {A : Type 0} → (Answered → rows.owners ≡ tabulate 192 (row_at size zone slot numbers) → A) → ((rows.refusal ≡ 0 → ⊥) → rows.owners ≡ tabulate 192 (λ s. no_owner) → A) → A
     unfolding owners_of

@@ -5,8 +5,7 @@ ghost use Rattle.std.specs.Prelude.{◌≡◌, IfOk};
 ghost use Rattle.base.specs.Answer.{accepted};
 ghost use Rattle.refusal.specs.Refusal.{refusal_in, answer_of};
 ghost use Rattle.modes.specs.Mode.{subchannels as Subchannels};
-ghost use Rattle.zone.specs.Zone.{setup_of, fields_refusal};
-ghost use Rattle.burst_list.specs.Model.{list_refusal};
+ghost use Rattle.zone.specs.Zone.{setup_of};
 ghost use Rattle.burst_owner.specs.Owner.{IsOwner};
 ghost use Rattle.bursts.specs.Burst.{check_of};
 ghost use Rattle.bursts.specs.Owner.{owner_said, owner_of, ask_owners as AskOwners, row_given, owners_of};
@@ -64,8 +63,7 @@ pub fn owner(
 
 // The questions to a slot's owners: 1, 2, 3, 13, 17, 4, 18, 19.
 fn ask_owners(size: usize, zone: Zone, slot: usize, bursts: &[u32]) -> Result<(), Refusal>
-    ensures said { answer_of result ≡ AskOwners size zone slot bursts.now (accepted tt) }
-    ensures passed { IfOk result (λ u. (0 ≡ fields_refusal size zone) × (0 ≡ list_refusal (Subchannels (setup_of size zone)) zone.slots bursts.now)) }
+    ensures { answer_of result ≡ AskOwners size zone slot bursts.now (accepted tt) }
 {
     zone::ask_fields(size, zone)?;
     ask(slot < 512, Refusal::Slot)?;
